@@ -1,0 +1,24 @@
+-- What is laid into a buffer, and what is handed out of one.
+-- Assumes nothing.
+use Prim.Native.Nat.{ℕ, min}
+use mathlib.Core.Bool.{Bool}
+use mathlib.Core.List.{List, _++_}
+use lib.ListN.{length, take, drop}
+use lib.Dec.{leb}
+use Rattle.protocol.specs.Pick.{if_then_else_}
+
+-- f over the front of w, and the rest of w as it was
+unfoldable pub over : List ℕ → List ℕ → List ℕ
+over f w = f ++ drop (length f) w
+
+-- at most `most` bytes of a block over the front of w, as many as there is room for
+unfoldable pub blockIn : ℕ → List ℕ → List ℕ → List ℕ
+blockIn most b w = over (take (min most (min (length b) (length w))) b) w
+
+-- the block after the first `at` bytes, which stay; nothing where `at` is past the end
+unfoldable pub storedAt : ℕ → ℕ → List ℕ → List ℕ → List ℕ
+storedAt at most b w = if leb at (length w) then take at w ++ blockIn most b (drop at w) else w
+
+-- the part to send: with the PEC on the frame's n bytes in the work buffer, otherwise the caller's own
+unfoldable pub sendOf : List ℕ → List ℕ → Bool → ℕ → List ℕ
+sendOf payload work pec n = if pec then take n work else take n payload
