@@ -20,7 +20,9 @@ fn main() {
     let target = PathBuf::from(variable("OUT_DIR"));
 
     for line in read(&root.join(SUMS)).lines() {
-        let (sum, name) = line.split_once("  ").expect("a line of the sums is a sum, two spaces and a name");
+        let (sum, name) = line
+            .split_once("  ")
+            .expect("a line of the sums is a sum, two spaces and a name");
         take(&source.join(name), sum, &target.join(name));
     }
 }
@@ -37,7 +39,10 @@ fn take(from: &Path, sum: &str, to: &Path) {
 
 fn read(path: &Path) -> String {
     fs::read_to_string(path).unwrap_or_else(|error| {
-        panic!("{} can't be read ({error}); {SOURCE_VARIABLE} names the folder that holds src/", path.display())
+        panic!(
+            "{} can't be read ({error}); {SOURCE_VARIABLE} names the folder that holds src/",
+            path.display()
+        )
     })
 }
 

@@ -6,3 +6,4 @@ pub mod Bytes
 pub mod Frame
 pub mod Reply
 pub mod Voltage
+pub mod Figures

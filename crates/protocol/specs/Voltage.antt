@@ -2,8 +2,12 @@
 -- Assumes nothing.
 use Prim.Native.Nat.{ℕ, _+_, _-_, _*_}
 use lib.IntN.{ℤ, pos, negsuc}
+use mathlib.Core.List.{List, _++_}
+use lib.ListN.{getD}
 use lib.Dec.{ltb}
 use Rattle.protocol.specs.Pick.{if_then_else_}
+use Rattle.protocol.specs.Frame.{pairOf}
+use Rattle.protocol.specs.declared.voltage.ChargingVoltageOverride.{ChargingVoltageOverride}
 
 -- the 16 bits of a figure, two's complement: -1 is FFFF
 unfoldable pub bitsOf : ℤ → ℕ
@@ -12,4 +16,24 @@ bitsOf (negsuc n) = 65535 - n
 
 -- the figure of two bytes, low byte first: FF FF is -1, 00 80 is -32768
 unfoldable pub figureOf : ℕ → ℕ → ℤ
-figureOf low high = if ltb high 128 then pos (high * 256 + low) else negsuc (65535 - (high * 256 + low))
+figureOf low high =
+    if ltb (high * 256 + low) 32768 then pos (high * 256 + low) else negsuc (65535 - (high * 256 + low))
+
+-- ten bytes: the five figures, each low byte first
+unfoldable pub overrideBytes : ChargingVoltageOverride → List ℕ
+overrideBytes v =
+    pairOf (bitsOf (v .«low_temp_chrg_mv»))
+    ++ pairOf (bitsOf (v .«std_low_temp_chrg_mv»))
+    ++ pairOf (bitsOf (v .«std_hi_temp_chrg_mv»))
+    ++ pairOf (bitsOf (v .«hi_temp_chrg_mv»))
+    ++ pairOf (bitsOf (v .«recommended_temp_chrg_mv»))
+
+-- the five figures of ten bytes
+unfoldable pub overrideOf : List ℕ → ChargingVoltageOverride
+overrideOf s = record {
+  «low_temp_chrg_mv» = figureOf (getD s 0 0) (getD s 1 0);
+  «std_low_temp_chrg_mv» = figureOf (getD s 2 0) (getD s 3 0);
+  «std_hi_temp_chrg_mv» = figureOf (getD s 4 0) (getD s 5 0);
+  «hi_temp_chrg_mv» = figureOf (getD s 6 0) (getD s 7 0);
+  «recommended_temp_chrg_mv» = figureOf (getD s 8 0) (getD s 9 0);
+}

@@ -19,7 +19,8 @@ pub mod i2c {
         async fn write(&mut self, address: u8, write: &[u8]) -> Result<(), Self::Error>;
 
         /// Sends `write`, then fills `read`.
-        async fn write_read(&mut self, address: u8, write: &[u8], read: &mut [u8]) -> Result<(), Self::Error>;
+        async fn write_read(&mut self, address: u8, write: &[u8], read: &mut [u8])
+        -> Result<(), Self::Error>;
     }
 }
 

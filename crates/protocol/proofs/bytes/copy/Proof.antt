@@ -40,7 +40,7 @@ loop-again c =
       search needs,
       (
         ap (λ (d : List ℕ). set d (l .i) (getD (a .src .now) (l .i) 0)) (l .inv .1 .0)
-            ∙ copy-turn (a .src .now) (a .dst .now) (l .i) (c .before .loop-test .taken) (omega arith),
+            ∙ copy-turn (a .src .now) (a .dst .now) (l .i) (omega arith) (omega arith),
         search needs,
       ),
     )

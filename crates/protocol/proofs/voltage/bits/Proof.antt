@@ -1,31 +1,41 @@
+-- `protocol::voltage::bits` meets its contract: by the sign, the figure or what is left of FFFF.
+-- Assumes nothing.
+use Prim.Native.Nat.{_-_}
+use mathlib.Core.Path.{sym}
+use native.Mathlib.Omega.{arith}
+use Rattle.protocol.proofs.Signed.{below, above, other}
 use Rattle.protocol.proofs.voltage.bits.Statement.{statement}
 use Rattle.protocol.proofs.voltage.bits.Tie as tie
-use Rattle.protocol.proofs.voltage.bits.Reads as reads
-use Rattle.protocol.proofs.voltage.bits.Lts as lts
 
--- src/voltage.rt:11:19
 sub-result : tie.Need-sub-result
-sub-result c = ?
+sub-result c =
+    let b = below (c .before .args .figure) (c .before .fits .figure) (c .if1 .taken) in
+    rw (b .other) (record { sfits = b .small })
 
--- src/voltage.rt:11:18
 cast-result : tie.Need-cast-result
-cast-result c = ?
+cast-result c =
+    let b = below (c .before .args .figure) (c .before .fits .figure) (c .if1 .taken) in
+    rw (b .read) (tt, record { fits = omega (arith, b .small) })
 
--- src/voltage.rt:11:9
 sub-result-2 : tie.Need-sub-result-2
-sub-result-2 c = ?
+sub-result-2 c =
+    let b = below (c .before .args .figure) (c .before .fits .figure) (c .if1 .taken) in
+    rw (b .read) (omega (arith, b .small))
 
--- src/voltage.rt:13:9
 cast-result-2 : tie.Need-cast-result-2
-cast-result-2 c = ?
+cast-result-2 c =
+    let a = above (c .before .args .figure) (c .before .fits .figure) (c .if1 .left) in
+    rw (a .read) (tt, record { fits = omega (arith, a .small) })
 
--- src/voltage.rt:7:1
 returns : tie.Need-returns
-returns c = ?
+returns c =
+    let b = below (c .before .args .figure) (c .before .fits .figure) (c .if1 .taken) in
+    rw (b .read) (sym (b .bits))
 
--- src/voltage.rt:7:1
 returns-2 : tie.Need-returns-2
-returns-2 c = ?
+returns-2 c =
+    let a = above (c .before .args .figure) (c .before .fits .figure) (c .if1 .left) in
+    rw (a .read) (sym (a .bits))
 
 pub bits-spec : {M : Type 1} → statement M
 bits-spec =

@@ -1,75 +1,49 @@
+-- `protocol::voltage::figure` meets its contract: by the high bit, the number or -1 less what is left to FFFF.
+-- Assumes nothing.
+use Prim.Native.Nat.{_+_, _-_, _*_}
+use native.Mathlib.Omega.{arith}
 use borrow.Author.Needs.{needs}
+use Rattle.protocol.proofs.Cases.{yes-lt, not-lt}
+use Rattle.protocol.proofs.Signed.{other}
+use Rattle.protocol.specs.Voltage.{figureOf}
+use mir.Syntax.{w16}
+use mir.ValLaws.{toZ-pos}
 use Rattle.protocol.proofs.voltage.figure.Statement.{statement}
 use Rattle.protocol.proofs.voltage.figure.Tie as tie
-use Rattle.protocol.proofs.voltage.figure.Reads as reads
-use Rattle.protocol.proofs.voltage.figure.Lts as lts
 
--- src/voltage.rt:22:10
+mul-n : tie.Need-mul-n
+mul-n c = search needs
+
+add-n : tie.Need-add-n
+add-n c = search needs
+
 cast-result : tie.Need-cast-result
 cast-result c = search needs
 
--- src/voltage.rt:22:9
-mul-result : tie.Need-mul-result
-mul-result c = ?
-
--- src/voltage.rt:22:32
-cast-result-2 : tie.Need-cast-result-2
-cast-result-2 c = search needs
-
--- src/voltage.rt:22:9
-add-result : tie.Need-add-result
-add-result c = ?
-
--- src/voltage.rt:24:16
 sub-result : tie.Need-sub-result
 sub-result c = search needs
 
--- src/voltage.rt:24:15
-cast-result-3 : tie.Need-cast-result-3
-cast-result-3 c = search needs
+cast-result-2 : tie.Need-cast-result-2
+cast-result-2 c = search needs
 
--- src/voltage.rt:24:15
-mul-result-2 : tie.Need-mul-result-2
-mul-result-2 c = ?
-
--- src/voltage.rt:24:44
 sub-result-2 : tie.Need-sub-result-2
-sub-result-2 c = search needs
+sub-result-2 c =
+    let a = c .before .args in
+    let o = other (65535 - (a .high * 256 + a .low)) (omega arith) in
+    rw (o .is) (o .fits)
 
--- src/voltage.rt:24:43
-cast-result-4 : tie.Need-cast-result-4
-cast-result-4 c = search needs
-
--- src/voltage.rt:24:15
-add-result-2 : tie.Need-add-result-2
-add-result-2 c = ?
-
--- src/voltage.rt:24:9
-sub-result-3 : tie.Need-sub-result-3
-sub-result-3 c = ?
-
--- src/voltage.rt:18:1
 returns : tie.Need-returns
-returns c = ?
+unfolding figureOf
+returns c = yes-lt _ _ _ _ _ (c .if1 .taken) (toZ-pos w16 _ (c .if1 .taken))
 
--- src/voltage.rt:18:1
 returns-2 : tie.Need-returns-2
-returns-2 c = ?
+unfolding figureOf
+returns-2 c =
+    let a = c .before .args in
+    let o = other (65535 - (a .high * 256 + a .low)) (omega arith) in
+    not-lt _ _ _ _ _ (c .if1 .left) (o .read)
 
 pub figure-spec : {M : Type 1} → statement M
 figure-spec =
     tie.close
-    (tie.spec
-    cast-result
-    mul-result
-    cast-result-2
-    add-result
-    sub-result
-    cast-result-3
-    mul-result-2
-    sub-result-2
-    cast-result-4
-    add-result-2
-    sub-result-3
-    returns
-    returns-2)
+    (tie.spec mul-n add-n cast-result sub-result cast-result-2 sub-result-2 returns returns-2)

@@ -1,0 +1,496 @@
+//! Every length and address on each side of a line, and every sort of bad line.
+
+use super::rng::Rng;
+use super::step::{Replies, Step};
+use super::{Sink, request, with_setting, words};
+use crate::bench::Report;
+use crate::line::Line;
+use crate::list::Case;
+use crate::request::{Kind, Request};
+
+/// Every boundary of every call, of the window, of the counts and of the lines.
+pub fn boundaries(sink: Sink<'_>) {
+    lengths(sink);
+    window(sink);
+    commands(sink);
+    counts(sink);
+    codes(sink);
+    bad_requests(sink);
+    bad_outcomes(sink);
+    after_the_end(sink);
+}
+
+/// Outcomes that come first, and the one that comes ever after.
+struct Play {
+    name: &'static str,
+    first: Vec<Step>,
+    then: Option<Step>,
+}
+
+fn play(name: &'static str, first: &[Step], then: Option<Step>) -> Play {
+    Play {
+        name,
+        first: first.to_vec(),
+        then,
+    }
+}
+
+/// The plays that each boundary is tried with.
+fn plays() -> [Play; 6] {
+    [
+        play("all good", &[], Some(Step::Good)),
+        play("no outcomes", &[], None),
+        play("the first fails", &[Step::Error(0x51)], Some(Step::Good)),
+        play(
+            "the second times out",
+            &[Step::Good, Step::Timeout],
+            Some(Step::Good),
+        ),
+        play("every PEC is bad", &[], Some(Step::BadPec)),
+        play("all fail", &[], Some(Step::Error(0xFF))),
+    ]
+}
+
+/// Gives the case of `request` under `play`.
+fn give(section: &str, request: &Request, play: &Play, sink: Sink<'_>) -> u32 {
+    let title = format!("{section}: {}: {}", words(request), play.name);
+    let (case, report) = played(title, request, play);
+    let transfers = report.transfers;
+    sink(case, report);
+    transfers
+}
+
+fn played(title: String, request: &Request, play: &Play) -> (Case, Report) {
+    let mut replies = Replies::new(request, Rng::new(2, u64::from(request.number)));
+    let mut first = play.first.iter();
+    Case::record(title, Some(Line::of(&request.to_bytes())), |transfer| {
+        let step = first.next().or(play.then.as_ref())?;
+        Some(replies.line(step, transfer))
+    })
+}
+
+/// Gives `request` under every play, or under one if it makes no transfer.
+fn give_all(section: &str, request: &Request, plays: &[Play], sink: Sink<'_>) {
+    for play in plays {
+        if give(section, request, play, sink) == 0 {
+            return;
+        }
+    }
+}
+
+/// A number that each kind's call goes through with.
+const fn usual_number(kind: Kind) -> u32 {
+    match kind {
+        Kind::WriteDataflash | Kind::ReadDataflash => 0x4000,
+        Kind::DispatchCommand => 0x0044_3500,
+        Kind::SendAccessKey | Kind::WriteMfgInfoC => 0x3672_0414,
+        _ => 0x0D,
+    }
+}
+
+/// A length that each kind's call goes through with.
+const fn usual_length(kind: Kind) -> usize {
+    match kind {
+        Kind::WriteDataflash | Kind::ReadDataflash => 40,
+        Kind::WriteSecurityKeys => 28,
+        Kind::WriteAuthenticationKey => 16,
+        Kind::WriteChargingVoltageOverride => 10,
+        _ => 2,
+    }
+}
+
+fn usual(kind: Kind) -> Request {
+    request(
+        kind,
+        usual_number(kind),
+        usual_length(kind),
+        &mut Rng::new(3, kind as u64),
+    )
+}
+
+/// Every call at lengths around every limit there is.
+fn lengths(sink: Sink<'_>) {
+    let small = [
+        0, 1, 2, 3, 9, 10, 11, 15, 16, 17, 27, 28, 29, 30, 31, 32, 33, 34, 35, 36, 37, 38, 39, 40, 41, 63,
+        64, 65, 95, 96, 97, 127, 128, 255, 256, 257,
+    ];
+    let large = [8191, 8192, 8193];
+    for kind in Kind::ALL {
+        for length in small {
+            each_length(kind, length, &[0, 1], &plays(), sink);
+        }
+        for length in large {
+            each_length(kind, length, &[1], &plays()[..3], sink);
+        }
+    }
+}
+
+fn each_length(kind: Kind, length: usize, retries: &[u16], plays: &[Play], sink: Sink<'_>) {
+    let sized = request(kind, usual_number(kind), length, &mut Rng::new(4, length as u64));
+    for flags in 0..4 {
+        for retries in retries {
+            give_all(
+                &format!("length {length}"),
+                &with_setting(&sized, flags, *retries),
+                plays,
+                sink,
+            );
+        }
+    }
+}
+
+/// Data flash at addresses and lengths on each side of the window and of the sum's end.
+fn window(sink: Sink<'_>) {
+    let addresses = [
+        0x0000, 0x0001, 0x3FDF, 0x3FE0, 0x3FFE, 0x3FFF, 0x4000, 0x4001, 0x4020, 0x5FDE, 0x5FDF, 0x5FE0,
+        0x5FE1, 0x5FFE, 0x5FFF, 0x6000, 0x6001, 0x7FFF, 0x8000, 0xBFFF, 0xC000, 0xDFFF, 0xE000, 0xE001,
+        0xFFDF, 0xFFE0, 0xFFFE, 0xFFFF,
+    ];
+    let lengths = [0, 1, 2, 31, 32, 33, 34, 64, 65, 8159, 8160, 8191, 8192, 8193];
+    for kind in [Kind::WriteDataflash, Kind::ReadDataflash] {
+        for address in addresses {
+            for length in lengths {
+                let request = request(kind, address, length, &mut Rng::new(5, length as u64));
+                for flags in 0..4 {
+                    let section = format!("window {address:04X} with {length}");
+                    give_all(&section, &with_setting(&request, flags, 0), &plays()[..2], sink);
+                }
+            }
+        }
+    }
+}
+
+/// Commands with input and output on each side of their limits, and addresses with every byte in use.
+fn commands(sink: Sink<'_>) {
+    let lengths = [0, 1, 2, 31, 32, 33, 34, 64, 8192, 8193];
+    for output in lengths {
+        for input in lengths {
+            let mut request = request(Kind::DispatchCommand, 0x0044_3500, output, &mut Rng::new(6, 0));
+            request.payload = Rng::new(6, input as u64).bytes(input);
+            for flags in 0..4 {
+                let section = format!("command input {input} output {output}");
+                give_all(&section, &with_setting(&request, flags, 1), &plays()[..2], sink);
+            }
+        }
+    }
+    for address in [
+        0,
+        0x44,
+        0x4400,
+        0x44_0000,
+        0x4400_0000,
+        0x0102_0304,
+        0xFF44_FFFF,
+        0xFFFF_FFFF,
+        0x8000_0001,
+    ] {
+        for output in [0, 1, 4] {
+            let request = request(Kind::DispatchCommand, address, output, &mut Rng::new(6, 0));
+            for flags in 0..4 {
+                let section = format!("command {address:08X}");
+                give_all(&section, &with_setting(&request, flags, 1), &plays(), sink);
+            }
+        }
+    }
+}
+
+/// Retries whose count needs its high byte, and waits that need more than two bytes.
+fn counts(sink: Sink<'_>) {
+    let fails = |count: usize| vec![Step::Error(0x33); count];
+    for retries in [3u16, 255, 256, 257, 512] {
+        for kind in Kind::ALL {
+            let request = with_setting(&usual(kind), 3, retries);
+            let times = usize::from(retries);
+            give(
+                "count",
+                &request,
+                &play("as many as allowed", &fails(times), Some(Step::Good)),
+                sink,
+            );
+            give(
+                "count",
+                &request,
+                &play("one too many", &fails(times + 1), Some(Step::Good)),
+                sink,
+            );
+        }
+    }
+    let full = usize::from(u16::MAX);
+    for kind in [Kind::PlainWrite, Kind::ReadRegister, Kind::ReadDataflash] {
+        let request = with_setting(&usual(kind), 0, u16::MAX);
+        give(
+            "count",
+            &request,
+            &play("as many as allowed", &fails(full), Some(Step::Good)),
+            sink,
+        );
+        give(
+            "count",
+            &request,
+            &play("one too many", &fails(full + 1), Some(Step::Good)),
+            sink,
+        );
+    }
+    let block = [fails(full), vec![Step::Good]].concat();
+    let two_blocks = with_setting(&usual(Kind::WriteDataflash), 0, u16::MAX);
+    let both_late = [block.as_slice(), &block].concat();
+    give(
+        "count",
+        &two_blocks,
+        &play("each block at its last attempt", &both_late, None),
+        sink,
+    );
+    let second_fails = [block, fails(full + 1)].concat();
+    give(
+        "count",
+        &two_blocks,
+        &play("the second block fails", &second_fails, None),
+        sink,
+    );
+}
+
+/// Bus error codes, and each sort of failure as the last.
+fn codes(sink: Sink<'_>) {
+    let endings = [0x00, 0x01, 0x02, 0x7F, 0x80, 0xFE, 0xFF].map(Step::Error);
+    for kind in Kind::ALL {
+        for flags in 0..4 {
+            for last in endings.iter().chain([&Step::Timeout, &Step::BadPec]) {
+                for before in [Step::Error(0x99), Step::Timeout, Step::BadPec] {
+                    let name = "two failures";
+                    let request = with_setting(&usual(kind), flags, 1);
+                    give(
+                        "code",
+                        &request,
+                        &play(name, &[before.clone(), last.clone()], None),
+                        sink,
+                    );
+                    let later = [Step::Good, before, last.clone()];
+                    give("code", &request, &play(name, &later, None), sink);
+                }
+            }
+        }
+    }
+}
+
+/// A run whose request line is any line at all.
+fn give_request(sort: &str, name: &str, line: Option<Line>, sink: Sink<'_>) {
+    let title = format!("request, {sort}: {name}");
+    let (case, report) = Case::record(title.clone(), line.clone(), |_| None);
+    let waits_for_more = report.answer.is_none();
+    sink(case, report);
+    if waits_for_more {
+        let (case, report) = Case::record(title + ", then a timeout", line, |_| Some(Line::of(&[0x02])));
+        sink(case, report);
+    }
+}
+
+/// Request lines of every bad sort.
+fn bad_requests(sink: Sink<'_>) {
+    give_whole_line("no input", None, sink);
+    give_whole_line("an empty line", Some(Line::raw("")), sink);
+    for number in 0..=255 {
+        for rest in [
+            "000000",
+            "00000000",
+            "0000004000",
+            "0000000040AA",
+            "000000004000002000",
+        ] {
+            give_whole_line("kinds", Some(Line::raw(format!("{number:02X}{rest}"))), sink);
+        }
+    }
+    for kind in Kind::ALL {
+        bad_texts(kind, sink);
+        bad_flags(kind, sink);
+        bad_lengths(kind, sink);
+    }
+}
+
+/// A run of a request line that belongs to no kind in particular.
+fn give_whole_line(sort: &str, line: Option<Line>, sink: Sink<'_>) {
+    give_request(sort, "any kind", line, sink);
+}
+
+/// Changes in the characters of a good line.
+fn bad_texts(kind: Kind, sink: Sink<'_>) {
+    let good = Line::of(&usual(kind).to_bytes());
+    let text = good.text.clone();
+    let mut give = |sort, line| give_request(sort, &kind.name(), Some(line), sink);
+    give("no line feed", good.clone().unended());
+    give("lower case", Line::raw(text.to_ascii_lowercase()));
+    give("good", good);
+    for cut in 0..text.len().min(40) {
+        give("cut short", Line::raw(&text[..cut]));
+        if cut > 0 {
+            give("cut short, no line feed", Line::raw(&text[..cut]).unended());
+        }
+    }
+    for extra in turned(
+        &[
+            "0", "00", "0000", "AA", " ", "\r", "\t", "  ", "\r\r", "G", "0x", "\0\0",
+        ],
+        kind,
+    ) {
+        give("more behind", Line::raw([&text, extra.as_bytes()].concat()));
+        give("more in front", Line::raw([extra.as_bytes(), &text].concat()));
+    }
+    let places: Vec<usize> = (0..text.len().min(24)).collect();
+    for place in turned(&places, kind) {
+        for character in turned(b"gG/:@`afx +-.\r\t\0\x7F\x80\xC1\xFF", kind) {
+            let mut changed = text.clone();
+            changed[place] = character;
+            give("a wrong character", Line::raw(changed));
+        }
+    }
+}
+
+/// `items` from another start for each kind, so that the first ones differ.
+fn turned<T: Copy>(items: &[T], kind: Kind) -> Vec<T> {
+    let mut turned = items.to_vec();
+    turned.rotate_left(kind as usize % items.len());
+    turned
+}
+
+/// Flags with other bits, alone and with the good ones.
+fn bad_flags(kind: Kind, sink: Sink<'_>) {
+    for flags in turned(&[4, 5, 6, 7, 8, 16, 32, 64, 128, 129, 130, 131, 252, 255], kind) {
+        let mut bytes = usual(kind).to_bytes();
+        bytes[1] = flags;
+        give_request("flags", &kind.name(), Some(Line::of(&bytes)), sink);
+    }
+}
+
+/// Lengths that no line may have, also where the call itself would refuse.
+fn bad_lengths(kind: Kind, sink: Sink<'_>) {
+    let mut rng = Rng::new(7, kind as u64);
+    let mut give = |sort, number, length| {
+        let bytes = request(kind, number, length, &mut rng).to_bytes();
+        give_request(sort, &kind.name(), Some(Line::of(&bytes)), sink);
+    };
+    for length in [33, 8191, 8192, 8193, 8194, 16384, 32767, 32768, 65535] {
+        give("a long argument", 0x3FFF, length);
+    }
+    for length in 0..=12 {
+        give("a short argument", usual_number(kind), length);
+    }
+    give_request(
+        "100,000 digits",
+        &kind.name(),
+        Some(Line::raw(vec![b'0'; 100_000])),
+        sink,
+    );
+}
+
+/// Outcome lines of every bad sort, and replies of wrong lengths, at several places of a run.
+fn bad_outcomes(sink: Sink<'_>) {
+    let fronts: [&[Step]; 6] = [
+        &[],
+        &[Step::Good],
+        &[Step::Error(0x11)],
+        &[Step::Good, Step::Timeout],
+        &[Step::Good, Step::Good],
+        &[Step::Good, Step::Good, Step::BadPec],
+    ];
+    for kind in Kind::ALL {
+        for flags in [0, 3] {
+            for front in fronts {
+                let request = with_setting(&usual(kind), flags, 2);
+                if transfers_behind(&request, front) {
+                    bad_lines(&request, front, sink);
+                }
+            }
+        }
+    }
+}
+
+/// Whether the call makes another transfer after `front`.
+fn transfers_behind(request: &Request, front: &[Step]) -> bool {
+    let (_, report) = played(String::new(), request, &play("", front, None));
+    report.answer.is_none() && report.transfers as usize == front.len() + 1
+}
+
+/// Outcome lines that are none, each with its sort.
+const BAD_OUTCOMES: [(&str, &[&str]); 11] = [
+    ("an empty line", &[""]),
+    ("an odd number of digits", &["0", "1", "2", "000", "01FFF"]),
+    (
+        "an unknown first byte",
+        &["03", "04", "0F", "10", "20", "7F", "80", "FD", "FE", "FF", "0300"],
+    ),
+    ("no code", &["01"]),
+    ("more than a code", &["010203", "01000000"]),
+    ("more than a timeout", &["0200", "0201", "020202"]),
+    ("a space", &["02 ", " 00", "00 ", "0 2", "0100 ", " 02", "00 00"]),
+    ("a carriage return", &["02\r", "00\r", "01FF\r", "\r", "\r\r"]),
+    ("lower case", &["00aa", "00AAa", "00AAaa", "01fF", "01Ff", "01ff"]),
+    (
+        "a wrong character",
+        &[
+            "0g", "0G", "0/", "0:", "0@", "0`", "/0", ":0", "@0", "`0", "+0", "-2", "0x00",
+        ],
+    ),
+    (
+        "a control character",
+        &["\t02", "02\t", "\0\0", "0\u{7f}", "\u{c1}"],
+    ),
+];
+
+fn bad_lines(request: &Request, front: &[Step], sink: Sink<'_>) {
+    for (sort, texts) in BAD_OUTCOMES {
+        for text in turned(texts, request.kind) {
+            give_last(request, front, Step::Said(Line::raw(text)), sort, sink);
+        }
+    }
+    for text in turned(&["0", "00", "01FF", "02", "00AA"], request.kind) {
+        give_last(
+            request,
+            front,
+            Step::Said(Line::raw(text).unended()),
+            "no line feed",
+            sink,
+        );
+    }
+    for count in [
+        0, 1, 2, 3, 4, 5, 6, 13, 14, 19, 20, 31, 32, 33, 34, 35, 36, 37, 64, 8192, 8193, 9000,
+    ] {
+        give_last(request, front, Step::Bytes(count), "a reply of some length", sink);
+    }
+}
+
+/// A run that ends with `last` behind `front`.
+fn give_last(request: &Request, front: &[Step], last: Step, sort: &str, sink: Sink<'_>) {
+    let steps = [front, &[last]].concat();
+    give(
+        &format!("outcome, {sort}"),
+        request,
+        &play("the last line", &steps, None),
+        sink,
+    );
+}
+
+/// Lines behind the end of a call, which nobody reads.
+fn after_the_end(sink: Sink<'_>) {
+    let tails = [
+        vec![Line::raw("")],
+        vec![Line::of(&[0x00]), Line::of(&[0x01])],
+        vec![Line::raw("no hexadecimal at all\r")],
+        vec![Line::raw("02").unended()],
+        vec![Line::raw("xyz"), Line::raw("0").unended()],
+    ];
+    for kind in Kind::ALL {
+        for then in [Step::Good, Step::Timeout] {
+            for tail in &tails {
+                let request = with_setting(&usual(kind), 3, 1);
+                let title = format!("after the end: {}", words(&request));
+                let (mut case, report) = played(title, &request, &play("", &[], Some(then.clone())));
+                assert!(report.answer.is_some(), "the call ends under a play that goes on");
+                case.input.extend(tail.iter().cloned());
+                sink(case, report);
+            }
+        }
+    }
+    let bad_request = Line::raw("0g");
+    let (mut case, report) = Case::record("after the end: a bad request".into(), Some(bad_request), |_| None);
+    case.input.push(Line::of(&usual(Kind::ReadDataflash).to_bytes()));
+    sink(case, report);
+}
