@@ -1,6 +1,6 @@
 -- What is laid into a buffer, and what is handed out of one.
 -- Assumes nothing.
-use Prim.Native.Nat.{ℕ, min}
+use Prim.Native.Nat.{ℕ, _+_, _/_, min}
 use mathlib.Core.Bool.{Bool}
 use mathlib.Core.List.{List, _++_}
 use lib.ListN.{length, take, drop}
@@ -18,6 +18,10 @@ blockIn most b w = over (take (min most (min (length b) (length w))) b) w
 -- the block after the first `at` bytes, which stay; nothing where `at` is past the end
 unfoldable pub storedAt : ℕ → ℕ → List ℕ → List ℕ → List ℕ
 storedAt at most b w = if leb at (length w) then take at w ++ blockIn most b (drop at w) else w
+
+-- how many blocks of 32 there are in n bytes, the last perhaps short
+abbrev pub blocksOf : ℕ → ℕ
+blocksOf n = (n + 31) / 32
 
 -- the part to send: with the PEC on the frame's n bytes in the work buffer, otherwise the caller's own
 unfoldable pub sendOf : List ℕ → List ℕ → Bool → ℕ → List ℕ

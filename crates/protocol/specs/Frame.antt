@@ -8,6 +8,8 @@ use lib.Dec.{ltb}
 use Rattle.smbus_pec.specs.Pec.{pecOf}
 use Rattle.protocol.specs.Pick.{if_then_else_}
 use Rattle.protocol.specs.Bytes.{over}
+use Rattle.protocol.specs.declared.frame.MacCommand.{MacCommand}
+use Rattle.protocol.specs.declared.frame.MacCommand.the-variants.{SecurityKeys, AuthenticationKey, ChargingVoltageOverride, MfgInfoC}
 use Rattle.protocol.specs.declared.frame.Laid.{Laid}
 use Rattle.protocol.specs.declared.frame.Laid.the-variants.{Frame, NoRoom}
 
@@ -22,6 +24,13 @@ pairOf n = n % 256 ∷ n / 256 % 256 ∷ []
 -- 44, the count of what follows, a command or an address, the data: block writes, addresses, keys, overrides, info C, MAC commands
 unfoldable pub macBytes : List ℕ → List ℕ → List ℕ
 macBytes pair bytes = 0x44 ∷ (length bytes + 2) % 256 ∷ pair ++ bytes
+
+-- the fixed pairs of the keys, the override and info C
+abbrev pub fixedPair : MacCommand → List ℕ
+fixedPair SecurityKeys = 0x35 ∷ 0x00 ∷ []
+fixedPair AuthenticationKey = 0x37 ∷ 0x00 ∷ []
+fixedPair ChargingVoltageOverride = 0xB0 ∷ 0x00 ∷ []
+fixedPair MfgInfoC = 0x7B ∷ 0x00 ∷ []
 
 -- a command's 32-bit address: bits 23..16, then 02, then bits 15..8, then bits 7..0
 unfoldable pub commandBytes : ℕ → List ℕ

@@ -2,13 +2,20 @@
 ghost use mathlib.Core.Path.{_≡_};
 ghost use Prim.Native.Nat.{_≤_, min};
 ghost use lib.ListN.{length, take, drop};
-ghost use Rattle.protocol.specs.Bytes.{over, blockIn, storedAt, sendOf};
+ghost use Rattle.protocol.specs.Bytes.{over, blockIn, storedAt, sendOf, blocksOf};
 
 // The smaller of two numbers.
 pub fn least(a: usize, b: usize) -> usize
     ensures { λ r. ⌜ r ≡ min a b ⌝ }
 {
     if a < b { a } else { b }
+}
+
+// How many blocks of 32 so many bytes have, the last perhaps short.
+pub fn blocks(len: usize) -> usize
+    ensures { λ r. ⌜ r ≡ blocksOf len ⌝ }
+{
+    if len % 32 == 0 { len / 32 } else { len / 32 + 1 }
 }
 
 // The first n bytes of a slice, or all of it where it has fewer.

@@ -1,15 +1,19 @@
 // Frames, each laid at the front of a lent work buffer with nothing else changed there. One builder serves them all.
 use crate::bytes;
+use crate::consts::AUTH_KEY_CMD;
+use crate::consts::CHRG_VOLTAGE_OVERRIDE_CMD;
 use crate::consts::MAC_CMD;
 use crate::consts::MAC_CMD_ADDR_SIZE_BYTES;
 use crate::consts::MFG_INFO_CMD;
+use crate::consts::MFG_INFO_C_CMD;
+use crate::consts::SECURITY_KEYS_CMD;
 ghost use mathlib.Core.Path.{_≡_};
 ghost use mathlib.Core.List.{List, [], _∷_, _++_};
 ghost use Prim.Native.Nat.{_+_, _<_, _≤_};
 ghost use lib.ListN.{length, take, drop};
 ghost use lib.Dec.{ltb};
 ghost use Rattle.protocol.specs.Bytes.{over};
-ghost use Rattle.protocol.specs.Frame.{sealed, laidOf, workLaid, pairOf, macBytes, commandBytes, registerBytes, infoBytes};
+ghost use Rattle.protocol.specs.Frame.{sealed, laidOf, workLaid, pairOf, macBytes, commandBytes, registerBytes, infoBytes, fixedPair};
 
 // What came of laying a frame: its length, or that the work buffer has no room for it.
 pub enum Laid {
@@ -127,4 +131,26 @@ pub fn lay_number(work: &mut [u8], number: usize, body: &[u8], pec: bool) -> Lai
 {
     let pair = [(number % 256) as u8, (number / 256 % 256) as u8];
     lay_mac(work, &pair, body, pec)
+}
+
+// The MAC commands that have a fixed pair.
+pub enum MacCommand {
+    SecurityKeys,
+    AuthenticationKey,
+    ChargingVoltageOverride,
+    MfgInfoC,
+}
+
+// A MAC frame of such a command: its pair is a fixed string.
+pub fn lay_fixed(work: &mut [u8], command: MacCommand, body: &[u8], pec: bool) -> Laid
+    ensures { λ r. ⌜ (r ≡ laidOf pec (macBytes (fixedPair command) (now (body .entry))) (length (now (work .entry)))) × (now (work .exit) ≡ workLaid pec (macBytes (fixedPair command) (now (body .entry))) (now (work .entry))) ⌝ }
+{
+    match command {
+        MacCommand::SecurityKeys => lay_mac(work, &SECURITY_KEYS_CMD, body, pec),
+        MacCommand::AuthenticationKey => lay_mac(work, &AUTH_KEY_CMD, body, pec),
+        MacCommand::ChargingVoltageOverride => {
+            lay_mac(work, &CHRG_VOLTAGE_OVERRIDE_CMD, body, pec)
+        }
+        MacCommand::MfgInfoC => lay_mac(work, &MFG_INFO_C_CMD, body, pec),
+    }
 }

@@ -453,7 +453,7 @@ fn bad_lines(request: &Request, front: &[Step], sink: Sink<'_>) {
     for count in [
         0, 1, 2, 3, 4, 5, 6, 13, 14, 19, 20, 31, 32, 33, 34, 35, 36, 37, 64, 8192, 8193, 9000,
     ] {
-        give_last(request, front, Step::Bytes(count), "a reply of some length", sink);
+        give_last(request, front, Step::Bytes(count), &format!("a reply of {count}"), sink);
     }
 }
 

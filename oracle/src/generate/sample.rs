@@ -6,8 +6,8 @@ use super::{Sink, boundaries, exhaustive, random};
 use crate::bench::Report;
 use crate::list::Case;
 
-/// Longer cases are left out, but for a few whole runs of the largest length.
-const LARGEST_CASE: usize = 800;
+/// Longer cases are left out, but for a few that no short one can stand for.
+const LARGEST_CASE: usize = 600;
 
 /// The depth, the seed and the number of cases that the other generators are run with.
 const DEPTH: usize = 9;
@@ -22,6 +22,7 @@ pub fn sample(sink: Sink<'_>) {
     };
     exhaustive(DEPTH, &mut |case, report| {
         let key = format!("exhaustive, {}, {} waits", setting(&case), report.waits);
+        let key = if is_of_three_blocks(&case) { case.title.clone() } else { key };
         kept.offer(key, case, report);
     });
     boundaries(&mut |case, report| kept.offer(boundary(&case), case, report));
@@ -38,11 +39,11 @@ struct Kept<'a> {
 }
 
 impl Kept<'_> {
-    /// Keeps `case` if it is small, can be read as text, and is the first with its key and answer.
+    /// Keeps `case` if it is small or must be there, is plain text, and is the first with its key and answer.
     fn offer(&mut self, key: String, case: Case, report: Report) {
-        let small = is_whole_run(&case) || length(&case) <= LARGEST_CASE;
+        let fits = length(&case) <= LARGEST_CASE || is_of_three_blocks(&case) || is_large(&case);
         let number = report.answer.map(|answer| answer.number);
-        if small && is_text(&case) && self.seen.insert(format!("{key}, {number:?}")) {
+        if fits && is_text(&case) && self.seen.insert(format!("{key}, {number:?}")) {
             (self.sink)(case, report);
         }
     }
@@ -83,17 +84,30 @@ fn behind_sections(case: &Case, parts: usize) -> String {
         .join(", ")
 }
 
-/// The runs of 8,192 and 8,193 bytes through data flash and a buffer read, with both flags.
-fn is_whole_run(case: &Case) -> bool {
-    let starts = ["length 8192: ", "length 8193: "];
-    let calls = [
-        "write_dataflash, flags 3",
-        "read_dataflash, flags 3",
-        "buffer_read, flags 3",
+/// Data flash over three blocks with one retry: every list of outcomes is kept.
+fn is_of_three_blocks(case: &Case) -> bool {
+    let starts = [
+        "exhaustive: write_dataflash, flags 3, retries 1: ",
+        "exhaustive: read_dataflash, flags 0, retries 1: ",
+        "exhaustive: read_dataflash, flags 3, retries 1: ",
     ];
-    starts.iter().any(|start| case.title.starts_with(start))
-        && calls.contains(&setting(case).as_str())
-        && case.title.ends_with("all good")
+    let request = case.input.first().map_or(&[][..], |line| &line.text);
+    let has_65_bytes = request.starts_with(b"02") && request.ends_with(b"4100") || request.len() == 2 * (6 + 65);
+    has_65_bytes && starts.iter().any(|start| case.title.starts_with(start))
+}
+
+/// Runs of the largest length, a count of two bytes, and a reply of one byte too many for a line.
+fn is_large(case: &Case) -> bool {
+    let titles = [
+        "length 8192: write_dataflash, flags 3, retries 1: all good",
+        "length 8192: read_dataflash, flags 3, retries 1: all good",
+        "length 8192: buffer_read, flags 3, retries 1: all good",
+        "length 8193: write_dataflash, flags 3, retries 1: all good",
+        "count 257: send_access_key, flags 3, retries 257: as many as allowed",
+        "count 257: send_access_key, flags 3, retries 257: one too many",
+        "outcome, a reply of 8193: send_access_key, flags 0, retries 2: the last line",
+    ];
+    titles.contains(&case.title.as_str())
 }
 
 /// The case's bytes in a list.

@@ -1,0 +1,20 @@
+-- What a failed attempt costs. (01, Frames and retries: with r retries, r + 1 failures end a budget; each retried failure is one wait)
+-- Assumes nothing.
+use Prim.Native.Nat.{ℕ, _+_, _-_, min}
+use lib.Dec.{eqb}
+use Rattle.protocol.specs.Pick.{if_then_else_}
+use Rattle.engine.specs.declared.budget.Budget.{Budget}
+use Rattle.engine.specs.declared.budget.Failed.{Failed}
+use Rattle.engine.specs.declared.budget.Failed.the-variants.{Retry, Spent}
+use Rattle.engine.specs.declared.budget.Tally.{Tally}
+
+-- one of the retries, or none is left
+unfoldable pub failed : Budget → Failed
+failed b = if eqb (b .left) 0 then Spent else Retry (record { left = b .left - 1 })
+
+unfoldable pub nothing : Tally
+nothing = record { waits = 0 }
+
+-- one wait more; the count stays at the largest number
+unfoldable pub waited : Tally → Tally
+waited t = record { waits = min (t .waits + 1) 4294967295 }

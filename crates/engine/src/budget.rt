@@ -1,0 +1,62 @@
+// What a failed attempt costs: the one rule of retries, and the count of waits.
+ghost use mathlib.Core.Path.{_≡_};
+ghost use Prim.Native.Nat.{_+_, min};
+ghost use Rattle.engine.specs.Budget.{failed, nothing, waited};
+
+// The retries that are left to a frame, or to a whole reading call.
+pub struct Budget {
+    pub left: u16,
+}
+
+// What a failed attempt leads to.
+pub enum Failed {
+    // Another attempt, after a wait.
+    Retry(Budget),
+    // None: the call gives up.
+    Spent,
+}
+
+impl Budget {
+    // One failed attempt: another one after a wait, or none is left.
+    pub fn fail(self) -> Failed
+        ensures { λ r. ⌜ r ≡ failed self ⌝ }
+    {
+        let left = self.left;
+        if left == 0 {
+            Failed::Spent
+        } else {
+            Failed::Retry(Budget { left: left - 1 })
+        }
+    }
+}
+
+// What a call counts beside its answer.
+pub struct Tally {
+    // Waits of 10 ms, one for each failure that was retried.
+    pub waits: u32,
+}
+
+// One more, up to the largest count.
+fn bump(waits: u32) -> u32
+    ensures { λ r. ⌜ r ≡ min (waits + 1) 4294967295 ⌝ }
+{
+    if waits < 4294967295 { waits + 1 } else { waits }
+}
+
+impl Tally {
+    // Nothing counted yet.
+    pub fn new() -> Tally
+        ensures { λ r. ⌜ r ≡ nothing ⌝ }
+    {
+        Tally { waits: 0 }
+    }
+
+    // One wait more. The count stays at the largest number, which no started call reaches.
+    pub fn wait(self) -> Tally
+        ensures { λ r. ⌜ r ≡ waited self ⌝ }
+    {
+        Tally {
+            waits: bump(self.waits),
+        }
+    }
+}
