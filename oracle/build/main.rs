@@ -20,9 +20,7 @@ fn main() {
     let target = PathBuf::from(variable("OUT_DIR"));
 
     for line in read(&root.join(SUMS)).lines() {
-        let (sum, name) = line
-            .split_once("  ")
-            .expect("a line of the sums is a sum, two spaces and a name");
+        let (sum, name) = line.split_once("  ").expect("a line of the sums is a sum, two spaces and a name");
         take(&source.join(name), sum, &target.join(name));
     }
 }

@@ -36,10 +36,7 @@ pub(crate) fn of_result(result: Result<(), BQ40Z50Error<BusError>>) -> Answer {
         return Answer::plain(DONE);
     };
     match error {
-        BQ40Z50Error::I2c(BusError(code)) => Answer {
-            number: I2C,
-            detail: u16::from(code),
-        },
+        BQ40Z50Error::I2c(BusError(code)) => Answer { number: I2C, detail: u16::from(code) },
         BQ40Z50Error::Timeout => Answer::plain(TIMEOUT),
         BQ40Z50Error::Pec => Answer::plain(PEC),
         BQ40Z50Error::DataTooLarge => Answer::plain(DATA_TOO_LARGE),

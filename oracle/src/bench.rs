@@ -35,23 +35,13 @@ pub fn run(host: &mut impl Host) -> Report {
     let Some(request) = said.and_then(|bytes| Request::from_bytes(&bytes)) else {
         let answer = Answer::plain(answer::BAD_LINE);
         host.printed(&last_line(Some(answer), 0, None));
-        return Report {
-            answer: Some(answer),
-            waits: 0,
-            transfers: 0,
-            panic: None,
-        };
+        return Report { answer: Some(answer), waits: 0, transfers: 0, panic: None };
     };
     let mut desk = Desk { host, refused: None };
     let run = call::run(&request, &mut desk);
     let answer = run.answer.or(desk.refused.map(Answer::plain));
     host.printed(&last_line(answer, run.waits, run.buffer.as_deref()));
-    Report {
-        answer,
-        waits: run.waits,
-        transfers: run.transfers,
-        panic: run.panic,
-    }
+    Report { answer, waits: run.waits, transfers: run.transfers, panic: run.panic }
 }
 
 /// Shows each transfer to the host and reads its outcome, until a line is refused.
@@ -64,9 +54,7 @@ impl<H: Host> Partner for Desk<'_, H> {
     fn outcome(&mut self, transfer: Transfer<'_>) -> Option<Outcome> {
         self.host.printed(&transfer_line(&transfer));
         let line = self.host.outcome(&transfer)?;
-        outcome_of(&line, transfer.asked())
-            .map_err(|number| self.refused = Some(number))
-            .ok()
+        outcome_of(&line, transfer.asked()).map_err(|number| self.refused = Some(number)).ok()
     }
 }
 

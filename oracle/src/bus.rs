@@ -91,15 +91,7 @@ impl<P: Partner> I2c for Bus<'_, P> {
         let &[command] = write else {
             panic!("a read that sends other than one command byte");
         };
-        let reply = self
-            .exchange(
-                address,
-                Transfer::Read {
-                    command,
-                    count: read.len(),
-                },
-            )
-            .await?;
+        let reply = self.exchange(address, Transfer::Read { command, count: read.len() }).await?;
         read.copy_from_slice(&reply);
         Ok(())
     }

@@ -43,22 +43,13 @@ pub fn run(request: &Request, partner: &mut impl Partner) -> Run {
     let (answer, panic) = if has_wrong_buffer(request) {
         (Some(Answer::plain(answer::WRONG_BUFFER)), None)
     } else {
-        let bus = Bus {
-            partner,
-            tally: &tally,
-        };
+        let bus = Bus { partner, tally: &tally };
         let mut gauge = Bq40z50R5::new_with_config(bus, Waits { tally: &tally }, config(request));
         let lent = buffer.as_deref_mut().unwrap_or_default();
         let polled = caught(|| poll_once(call(&mut gauge, request, lent)));
         ending(request, polled, &tally)
     };
-    Run {
-        answer,
-        waits: tally.waits.get(),
-        transfers: tally.transfers.get(),
-        buffer,
-        panic,
-    }
+    Run { answer, waits: tally.waits.get(), transfers: tally.transfers.get(), buffer, panic }
 }
 
 /// A key of another length: the Rust takes arrays, so no call of it could be written.
@@ -97,12 +88,8 @@ fn ending(
         Ok(Poll::Ready(result)) => (Some(answer::of_result(result)), None),
         Ok(Poll::Pending) => (None, None),
         Err(panic) => {
-            assert_eq!(
-                tally.transfers.get(),
-                0,
-                "{request:?} met a panic after a transfer: {panic}"
-            );
-            let Some(number) = refusal_for_panic(request.kind) else {
+            assert_eq!(tally.transfers.get(), 0, "{request:?} met a panic after a transfer: {panic}");
+            let Some(number) = refusal_for_panic(request) else {
                 panic!("{request:?} met a panic that document 01 has no refusal for: {panic}");
             };
             (Some(Answer::plain(number)), Some(panic))
@@ -110,11 +97,13 @@ fn ending(
     }
 }
 
-/// The refusal that document 01 puts in a panic's place.
-const fn refusal_for_panic(kind: Kind) -> Option<u8> {
-    match kind {
-        Kind::DispatchCommand => Some(answer::NOT_A_COMMAND),
-        Kind::WriteRegisterUnchecked | Kind::PlainWrite => Some(answer::DATA_TOO_LARGE),
+/// The refusal that document 01 puts in a panic's place, exactly where it does.
+fn refusal_for_panic(request: &Request) -> Option<u8> {
+    let length = request.payload.len();
+    match request.kind {
+        Kind::DispatchCommand if length > 0 => Some(answer::NOT_A_COMMAND),
+        Kind::WriteRegisterUnchecked if length > 32 => Some(answer::DATA_TOO_LARGE),
+        Kind::PlainWrite if request.pec_write && length > 38 => Some(answer::DATA_TOO_LARGE),
         _ => None,
     }
 }
@@ -130,35 +119,19 @@ async fn call<P: Partner>(gauge: &mut Gauge<'_, P>, request: &Request, buffer: &
         Kind::ReadDataflash => gauge.read_dataflash(address, buffer).await,
         Kind::WriteRegister => {
             let mut data = payload.to_vec();
-            gauge
-                .device
-                .interface()
-                .write_register(register, &mut data, &FieldsetMetadata)
-                .await
+            gauge.device.interface().write_register(register, &mut data, &FieldsetMetadata).await
         }
         Kind::ReadRegister => {
-            gauge
-                .device
-                .interface()
-                .read_register(register, buffer, &FieldsetMetadata)
-                .await
+            gauge.device.interface().read_register(register, buffer, &FieldsetMetadata).await
         }
         Kind::DispatchCommand => {
             let mut input = payload.to_vec();
             let interface = gauge.device.interface();
             let meta_data = FieldsetMetadata;
-            interface
-                .dispatch_command(request.number, &mut input, &meta_data, buffer, &meta_data)
-                .await
+            interface.dispatch_command(request.number, &mut input, &meta_data, buffer, &meta_data).await
         }
-        Kind::BufferRead => whole(
-            buffer.len(),
-            gauge.device.interface().read(register, buffer).await,
-        ),
-        Kind::BufferWrite => whole(
-            payload.len(),
-            gauge.device.interface().write(register, payload).await,
-        ),
+        Kind::BufferRead => whole(buffer.len(), gauge.device.interface().read(register, buffer).await),
+        Kind::BufferWrite => whole(payload.len(), gauge.device.interface().write(register, payload).await),
         Kind::ReadSecurityKeys => gauge.read_security_keys(array_mut(buffer)).await,
         Kind::WriteSecurityKeys => gauge.write_security_keys(array(payload)).await,
         Kind::ReadAuthenticationKey => gauge.read_authentication_key(array_mut(buffer)).await,
@@ -174,17 +147,9 @@ async fn call<P: Partner>(gauge: &mut Gauge<'_, P>, request: &Request, buffer: &
         Kind::WriteMfgInfo => gauge.write_mfg_info(payload).await,
         Kind::ReadChargingVoltageOverride => read_override(gauge, array_mut(buffer)).await,
         Kind::WriteChargingVoltageOverride => {
-            gauge
-                .write_charging_voltage_override(&figures(array(payload)))
-                .await
+            gauge.write_charging_voltage_override(&figures(array(payload))).await
         }
-        Kind::PlainWrite => {
-            gauge
-                .device
-                .interface()
-                .write_with_retries(payload, request.pec_write)
-                .await
-        }
+        Kind::PlainWrite => gauge.device.interface().write_with_retries(payload, request.pec_write).await,
     }
 }
 

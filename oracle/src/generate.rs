@@ -30,35 +30,17 @@ fn request(kind: Kind, number: u32, length: usize, rng: &mut Rng) -> Request {
         pec_read: false,
         retries: 0,
         number,
-        length: if layout.length {
-            u16::try_from(length).expect("a length has two bytes")
-        } else {
-            0
-        },
-        payload: if layout.payload && !layout.length {
-            rng.bytes(length)
-        } else {
-            Vec::new()
-        },
+        length: if layout.length { u16::try_from(length).expect("a length has two bytes") } else { 0 },
+        payload: if layout.payload && !layout.length { rng.bytes(length) } else { Vec::new() },
     }
 }
 
 /// The same call with another setting.
 fn with_setting(request: &Request, flags: u8, retries: u16) -> Request {
-    Request {
-        pec_write: flags & 1 != 0,
-        pec_read: flags & 2 != 0,
-        retries,
-        ..request.clone()
-    }
+    Request { pec_write: flags & 1 != 0, pec_read: flags & 2 != 0, retries, ..request.clone() }
 }
 
 /// Call and setting in a case's title.
 fn words(request: &Request) -> String {
-    format!(
-        "{}, flags {}, retries {}",
-        request.kind.name(),
-        request.flags(),
-        request.retries
-    )
+    format!("{}, flags {}, retries {}", request.kind.name(), request.flags(), request.retries)
 }

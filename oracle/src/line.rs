@@ -11,10 +11,7 @@ pub struct Line {
 impl Line {
     /// A line with its line feed, good or bad.
     pub fn raw(text: impl Into<Vec<u8>>) -> Self {
-        Line {
-            text: text.into(),
-            ended: true,
-        }
+        Line { text: text.into(), ended: true }
     }
 
     /// The good line that says `bytes`.
@@ -35,10 +32,7 @@ impl Line {
         if !self.ended || self.text.is_empty() || !self.text.len().is_multiple_of(2) {
             return None;
         }
-        self.text
-            .chunks_exact(2)
-            .map(|pair| Some(digit(pair[0])? << 4 | digit(pair[1])?))
-            .collect()
+        self.text.chunks_exact(2).map(|pair| Some(digit(pair[0])? << 4 | digit(pair[1])?)).collect()
     }
 }
 
@@ -46,10 +40,7 @@ impl Line {
 #[must_use]
 pub fn hex(bytes: &[u8]) -> Vec<u8> {
     const DIGITS: &[u8; 16] = b"0123456789ABCDEF";
-    bytes
-        .iter()
-        .flat_map(|byte| [DIGITS[usize::from(byte >> 4)], DIGITS[usize::from(byte & 15)]])
-        .collect()
+    bytes.iter().flat_map(|byte| [DIGITS[usize::from(byte >> 4)], DIGITS[usize::from(byte & 15)]]).collect()
 }
 
 fn digit(character: u8) -> Option<u8> {

@@ -35,11 +35,7 @@ impl Case {
         loop {
             let mut line = Vec::new();
             if list.read_until(b'\n', &mut line)? == 0 {
-                return if opened {
-                    Err(malformed("a case without its empty line"))
-                } else {
-                    Ok(None)
-                };
+                return if opened { Err(malformed("a case without its empty line")) } else { Ok(None) };
             }
             if line.pop() != Some(b'\n') {
                 return Err(malformed("a line without its line feed"));
@@ -64,15 +60,8 @@ impl Case {
         request: Option<Line>,
         answering: impl FnMut(&Transfer<'_>) -> Option<Line>,
     ) -> (Self, Report) {
-        let case = Case {
-            title,
-            ..Case::default()
-        };
-        let mut recorder = Recorder {
-            case,
-            request,
-            answering,
-        };
+        let case = Case { title, ..Case::default() };
+        let mut recorder = Recorder { case, request, answering };
         let report = bench::run(&mut recorder);
         (recorder.case, report)
     }

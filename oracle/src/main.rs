@@ -83,11 +83,7 @@ impl Host for Terminal {
 }
 
 fn run() -> io::Result<ExitCode> {
-    let mut terminal = Terminal {
-        input: io::stdin().lock(),
-        output: io::stdout().lock(),
-        failed: Ok(()),
-    };
+    let mut terminal = Terminal { input: io::stdin().lock(), output: io::stdout().lock(), failed: Ok(()) };
     bench::run(&mut terminal);
     terminal.failed.map(|()| ExitCode::SUCCESS)
 }
@@ -128,8 +124,7 @@ fn stop(error: &io::Error) -> ! {
 }
 
 fn whole(text: &str) -> io::Result<u64> {
-    text.parse()
-        .map_err(|_| io::Error::new(io::ErrorKind::InvalidInput, format!("{text} is not a number")))
+    text.parse().map_err(|_| io::Error::new(io::ErrorKind::InvalidInput, format!("{text} is not a number")))
 }
 
 /// Runs a list on the Rust and prints how many cases it had, how many differ, and the first that does.

@@ -60,9 +60,7 @@ fn take_note(info: &PanicHookInfo<'_>) -> bool {
         let Note::On(panic) = note else { return false };
         let place = info.location().map_or_else(String::new, |location| {
             let file = location.file();
-            let name = file
-                .find("/out/src/")
-                .map_or(file, |at| &file[at + "/out/src/".len()..]);
+            let name = file.find("/out/src/").map_or(file, |at| &file[at + "/out/src/".len()..]);
             format!("{name}:{}", location.line())
         });
         let message = info.payload_as_str().unwrap_or_default().to_owned();
@@ -77,10 +75,7 @@ pub fn print(out: &mut impl Write) -> io::Result<()> {
         for found in of_kind(kind).values() {
             let Found { line, panic, answer } = found;
             let (name, line) = (kind.name(), String::from_utf8_lossy(line));
-            writeln!(
-                out,
-                "{name}\n  input   {line}\n  panic   {panic}\n  answer  {answer}"
-            )?;
+            writeln!(out, "{name}\n  input   {line}\n  panic   {panic}\n  answer  {answer}")?;
         }
     }
     Ok(())
@@ -123,22 +118,15 @@ fn zeros(kind: Kind, flags: u8, length: u16, payload: usize) -> Request {
 
 /// Runs a call to its end under each sort of outcome, and keeps a panic whose place is new.
 fn try_out(request: &Request, panics: &mut BTreeMap<String, Found>) {
-    let outcomes: [fn(usize) -> Vec<u8>; 3] = [
-        |asked| vec![0x00; 1 + asked],
-        |_| vec![0x01, 0x00],
-        |_| vec![0x02],
-    ];
+    let outcomes: [fn(usize) -> Vec<u8>; 3] =
+        [|asked| vec![0x00; 1 + asked], |_| vec![0x01, 0x00], |_| vec![0x02]];
     let line = Line::of(&request.to_bytes());
     for outcome in outcomes {
         let (_, report) = Case::record(String::new(), Some(line.clone()), |transfer| {
             Some(Line::of(&outcome(transfer.asked())))
         });
         if let (Some(panic), Some(answer)) = (report.panic, report.answer) {
-            let found = || Found {
-                line: line.text.clone(),
-                panic: panic.clone(),
-                answer: answer.number,
-            };
+            let found = || Found { line: line.text.clone(), panic: panic.clone(), answer: answer.number };
             panics.entry(panic.place.clone()).or_insert_with(found);
         }
     }

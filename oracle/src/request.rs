@@ -46,11 +46,7 @@ pub struct Layout {
 
 /// The shorthand of `Kind::layout`.
 const fn layout(number: usize, length: bool, payload: bool) -> Layout {
-    Layout {
-        number,
-        length,
-        payload,
-    }
+    Layout { number, length, payload }
 }
 
 impl Kind {
@@ -93,12 +89,7 @@ impl Kind {
             true => format!("_{}", letter.to_lowercase()),
             false => letter.to_string(),
         };
-        words
-            .chars()
-            .map(snake)
-            .collect::<String>()
-            .trim_start_matches('_')
-            .to_owned()
+        words.chars().map(snake).collect::<String>().trim_start_matches('_').to_owned()
     }
 
     /// What stands behind the header.
@@ -153,11 +144,7 @@ impl Request {
             retries: rest.number(2)? as u16,
             number: rest.number(layout.number)?,
             length: if layout.length { rest.number(2)? as u16 } else { 0 },
-            payload: if layout.payload {
-                rest.all().to_vec()
-            } else {
-                Vec::new()
-            },
+            payload: if layout.payload { rest.all().to_vec() } else { Vec::new() },
         };
         (flags < 4 && rest.0.is_empty() && request.fits()).then_some(request)
     }
@@ -214,9 +201,7 @@ impl<'a> Rest<'a> {
 
     /// A number of `width` bytes, low byte first.
     fn number(&mut self, width: usize) -> Option<u32> {
-        (0..width).try_fold(0, |number, place| {
-            Some(number | u32::from(self.byte()?) << (8 * place))
-        })
+        (0..width).try_fold(0, |number, place| Some(number | u32::from(self.byte()?) << (8 * place)))
     }
 
     fn all(&mut self) -> &'a [u8] {

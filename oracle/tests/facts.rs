@@ -67,24 +67,15 @@ fn a_zero_length_register_buffer_or_unchecked_read_is_still_a_transfer() {
 #[test]
 fn a_zero_length_info_read_asks_0_and_with_pec_34_and_hands_over_nothing() {
     assert_eq!(bench(&["110000000000", "00"]), ["01700000", "FF00000000000000"]);
-    assert_eq!(
-        bench(&["110200000000", &sealed_reply(0x70, &[0x5C; 33])]),
-        ["01702200", "FF00000000000000"]
-    );
+    assert_eq!(bench(&["110200000000", &sealed_reply(0x70, &[0x5C; 33])]), ["01702200", "FF00000000000000"]);
 }
 
 #[test]
 fn a_zero_length_info_c_read_sends_its_frame_and_asks_3_and_with_pec_36() {
-    assert_eq!(
-        bench(&["0F0000000000", "00", "00010203"]),
-        ["0044027B00", "01440300", "FF00000000000000"]
-    );
+    assert_eq!(bench(&["0F0000000000", "00", "00010203"]), ["0044027B00", "01440300", "FF00000000000000"]);
     let frame = sealed_write(&[0x44, 0x02, 0x7B, 0x00]);
     let reply = sealed_reply(0x44, &[0x5C; 35]);
-    assert_eq!(
-        bench(&["0F0200000000", "00", &reply]),
-        [frame, "01442400".into(), "FF00000000000000".into()]
-    );
+    assert_eq!(bench(&["0F0200000000", "00", &reply]), [frame, "01442400".into(), "FF00000000000000".into()]);
 }
 
 #[test]
@@ -102,10 +93,7 @@ fn empty_writes_send_their_head_alone() {
 fn infos_size_byte_counts_as_data_and_is_handed_over_as_byte_0() {
     assert_eq!(bench(&["110000000300", "0002AABB"]), ["01700300", "FF0000000000000002AABB"]);
     let data: Vec<u8> = (0x20..0x41).collect();
-    assert_eq!(
-        bench(&["110200000300", &sealed_reply(0x70, &data)]),
-        ["01702200", "FF00000000000000202122"]
-    );
+    assert_eq!(bench(&["110200000300", &sealed_reply(0x70, &data)]), ["01702200", "FF00000000000000202122"]);
 }
 
 #[test]

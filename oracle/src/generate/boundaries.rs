@@ -28,11 +28,7 @@ struct Play {
 }
 
 fn play(name: &'static str, first: &[Step], then: Option<Step>) -> Play {
-    Play {
-        name,
-        first: first.to_vec(),
-        then,
-    }
+    Play { name, first: first.to_vec(), then }
 }
 
 /// The plays that each boundary is tried with.
@@ -41,11 +37,7 @@ fn plays() -> [Play; 6] {
         play("all good", &[], Some(Step::Good)),
         play("no outcomes", &[], None),
         play("the first fails", &[Step::Error(0x51)], Some(Step::Good)),
-        play(
-            "the second times out",
-            &[Step::Good, Step::Timeout],
-            Some(Step::Good),
-        ),
+        play("the second times out", &[Step::Good, Step::Timeout], Some(Step::Good)),
         play("every PEC is bad", &[], Some(Step::BadPec)),
         play("all fail", &[], Some(Step::Error(0xFF))),
     ]
@@ -100,12 +92,7 @@ const fn usual_length(kind: Kind) -> usize {
 }
 
 fn usual(kind: Kind) -> Request {
-    request(
-        kind,
-        usual_number(kind),
-        usual_length(kind),
-        &mut Rng::new(3, kind as u64),
-    )
+    request(kind, usual_number(kind), usual_length(kind), &mut Rng::new(3, kind as u64))
 }
 
 /// Every call at lengths around every limit there is.
@@ -115,7 +102,7 @@ fn lengths(sink: Sink<'_>) {
         64, 65, 95, 96, 97, 127, 128, 255, 256, 257,
     ];
     let large = [8191, 8192, 8193];
-    for kind in Kind::ALL {
+    for kind in Kind::ALL.into_iter().filter(|kind| has_length(*kind)) {
         for length in small {
             each_length(kind, length, &[0, 1], &plays(), sink);
         }
@@ -125,16 +112,16 @@ fn lengths(sink: Sink<'_>) {
     }
 }
 
+/// Whether a request line of this kind has a part of a free length.
+const fn has_length(kind: Kind) -> bool {
+    kind.layout().length || kind.layout().payload
+}
+
 fn each_length(kind: Kind, length: usize, retries: &[u16], plays: &[Play], sink: Sink<'_>) {
     let sized = request(kind, usual_number(kind), length, &mut Rng::new(4, length as u64));
     for flags in 0..4 {
         for retries in retries {
-            give_all(
-                &format!("length {length}"),
-                &with_setting(&sized, flags, *retries),
-                plays,
-                sink,
-            );
+            give_all(&format!("length {length}"), &with_setting(&sized, flags, *retries), plays, sink);
         }
     }
 }
@@ -173,17 +160,9 @@ fn commands(sink: Sink<'_>) {
             }
         }
     }
-    for address in [
-        0,
-        0x44,
-        0x4400,
-        0x44_0000,
-        0x4400_0000,
-        0x0102_0304,
-        0xFF44_FFFF,
-        0xFFFF_FFFF,
-        0x8000_0001,
-    ] {
+    for address in
+        [0, 0x44, 0x4400, 0x44_0000, 0x4400_0000, 0x0102_0304, 0xFF44_FFFF, 0xFFFF_FFFF, 0x8000_0001]
+    {
         for output in [0, 1, 4] {
             let request = request(Kind::DispatchCommand, address, output, &mut Rng::new(6, 0));
             for flags in 0..4 {
@@ -196,57 +175,34 @@ fn commands(sink: Sink<'_>) {
 
 /// Retries whose count needs its high byte, and waits that need more than two bytes.
 fn counts(sink: Sink<'_>) {
-    let fails = |count: usize| vec![Step::Error(0x33); count];
-    for retries in [3u16, 255, 256, 257, 512] {
+    for retries in [3, 255, 256, 257, 512] {
         for kind in Kind::ALL {
-            let request = with_setting(&usual(kind), 3, retries);
-            let times = usize::from(retries);
-            give(
-                "count",
-                &request,
-                &play("as many as allowed", &fails(times), Some(Step::Good)),
-                sink,
-            );
-            give(
-                "count",
-                &request,
-                &play("one too many", &fails(times + 1), Some(Step::Good)),
-                sink,
-            );
+            last_allowed(&with_setting(&usual(kind), 3, retries), sink);
         }
     }
-    let full = usize::from(u16::MAX);
     for kind in [Kind::PlainWrite, Kind::ReadRegister, Kind::ReadDataflash] {
-        let request = with_setting(&usual(kind), 0, u16::MAX);
-        give(
-            "count",
-            &request,
-            &play("as many as allowed", &fails(full), Some(Step::Good)),
-            sink,
-        );
-        give(
-            "count",
-            &request,
-            &play("one too many", &fails(full + 1), Some(Step::Good)),
-            sink,
-        );
+        last_allowed(&with_setting(&usual(kind), 0, u16::MAX), sink);
     }
-    let block = [fails(full), vec![Step::Good]].concat();
     let two_blocks = with_setting(&usual(Kind::WriteDataflash), 0, u16::MAX);
-    let both_late = [block.as_slice(), &block].concat();
-    give(
-        "count",
-        &two_blocks,
-        &play("each block at its last attempt", &both_late, None),
-        sink,
-    );
-    let second_fails = [block, fails(full + 1)].concat();
-    give(
-        "count",
-        &two_blocks,
-        &play("the second block fails", &second_fails, None),
-        sink,
-    );
+    let spent = failures(usize::from(u16::MAX));
+    let late = [&spent[..], &[Step::Good]].concat();
+    let both_late = play("each block at its last attempt", &[&late[..], &late].concat(), None);
+    give("count 65535", &two_blocks, &both_late, sink);
+    let second_fails = [&late[..], &spent, &[Step::Timeout]].concat();
+    give("count 65535", &two_blocks, &play("the second block fails", &second_fails, None), sink);
+}
+
+/// A call that spends its whole budget, and one that fails once more.
+fn last_allowed(request: &Request, sink: Sink<'_>) {
+    let section = format!("count {}", request.retries);
+    for (name, more) in [("as many as allowed", 0), ("one too many", 1)] {
+        let first = failures(usize::from(request.retries) + more);
+        give(&section, request, &play(name, &first, Some(Step::Good)), sink);
+    }
+}
+
+fn failures(count: usize) -> Vec<Step> {
+    vec![Step::Error(0x33); count]
 }
 
 /// Bus error codes, and each sort of failure as the last.
@@ -258,12 +214,7 @@ fn codes(sink: Sink<'_>) {
                 for before in [Step::Error(0x99), Step::Timeout, Step::BadPec] {
                     let name = "two failures";
                     let request = with_setting(&usual(kind), flags, 1);
-                    give(
-                        "code",
-                        &request,
-                        &play(name, &[before.clone(), last.clone()], None),
-                        sink,
-                    );
+                    give("code", &request, &play(name, &[before.clone(), last.clone()], None), sink);
                     let later = [Step::Good, before, last.clone()];
                     give("code", &request, &play(name, &later, None), sink);
                 }
@@ -289,20 +240,16 @@ fn bad_requests(sink: Sink<'_>) {
     give_whole_line("no input", None, sink);
     give_whole_line("an empty line", Some(Line::raw("")), sink);
     for number in 0..=255 {
-        for rest in [
-            "000000",
-            "00000000",
-            "0000004000",
-            "0000000040AA",
-            "000000004000002000",
-        ] {
+        for rest in ["000000", "00000000", "0000004000", "0000000040AA", "000000004000002000"] {
             give_whole_line("kinds", Some(Line::raw(format!("{number:02X}{rest}"))), sink);
         }
     }
     for kind in Kind::ALL {
         bad_texts(kind, sink);
         bad_flags(kind, sink);
-        bad_lengths(kind, sink);
+        if has_length(kind) {
+            bad_lengths(kind, sink);
+        }
     }
 }
 
@@ -325,12 +272,7 @@ fn bad_texts(kind: Kind, sink: Sink<'_>) {
             give("cut short, no line feed", Line::raw(&text[..cut]).unended());
         }
     }
-    for extra in turned(
-        &[
-            "0", "00", "0000", "AA", " ", "\r", "\t", "  ", "\r\r", "G", "0x", "\0\0",
-        ],
-        kind,
-    ) {
+    for extra in turned(&["0", "00", "0000", "AA", " ", "\r", "\t", "  ", "\r\r", "G", "0x", "\0\0"], kind) {
         give("more behind", Line::raw([&text, extra.as_bytes()].concat()));
         give("more in front", Line::raw([extra.as_bytes(), &text].concat()));
     }
@@ -373,12 +315,7 @@ fn bad_lengths(kind: Kind, sink: Sink<'_>) {
     for length in 0..=12 {
         give("a short argument", usual_number(kind), length);
     }
-    give_request(
-        "100,000 digits",
-        &kind.name(),
-        Some(Line::raw(vec![b'0'; 100_000])),
-        sink,
-    );
+    give_request("100,000 digits", &kind.name(), Some(Line::raw(vec![b'0'; 100_000])), sink);
 }
 
 /// Outcome lines of every bad sort, and replies of wrong lengths, at several places of a run.
@@ -413,26 +350,15 @@ fn transfers_behind(request: &Request, front: &[Step]) -> bool {
 const BAD_OUTCOMES: [(&str, &[&str]); 11] = [
     ("an empty line", &[""]),
     ("an odd number of digits", &["0", "1", "2", "000", "01FFF"]),
-    (
-        "an unknown first byte",
-        &["03", "04", "0F", "10", "20", "7F", "80", "FD", "FE", "FF", "0300"],
-    ),
+    ("an unknown first byte", &["03", "04", "0F", "10", "20", "7F", "80", "FD", "FE", "FF", "0300"]),
     ("no code", &["01"]),
     ("more than a code", &["010203", "01000000"]),
     ("more than a timeout", &["0200", "0201", "020202"]),
     ("a space", &["02 ", " 00", "00 ", "0 2", "0100 ", " 02", "00 00"]),
     ("a carriage return", &["02\r", "00\r", "01FF\r", "\r", "\r\r"]),
     ("lower case", &["00aa", "00AAa", "00AAaa", "01fF", "01Ff", "01ff"]),
-    (
-        "a wrong character",
-        &[
-            "0g", "0G", "0/", "0:", "0@", "0`", "/0", ":0", "@0", "`0", "+0", "-2", "0x00",
-        ],
-    ),
-    (
-        "a control character",
-        &["\t02", "02\t", "\0\0", "0\u{7f}", "\u{c1}"],
-    ),
+    ("a wrong character", &["0g", "0G", "0/", "0:", "0@", "0`", "/0", ":0", "@0", "`0", "+0", "-2", "0x00"]),
+    ("a control character", &["\t02", "02\t", "\0\0", "0\u{7f}", "\u{c1}"]),
 ];
 
 fn bad_lines(request: &Request, front: &[Step], sink: Sink<'_>) {
@@ -442,17 +368,16 @@ fn bad_lines(request: &Request, front: &[Step], sink: Sink<'_>) {
         }
     }
     for text in turned(&["0", "00", "01FF", "02", "00AA"], request.kind) {
-        give_last(
-            request,
-            front,
-            Step::Said(Line::raw(text).unended()),
-            "no line feed",
-            sink,
-        );
+        give_last(request, front, Step::Said(Line::raw(text).unended()), "no line feed", sink);
     }
-    for count in [
-        0, 1, 2, 3, 4, 5, 6, 13, 14, 19, 20, 31, 32, 33, 34, 35, 36, 37, 64, 8192, 8193, 9000,
-    ] {
+    for count in [0, 1, 2, 3, 4, 5, 6, 13, 14, 19, 20, 31, 32, 33, 34, 35, 36, 37, 64] {
+        give_last(request, front, Step::Bytes(count), "a short reply", sink);
+    }
+    if front.is_empty() {
+        let digits = Line::raw(vec![b'0'; 100_000]);
+        give_last(request, front, Step::Said(digits), "100,000 digits", sink);
+    }
+    for count in [8192, 8193, 9000] {
         give_last(request, front, Step::Bytes(count), &format!("a reply of {count}"), sink);
     }
 }
@@ -460,12 +385,7 @@ fn bad_lines(request: &Request, front: &[Step], sink: Sink<'_>) {
 /// A run that ends with `last` behind `front`.
 fn give_last(request: &Request, front: &[Step], last: Step, sort: &str, sink: Sink<'_>) {
     let steps = [front, &[last]].concat();
-    give(
-        &format!("outcome, {sort}"),
-        request,
-        &play("the last line", &steps, None),
-        sink,
-    );
+    give(&format!("outcome, {sort}"), request, &play("the last line", &steps, None), sink);
 }
 
 /// Lines behind the end of a call, which nobody reads.

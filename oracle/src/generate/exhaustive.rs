@@ -72,7 +72,7 @@ fn shapes() -> Vec<(Kind, u32, usize)> {
         (Kind::ReadDataflash, &[0x5F00], &[0, 1, 32, 33, 64, 65]),
         (Kind::WriteRegister, &[0x0D], &[0, 1, 32]),
         (Kind::ReadRegister, &[0x0D], &[0, 1, 32]),
-        (Kind::DispatchCommand, &[0x0044_3500, 0xA545_0035], &[0, 1, 32]),
+        (Kind::DispatchCommand, &[0xA545_0035, 0x0044_3500], &[0, 1, 32]),
         (Kind::BufferRead, &[0x20], &[0, 1, 33]),
         (Kind::BufferWrite, &[0x20], &[0, 1, 33]),
         (Kind::ReadSecurityKeys, &[0], &[0]),
@@ -91,9 +91,7 @@ fn shapes() -> Vec<(Kind, u32, usize)> {
         (Kind::PlainWrite, &[0], &[0, 1, 38, 39]),
     ];
     let each = |(kind, numbers, lengths): (Kind, &'static [u32], &'static [usize])| {
-        numbers
-            .iter()
-            .flat_map(move |number| lengths.iter().map(move |length| (kind, *number, *length)))
+        numbers.iter().flat_map(move |number| lengths.iter().map(move |length| (kind, *number, *length)))
     };
     table.into_iter().flat_map(each).collect()
 }

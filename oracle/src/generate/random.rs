@@ -30,11 +30,7 @@ pub fn random(seed: u64, cases: u64, sink: Sink<'_>) {
 /// Any call with any setting; data flash comes more often than the others.
 fn any_request(rng: &mut Rng) -> Request {
     let flash = [Kind::WriteDataflash, Kind::ReadDataflash];
-    let kind = if rng.percent(20) {
-        *rng.one_of(&flash)
-    } else {
-        *rng.one_of(&Kind::ALL)
-    };
+    let kind = if rng.percent(20) { *rng.one_of(&flash) } else { *rng.one_of(&Kind::ALL) };
     let (number, length) = match kind {
         Kind::WriteDataflash | Kind::ReadDataflash => any_flash_range(rng),
         Kind::DispatchCommand => (any_command(rng), any_length(kind, rng)),
@@ -63,11 +59,7 @@ fn any_retries(rng: &mut Rng) -> u16 {
 /// Mostly 44 in front, as the gauge's own commands have.
 fn any_command(rng: &mut Rng) -> u32 {
     let number = rng.below(1 << 32) as u32;
-    if rng.percent(50) {
-        number & 0xFFFF | 0x44_0000
-    } else {
-        number
-    }
+    if rng.percent(50) { number & 0xFFFF | 0x44_0000 } else { number }
 }
 
 /// A length around the limits of a kind.
@@ -132,9 +124,7 @@ fn spoiled(mut line: Line, times: usize, rng: &mut Rng) -> Line {
     let length = line.text.len();
     match rng.below(times) {
         0 if length > 0 => line.text[rng.below(length)] = *rng.one_of(b"gG/:@`abcdef \r\t"),
-        1 => line
-            .text
-            .insert(rng.below(length + 1), *rng.one_of(b"0123456789ABCDEFa \r")),
+        1 => line.text.insert(rng.below(length + 1), *rng.one_of(b"0123456789ABCDEFa \r")),
         2 if length > 0 => line = line.unended(),
         _ => {}
     }
@@ -152,11 +142,7 @@ struct Mood {
 impl Mood {
     fn any(request: &Request, rng: &mut Rng) -> Self {
         let long = request.payload.len().max(usize::from(request.length)) / 32;
-        let few = if rng.percent(85) {
-            60 + 4 * long
-        } else {
-            rng.below(8 + long)
-        };
+        let few = if rng.percent(85) { 60 + 4 * long } else { rng.below(8 + long) };
         Mood {
             fails: *rng.one_of(&[0, 5, 20, 40, 70, 97]),
             left: few,

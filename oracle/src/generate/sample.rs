@@ -16,13 +16,9 @@ const RANDOM_CASES: u64 = 20_000;
 
 /// The first case of each combination that the repository's list should have.
 pub fn sample(sink: Sink<'_>) {
-    let mut kept = Kept {
-        seen: HashSet::new(),
-        sink,
-    };
+    let mut kept = Kept { seen: HashSet::new(), sink };
     exhaustive(DEPTH, &mut |case, report| {
         let key = format!("exhaustive, {}, {} waits", setting(&case), report.waits);
-        let key = if is_of_three_blocks(&case) { case.title.clone() } else { key };
         kept.offer(key, case, report);
     });
     boundaries(&mut |case, report| kept.offer(boundary(&case), case, report));
@@ -39,11 +35,13 @@ struct Kept<'a> {
 }
 
 impl Kept<'_> {
-    /// Keeps `case` if it is small or must be there, is plain text, and is the first with its key and answer.
+    /// Keeps `case` if it is the first with its key and answer, and is small plain text or must be there.
     fn offer(&mut self, key: String, case: Case, report: Report) {
-        let fits = length(&case) <= LARGEST_CASE || is_of_three_blocks(&case) || is_large(&case);
+        let must_be_there = is_of_three_blocks(&case) || is_large(&case);
+        let key = if must_be_there { case.title.clone() } else { key };
         let number = report.answer.map(|answer| answer.number);
-        if fits && is_text(&case) && self.seen.insert(format!("{key}, {number:?}")) {
+        let fits = must_be_there || length(&case) <= LARGEST_CASE && is_text(&case);
+        if fits && self.seen.insert(format!("{key}, {number:?}")) {
             (self.sink)(case, report);
         }
     }
@@ -71,17 +69,8 @@ fn setting(case: &Case) -> String {
 }
 
 fn behind_sections(case: &Case, parts: usize) -> String {
-    let words = case
-        .title
-        .split(": ")
-        .find(|part| part.contains("flags"))
-        .or(case.title.split(": ").last());
-    words
-        .unwrap_or_default()
-        .split(", ")
-        .take(parts)
-        .collect::<Vec<_>>()
-        .join(", ")
+    let words = case.title.split(": ").find(|part| part.contains("flags")).or(case.title.split(": ").last());
+    words.unwrap_or_default().split(", ").take(parts).collect::<Vec<_>>().join(", ")
 }
 
 /// Data flash over three blocks with one retry: every list of outcomes is kept.
@@ -92,7 +81,8 @@ fn is_of_three_blocks(case: &Case) -> bool {
         "exhaustive: read_dataflash, flags 3, retries 1: ",
     ];
     let request = case.input.first().map_or(&[][..], |line| &line.text);
-    let has_65_bytes = request.starts_with(b"02") && request.ends_with(b"4100") || request.len() == 2 * (6 + 65);
+    let has_65_bytes =
+        request.starts_with(b"02") && request.ends_with(b"4100") || request.len() == 2 * (6 + 65);
     has_65_bytes && starts.iter().any(|start| case.title.starts_with(start))
 }
 
@@ -119,8 +109,5 @@ fn length(case: &Case) -> usize {
 
 /// Whether the input has no characters that an editor would trip over.
 fn is_text(case: &Case) -> bool {
-    case.input
-        .iter()
-        .flat_map(|line| &line.text)
-        .all(|byte| matches!(byte, b'\t' | b'\r' | b' '..=b'~'))
+    case.input.iter().flat_map(|line| &line.text).all(|byte| matches!(byte, b'\t' | b'\r' | b' '..=b'~'))
 }

@@ -49,10 +49,7 @@ pub struct Replies {
 impl Replies {
     /// Replies to the transfers of `request`.
     pub fn new(request: &Request, rng: Rng) -> Self {
-        Replies {
-            rng,
-            pec_command: pec_command(request),
-        }
+        Replies { rng, pec_command: pec_command(request) }
     }
 
     /// The line of `step` in answer to `transfer`.
@@ -79,11 +76,7 @@ impl Replies {
             (Transfer::Read { count, .. }, None) => self.rng.bytes(count),
             (Transfer::Read { command, count }, Some(pec_command)) => {
                 let data = self.rng.bytes(count - 1);
-                if right {
-                    sealed(pec_command, data)
-                } else {
-                    self.damaged(command, pec_command, data)
-                }
+                if right { sealed(pec_command, data) } else { self.damaged(command, pec_command, data) }
             }
         });
         Line::of(&said)

@@ -18,10 +18,7 @@ impl<I> Device<I> {
 
     /// The command that seals the gauge.
     pub fn mac_seal(&mut self) -> Command<'_, I> {
-        Command {
-            interface: &mut self.interface,
-            address: SEAL,
-        }
+        Command { interface: &mut self.interface, address: SEAL }
     }
 }
 
@@ -43,8 +40,6 @@ impl<I: AsyncCommandInterface<AddressType = u32>> Command<'_, I> {
     /// Sends the command.
     pub async fn dispatch_async(self) -> Result<(), <I as CommandInterfaceBase>::Error> {
         let meta_data = FieldsetMetadata;
-        self.interface
-            .dispatch_command(self.address, &mut [], &meta_data, &mut [], &meta_data)
-            .await
+        self.interface.dispatch_command(self.address, &mut [], &meta_data, &mut [], &meta_data).await
     }
 }

@@ -1,0 +1,23 @@
+-- `writing::call::WriteCall::advance` meets its contract: the fields are those of `advanceOf`.
+-- Assumes nothing.
+use Prim.Native.Nat.{_-_}
+use borrow.Author.Needs.{needs}
+use Rattle.writing.specs.Writing.{advanceOf}
+use Rattle.writing.proofs.call.WriteCall.advance.Statement.{statement}
+use Rattle.writing.proofs.call.WriteCall.advance.Tie as tie
+
+more-requires : tie.Need-more-requires
+more-requires c κs = search needs
+
+count-requires : tie.Need-count-requires
+count-requires c κs = search needs
+
+written-requires : tie.Need-written-requires
+written-requires c κs = search needs
+
+returns : tie.Need-returns
+unfolding advanceOf
+returns c = cc
+
+pub advance-spec : {M : Type 1} → statement M
+advance-spec = tie.close (tie.spec more-requires count-requires written-requires returns)

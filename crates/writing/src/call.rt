@@ -1,0 +1,286 @@
+// The call itself: start, next transfer, report of an outcome.
+use crate::frames::Frames;
+use engine::budget::Budget;
+use engine::budget::Failed;
+use engine::budget::Tally;
+use engine::bus::Outcome;
+use engine::bus::Phase;
+use engine::bus::Transfer;
+use engine::limit::Limit;
+use protocol::bytes;
+use protocol::error::Answer;
+use protocol::frame::Laid;
+ghost use mathlib.Core.Path.{_≡_};
+ghost use lib.ListN.{length};
+ghost use Rattle.writing.specs.Writing.{startOf, fitsOf, ownBytes, shownOf, workShown, nextOf, workAfter, partOf, moreOf, writtenOf, advanceOf, gaveUp, retryOf, endOf, failOf, settleOf, repliedOf, reportOf};
+
+// What a writing call is: its retries, whether its frames carry a PEC, what it asks of the payload's length, and its frames.
+pub struct WritePlan {
+    pub retries: u16,
+    pub pec: bool,
+    pub limit: Limit,
+    pub frames: Frames,
+}
+
+// What does not change while a writing call runs: the plan, and the lengths of payload and work buffer at the start.
+pub struct WriteTask {
+    pub plan: WritePlan,
+    pub length: usize,
+    pub work: usize,
+}
+
+// A writing call. It goes in by value and comes back.
+pub struct WriteCall {
+    pub task: WriteTask,
+    pub phase: Phase,
+    // Frames acknowledged so far.
+    pub sent: u32,
+    // The retries left to the frame that is due.
+    pub budget: Budget,
+    pub tally: Tally,
+}
+
+// What came of a report.
+pub enum WriteReported {
+    // Refused, with the call as it was.
+    Refused(Answer, WriteCall),
+    // Taken, with the new call.
+    Taken(WriteCall),
+}
+
+// One frame more. The count stays at the largest number, which no started call reaches.
+fn more(sent: u32) -> u32
+    ensures { λ r. ⌜ r ≡ moreOf sent ⌝ }
+{
+    if sent < 4294967295 { sent + 1 } else { sent }
+}
+
+// Where a call stands that has sent so many of its frames.
+fn written(frames: usize, sent: u32) -> Phase
+    ensures { λ r. ⌜ r ≡ writtenOf frames sent ⌝ }
+{
+    if frames <= sent as usize {
+        Phase::Ended(Answer::Done)
+    } else {
+        Phase::Waiting
+    }
+}
+
+// What a call says that gives up: why, or how much of a data-flash write was acknowledged.
+fn gave_up(frames: Frames, sent: u32, why: Answer) -> Answer
+    ensures { λ r. ⌜ r ≡ gaveUp frames sent why ⌝ }
+{
+    if frames.flash() {
+        if sent == 0 {
+            why
+        } else {
+            Answer::PartialDataFlashWrite {
+                committed: sent as usize * 32,
+            }
+        }
+    } else {
+        why
+    }
+}
+
+impl WriteCall {
+    // A call starts: it waits with its first frame due, is done at once, or is refused.
+    pub fn start(plan: WritePlan, payload: &[u8], work: &[u8]) -> WriteCall
+        ensures { λ r. ⌜ r ≡ startOf plan (length (now (payload .entry))) (length (now (work .entry))) ⌝ }
+    {
+        let limit = plan.limit;
+        let task = WriteTask {
+            plan,
+            length: payload.len(),
+            work: work.len(),
+        };
+        WriteCall {
+            task,
+            phase: limit.admit(payload.len(), work.len()),
+            sent: 0,
+            budget: Budget { left: plan.retries },
+            tally: Tally::new(),
+        }
+    }
+
+    // Whether the lent payload and work buffer have the lengths of the start.
+    fn fits(self, payload: usize, work: usize) -> bool
+        ensures { λ r. ⌜ r ≡ fitsOf self payload work ⌝ }
+    {
+        if payload == self.task.length {
+            work == self.task.work
+        } else {
+            false
+        }
+    }
+
+    // Whether the caller's own bytes are sent: a plain write with no PEC.
+    fn own_bytes(self) -> bool
+        ensures { λ r. ⌜ r ≡ ownBytes self ⌝ }
+    {
+        let task = self.task;
+        let plan = task.plan;
+        let frames = plan.frames;
+        if frames.plain() {
+            if plan.pec { false } else { true }
+        } else {
+            false
+        }
+    }
+
+    // The frame that is due, laid in the work buffer.
+    fn show(self, payload: &[u8], work: &mut [u8]) -> Transfer
+        ensures { λ r. ⌜ (r ≡ shownOf self (now (payload .entry)) (length (now (work .entry)))) × (now (work .exit) ≡ workShown self (now (payload .entry)) (now (work .entry))) ⌝ }
+    {
+        let task = self.task;
+        let plan = task.plan;
+        let frames = plan.frames;
+        match frames.lay(payload, self.sent, work, plan.pec) {
+            Laid::Frame(n) => Transfer::Write(n),
+            Laid::NoRoom => Transfer::Refused(Answer::WrongBuffer),
+        }
+    }
+
+    // The next transfer, the same if asked again; the answer once the call has ended.
+    pub fn next(self, payload: &[u8], work: &mut [u8]) -> Transfer
+        ensures { λ r. ⌜ (r ≡ nextOf self (now (payload .entry)) (length (now (work .entry)))) × (now (work .exit) ≡ workAfter self (now (payload .entry)) (now (work .entry))) ⌝ }
+    {
+        let phase = self.phase;
+        match phase {
+            Phase::Ended(answer) => Transfer::Ended(answer),
+            Phase::Waiting => {
+                if self.fits(payload.len(), work.len()) {
+                    if self.own_bytes() {
+                        Transfer::Write(payload.len())
+                    } else {
+                        self.show(payload, work)
+                    }
+                } else {
+                    Transfer::Refused(Answer::WrongBuffer)
+                }
+            }
+        }
+    }
+
+    // The n bytes of the write that was shown, from whichever holds them.
+    pub fn to_send<'a>(self, payload: &'a [u8], work: &'a [u8], n: usize) -> &'a [u8]
+        ensures { λ r. ⌜ now r ≡ partOf self (now (payload .entry)) (now (work .entry)) n ⌝ }
+    {
+        if self.own_bytes() {
+            bytes::to_send(payload, work, false, n)
+        } else {
+            bytes::to_send(payload, work, true, n)
+        }
+    }
+
+    // The frame was acknowledged: the next one is due, with a budget of its own, or the call is done.
+    fn advance(self) -> WriteCall
+        ensures { λ r. ⌜ r ≡ advanceOf self ⌝ }
+    {
+        let task = self.task;
+        let plan = task.plan;
+        let frames = plan.frames;
+        let tally = self.tally;
+        let sent = more(self.sent);
+        WriteCall {
+            task,
+            phase: written(frames.count(task.length), sent),
+            sent,
+            budget: Budget { left: plan.retries },
+            tally,
+        }
+    }
+
+    // The same frame again, after a wait.
+    fn retry(self, budget: Budget) -> WriteCall
+        ensures { λ r. ⌜ r ≡ retryOf self budget ⌝ }
+    {
+        let task = self.task;
+        let tally = self.tally;
+        WriteCall {
+            task,
+            phase: Phase::Waiting,
+            sent: self.sent,
+            budget,
+            tally: tally.wait(),
+        }
+    }
+
+    // The call ends with an answer.
+    fn end(self, why: Answer) -> WriteCall
+        ensures { λ r. ⌜ r ≡ endOf self why ⌝ }
+    {
+        let task = self.task;
+        let plan = task.plan;
+        let frames = plan.frames;
+        let budget = self.budget;
+        let tally = self.tally;
+        WriteCall {
+            task,
+            phase: Phase::Ended(gave_up(frames, self.sent, why)),
+            sent: self.sent,
+            budget,
+            tally,
+        }
+    }
+
+    // An attempt failed.
+    fn fail(self, why: Answer) -> WriteCall
+        ensures { λ r. ⌜ r ≡ failOf self why ⌝ }
+    {
+        let budget = self.budget;
+        match budget.fail() {
+            Failed::Retry(left) => self.retry(left),
+            Failed::Spent => self.end(why),
+        }
+    }
+
+    // What an outcome of the transfer that is due leads to.
+    fn settle(self, outcome: Outcome) -> WriteCall
+        ensures { λ r. ⌜ r ≡ settleOf self outcome ⌝ }
+    {
+        match outcome {
+            Outcome::Acknowledged => self.advance(),
+            Outcome::BusError(code) => self.fail(Answer::I2c(code)),
+            Outcome::Timeout => self.fail(Answer::Timeout),
+        }
+    }
+
+    // Whether an outcome brings a reply, which no write has. That of a failure is not looked at.
+    fn replied(outcome: Outcome, reply: usize) -> bool
+        ensures { λ r. ⌜ r ≡ repliedOf outcome reply ⌝ }
+    {
+        match outcome {
+            Outcome::Acknowledged => {
+                if reply == 0 {
+                    false
+                } else {
+                    true
+                }
+            }
+            Outcome::BusError(_) => false,
+            Outcome::Timeout => false,
+        }
+    }
+
+    // An outcome is reported: refused with 10, 8 or 9 and the call as it was, or taken.
+    pub fn report(self, outcome: Outcome, reply: &[u8], payload: &[u8], work: &[u8]) -> WriteReported
+        ensures { λ r. ⌜ r ≡ reportOf self outcome (length (now (reply .entry))) (length (now (payload .entry))) (length (now (work .entry))) ⌝ }
+    {
+        let phase = self.phase;
+        match phase {
+            Phase::Ended(_) => WriteReported::Refused(Answer::NothingOutstanding, self),
+            Phase::Waiting => {
+                if self.fits(payload.len(), work.len()) {
+                    if WriteCall::replied(outcome, reply.len()) {
+                        WriteReported::Refused(Answer::WrongReply, self)
+                    } else {
+                        WriteReported::Taken(self.settle(outcome))
+                    }
+                } else {
+                    WriteReported::Refused(Answer::WrongBuffer, self)
+                }
+            }
+        }
+    }
+}

@@ -1,0 +1,216 @@
+//! Statements of document 01, each shown by running the Rust.
+
+mod bench;
+
+use bench::{bench, line, sealed_reply};
+use oracle::answer::Answer;
+use oracle::bus::{Outcome, Partner, Transfer};
+use oracle::call;
+use oracle::request::{Kind, Request};
+
+/// The request line of kind, flags, retries and arguments.
+fn request(kind: u8, flags: u8, retries: u8, arguments: &[u8]) -> String {
+    line(&[&[kind, flags, retries, 0], arguments].concat())
+}
+
+/// The answer's number on the last line; none where the outcomes ran out.
+fn number(printed: &[String]) -> Option<u8> {
+    let last = printed.last().expect("something is always printed");
+    last.strip_prefix("FF").map(|rest| u8::from_str_radix(&rest[..2], 16).expect("two digits"))
+}
+
+/// The answer of a call that gets no outcome.
+fn started(kind: u8, flags: u8, arguments: &[u8]) -> Option<u8> {
+    number(&bench(&[&request(kind, flags, 0, arguments)]))
+}
+
+#[test]
+fn the_worked_case() {
+    let printed = bench(&["010001000040AABB", "0105", "00"]);
+    assert_eq!(printed, ["0044040040AABB", "0044040040AABB", "FF00000001000000"]);
+}
+
+#[test]
+fn the_window_figures() {
+    let figures: [(u16, u16, Option<u8>); 8] = [
+        (0x4000, 1, None),
+        (0x3FFF, 1, Some(5)),
+        (0x5FFF, 1, None),
+        (0x5FFF, 2, Some(5)),
+        (0x4000, 8192, None),
+        (0x4001, 8192, Some(5)),
+        (0xFFFF, 0, Some(0)),
+        (0xFFFF, 2, Some(5)),
+    ];
+    for (address, length, expected) in figures {
+        let payload = vec![0; usize::from(length)];
+        let write = [&address.to_le_bytes()[..], &payload].concat();
+        let read = [address.to_le_bytes(), length.to_le_bytes()].concat();
+        for flags in 0..4 {
+            assert_eq!(started(0x01, flags, &write), expected);
+            assert_eq!(started(0x02, flags, &read), expected);
+        }
+    }
+}
+
+/// A bus on which nothing is ever heard of again.
+struct Silence;
+
+impl Partner for Silence {
+    fn outcome(&mut self, _transfer: Transfer<'_>) -> Option<Outcome> {
+        None
+    }
+}
+
+#[test]
+fn the_window_figure_that_no_line_can_ask_for() {
+    for kind in [Kind::WriteDataflash, Kind::ReadDataflash] {
+        let long = Request {
+            kind,
+            pec_write: false,
+            pec_read: false,
+            retries: 0,
+            number: 0x4000,
+            length: 8193,
+            payload: vec![0; 8193],
+        };
+        assert_eq!(call::run(&long, &mut Silence).answer, Some(Answer::plain(5)));
+        assert_eq!(Request::from_bytes(&long.to_bytes()), None);
+    }
+}
+
+#[test]
+fn each_length_limit_is_the_largest_that_passes() {
+    let writes: [(u8, usize, usize); 6] =
+        [(0x03, 1, 32), (0x07, 1, 33), (0x0D, 1, 32), (0x10, 4, 32), (0x12, 0, 32), (0x15, 0, 38)];
+    for (kind, front, limit) in writes {
+        assert_eq!(started(kind, 1, &vec![0; front + limit]), None);
+        assert_eq!(started(kind, 1, &vec![0; front + limit + 1]), Some(4));
+    }
+    for (kind, front, limit) in [(0x04, 1, 32), (0x05, 4, 32), (0x0F, 0, 32), (0x11, 0, 33)] {
+        let read = |length: u8| [&vec![0; front][..], &[length, 0]].concat();
+        assert_eq!(started(kind, 2, &read(limit)), None);
+        assert_eq!(started(kind, 2, &read(limit + 1)), Some(4));
+    }
+}
+
+#[test]
+fn a_plain_write_without_pec_and_unchecked_and_buffer_reads_have_no_limit() {
+    assert_eq!(started(0x15, 2, &[0; 8192]), None);
+    assert_eq!(started(0x06, 3, &[0x0D, 0x00, 0x20]), None);
+    assert_eq!(started(0x0C, 3, &[0x0D, 0x00, 0x20]), None);
+}
+
+#[test]
+fn a_command_with_input_is_7_and_4_comes_first() {
+    let command = |output: u8, input: usize| [&[0, 0x35, 0x44, 0, output, 0][..], &vec![0; input]].concat();
+    assert_eq!(started(0x05, 0, &command(0, 1)), Some(7));
+    assert_eq!(started(0x05, 0, &command(32, 32)), Some(7));
+    assert_eq!(started(0x05, 0, &command(0, 33)), Some(4));
+    assert_eq!(started(0x05, 0, &command(33, 1)), Some(4));
+}
+
+#[test]
+fn a_write_of_33_bytes_makes_frames_of_36_and_5_bytes() {
+    let payload: Vec<u8> = (0..33).collect();
+    let printed = bench(&[&request(0x01, 0, 0, &[&[0x00, 0x40], &payload[..]].concat()), "00", "00"]);
+    let first = line(&[&[0x00, 0x44, 0x22, 0x00, 0x40], &payload[..32]].concat());
+    assert_eq!(printed, [first, "0044032040".to_owned() + "20", "FF00000000000000".into()]);
+}
+
+#[test]
+fn a_data_flash_write_renews_its_budget_at_each_block() {
+    let long = request(0x01, 0, 1, &[&[0x00, 0x40][..], &[0; 65]].concat());
+    let outcomes = ["02", "00", "0111", "00", "02", "00"];
+    let printed = bench(&[&[long.as_str()], &outcomes[..]].concat());
+    assert_eq!(printed.last().map(String::as_str), Some("FF00000003000000"));
+}
+
+#[test]
+fn a_failed_data_flash_write_tells_the_bytes_before_the_failing_block() {
+    let long = request(0x01, 0, 0, &[&[0x00, 0x40][..], &[0; 65]].concat());
+    assert_eq!(bench(&[&long, "0111"])[1], "FF01110000000000");
+    assert_eq!(bench(&[&long, "00", "0111"])[2], "FF06200000000000");
+    assert_eq!(bench(&[&long, "00", "00", "02"])[3], "FF06400000000000");
+}
+
+#[test]
+fn a_data_flash_read_has_one_budget_and_sends_a_failed_blocks_own_address_again() {
+    let long = request(0x02, 0, 1, &[0x00, 0x40, 33, 0]);
+    let whole = format!("00{}", "77".repeat(35));
+    let printed = bench(&[&long, "00", &whole, "02", "00", "0111"]);
+    let transfers = ["0044020040", "01442300", "01440400", "0044022040", "01440400"];
+    assert_eq!(printed[..5], transfers);
+    assert_eq!(printed[5], format!("FF01110001000000{}A5", "77".repeat(32)));
+}
+
+#[test]
+fn after_a_bad_pec_the_blocks_own_address_goes_out_again() {
+    let long = request(0x02, 2, 1, &[0x00, 0x40, 1, 0]);
+    let good = sealed_reply(0x44, &[0x77; 35]);
+    let bad = format!("00{}", "77".repeat(36));
+    let printed = bench(&[&long, "00", &bad, "00", &good]);
+    let transfers = ["0044020040AB", "01442400", "0044020040AB", "01442400", "FF0000000100000077"];
+    assert_eq!(printed, transfers);
+}
+
+#[test]
+fn a_mac_read_restarts_at_its_command_frame() {
+    let printed = bench(&["0F0001000100", "00", "02", "00", "0001020377"]);
+    let expected = ["0044027B00", "01440400", "0044027B00", "01440400", "FF0000000100000077"];
+    assert_eq!(printed, expected);
+}
+
+#[test]
+fn override_figures_are_signed_and_low_byte_first() {
+    let bytes = "FFFF0080341200000100";
+    assert_eq!(bench(&[&format!("14000000{bytes}"), "00"])[0], format!("00440CB000{bytes}"));
+    let printed = bench(&["13000000", "00", &format!("000CB000{bytes}")]);
+    assert_eq!(printed, ["004402B000", "01440D00", &format!("FF00000000000000{bytes}")]);
+}
+
+#[test]
+fn a_key_of_another_length_is_8() {
+    assert_eq!(bench(&[&format!("09000000{}", "00".repeat(27))]), ["FF08000000000000"]);
+    assert_eq!(bench(&[&format!("0B000000{}", "00".repeat(17))]), ["FF08000000000000"]);
+}
+
+#[test]
+fn a_refused_reading_call_prints_its_buffer_all_a5() {
+    assert_eq!(bench(&["02000000FF3F0200"]), ["FF05000000000000A5A5"]);
+    assert_eq!(bench(&["040000000D2100"]), [format!("FF04000000000000{}", "A5".repeat(33))]);
+    assert_eq!(bench(&["05000000003544000200AA"]), ["FF07000000000000A5A5"]);
+}
+
+#[test]
+fn bad_lines_are_11() {
+    let refused = ["FF0B000000000000"];
+    assert_eq!(bench(&[]), refused);
+    for bad in
+        ["", "0", "16000000", "15040000", "150000", "1500000g", "150000AA ", "15000000\r", "020000000040"]
+    {
+        assert_eq!(bench(&[bad]), refused, "{bad:?}");
+    }
+    for bad in ["", "0", "03", "01", "010203", "0200", "02 ", "00\r", "0a"] {
+        assert_eq!(bench(&["15000000", bad]), ["00", "FF0B000000000000"], "{bad:?}");
+    }
+}
+
+#[test]
+fn a_wrong_reply_is_9_and_one_over_8192_bytes_is_11() {
+    let waited = ["0200010000400100", "0111", "00"];
+    let transfers = ["0044020040", "0044020040", "01440400"];
+    let reply = |length: usize| format!("00{}", "00".repeat(length));
+    for (length, last) in
+        [(3, "FF09000001000000A5"), (8192, "FF09000001000000A5"), (8193, "FF0B000001000000A5")]
+    {
+        let printed = bench(&[&waited[..], &[&reply(length)]].concat());
+        assert_eq!(printed, [&transfers[..], &[last]].concat());
+    }
+}
+
+#[test]
+fn with_no_outcomes_left_the_waits_and_the_buffer_are_printed() {
+    assert_eq!(bench(&["0200010000400100", "0111"]), ["0044020040", "0044020040", "FE01000000A5"]);
+    assert_eq!(bench(&["15000100AA"]), ["00AA", "FE00000000"]);
+}

@@ -1,0 +1,53 @@
+//! Lists that the generators write are read back and answered the same.
+
+use oracle::bench::Report;
+use oracle::generate;
+use oracle::list::{self, Case};
+
+/// The list that a generator writes, and the number of its cases.
+fn list_of(generator: impl FnOnce(generate::Sink<'_>)) -> (Vec<u8>, u64) {
+    let (mut text, mut cases) = (Vec::new(), 0);
+    generator(&mut |case: Case, _: Report| {
+        case.write(&mut text).expect("memory can be written");
+        cases += 1;
+    });
+    (text, cases)
+}
+
+fn replays(generator: impl FnOnce(generate::Sink<'_>)) {
+    let (text, cases) = list_of(generator);
+    let replayed = list::replay(&mut text.as_slice()).expect("a generator writes good lists");
+    assert_eq!(replayed.cases, cases);
+    assert!(replayed.first.is_none(), "{:?}", replayed.first);
+}
+
+#[test]
+fn the_sample_replays() {
+    replays(generate::sample);
+}
+
+#[test]
+fn random_cases_replay() {
+    replays(|sink| generate::random(5, 20_000, sink));
+}
+
+#[test]
+fn the_exhaustive_list_is_complete_at_its_usual_depth() {
+    let (_, usual) = list_of(|sink| generate::exhaustive(9, sink));
+    let (_, deeper) = list_of(|sink| generate::exhaustive(30, sink));
+    assert_eq!(usual, deeper);
+}
+
+#[test]
+fn the_sample_has_every_answer_and_fits_a_repository() {
+    let mut numbers = [0; 12];
+    let mut waiting = 0;
+    generate::sample(&mut |_, report| match report.answer {
+        Some(answer) => numbers[usize::from(answer.number)] += 1,
+        None => waiting += 1,
+    });
+    let missing: Vec<usize> = (0..12).filter(|number| numbers[*number] == 0).collect();
+    assert_eq!(missing, [10], "an ended call takes no outcome on the bench");
+    assert!(waiting > 0);
+    assert!(list_of(generate::sample).0.len() < 1_500_000);
+}
