@@ -6,7 +6,7 @@ use std::future::pending;
 use embedded_hal_async::delay::DelayNs;
 use embedded_hal_async::i2c::{Error, ErrorType, I2c};
 
-/// The gauge's address, the wait after a failure, as document 01 has them.
+/// The gauge's address and the wait after a failure, as document 01 has them.
 const GAUGE_ADDRESS: u8 = 0x0B;
 const WAIT_MS: u32 = 10;
 

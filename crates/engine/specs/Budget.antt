@@ -12,9 +12,13 @@ use Rattle.engine.specs.declared.budget.Tally.{Tally}
 unfoldable pub failed : Budget → Failed
 failed b = if eqb (b .left) 0 then Spent else Retry (record { left = b .left - 1 })
 
+-- one more; a count stays at the largest number
+abbrev pub moreOf : ℕ → ℕ
+moreOf n = min (n + 1) 4294967295
+
 unfoldable pub nothing : Tally
 nothing = record { waits = 0 }
 
--- one wait more; the count stays at the largest number
+-- one wait more
 unfoldable pub waited : Tally → Tally
-waited t = record { waits = min (t .waits + 1) 4294967295 }
+waited t = record { waits = moreOf (t .waits) }

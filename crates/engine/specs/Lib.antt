@@ -1,3 +1,4 @@
 pub mod Pick
 pub mod Budget
+pub mod Bus
 pub mod Limit

@@ -1,7 +1,6 @@
 // What a failed attempt costs: the one rule of retries, and the count of waits.
 ghost use mathlib.Core.Path.{_≡_};
-ghost use Prim.Native.Nat.{_+_, min};
-ghost use Rattle.engine.specs.Budget.{failed, nothing, waited};
+ghost use Rattle.engine.specs.Budget.{failed, moreOf, nothing, waited};
 
 // The retries that are left to a frame, or to a whole reading call.
 pub struct Budget {
@@ -36,11 +35,11 @@ pub struct Tally {
     pub waits: u32,
 }
 
-// One more, up to the largest count.
-fn bump(waits: u32) -> u32
-    ensures { λ r. ⌜ r ≡ min (waits + 1) 4294967295 ⌝ }
+// One more. The count stays at the largest number, which no started call reaches.
+pub fn more(n: u32) -> u32
+    ensures { λ r. ⌜ r ≡ moreOf n ⌝ }
 {
-    if waits < 4294967295 { waits + 1 } else { waits }
+    if n < 4294967295 { n + 1 } else { n }
 }
 
 impl Tally {
@@ -51,12 +50,12 @@ impl Tally {
         Tally { waits: 0 }
     }
 
-    // One wait more. The count stays at the largest number, which no started call reaches.
+    // One wait more.
     pub fn wait(self) -> Tally
         ensures { λ r. ⌜ r ≡ waited self ⌝ }
     {
         Tally {
-            waits: bump(self.waits),
+            waits: more(self.waits),
         }
     }
 }

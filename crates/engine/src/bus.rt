@@ -1,5 +1,8 @@
 // What passes between a call and the bus.
 use protocol::error::Answer;
+use protocol::frame::Laid;
+ghost use mathlib.Core.Path.{_≡_};
+ghost use Rattle.engine.specs.Bus.{writeOf, phaseAfter, fitsOf};
 
 // What the bus made of a transfer.
 pub enum Outcome {
@@ -27,4 +30,48 @@ pub enum Transfer {
 pub enum Phase {
     Waiting,
     Ended(Answer),
+}
+
+impl Transfer {
+    // A frame that was laid is to be sent; one that has no room is refused.
+    pub fn write(laid: Laid) -> Transfer
+        ensures { λ r. ⌜ r ≡ writeOf laid ⌝ }
+    {
+        match laid {
+            Laid::Frame(n) => Transfer::Write(n),
+            Laid::NoRoom => Transfer::Refused(Answer::WrongBuffer),
+        }
+    }
+}
+
+impl Phase {
+    // Where a call of so many steps stands that has made `made` of them.
+    pub fn after(steps: usize, made: u32) -> Phase
+        ensures { λ r. ⌜ r ≡ phaseAfter steps made ⌝ }
+    {
+        if steps <= made as usize {
+            Phase::Ended(Answer::Done)
+        } else {
+            Phase::Waiting
+        }
+    }
+}
+
+// The lengths of what was lent at the start: payload or buffer, and work buffer.
+pub struct Lent {
+    pub length: usize,
+    pub work: usize,
+}
+
+impl Lent {
+    // Whether the same lengths are lent again.
+    pub fn fits(self, length: usize, work: usize) -> bool
+        ensures { λ r. ⌜ r ≡ fitsOf self length work ⌝ }
+    {
+        if length == self.length {
+            work == self.work
+        } else {
+            false
+        }
+    }
 }

@@ -1,19 +1,18 @@
 -- A writing call, step by step. (01, The step machine; Frames and retries)
 -- Assumes nothing.
-use Prim.Native.Nat.{ℕ, _+_, _*_, min}
-use mathlib.Core.Bool.{Bool, true, false, _&&_}
+use Prim.Native.Nat.{ℕ, _*_}
+use mathlib.Core.Bool.{Bool, true, false}
 use mathlib.Core.List.{List}
 use lib.ListN.{length}
-use lib.Dec.{leb, eqb}
+use lib.Dec.{eqb}
 use Rattle.protocol.specs.Pick.{if_then_else_}
 use Rattle.protocol.specs.Bytes.{sendOf}
 use Rattle.protocol.specs.Frame.{laidOf, workLaid}
 use Rattle.protocol.specs.declared.error.Answer.{Answer}
 use Rattle.protocol.specs.declared.error.Answer.the-variants as answer
-use Rattle.protocol.specs.declared.frame.Laid.{Laid}
-use Rattle.protocol.specs.declared.frame.Laid.the-variants as laid
 use Rattle.engine.specs.Pick.{case_waiting_ended_, case_acknowledged_error_timeout_, case_retry_spent_}
-use Rattle.engine.specs.Budget.{failed, nothing, waited}
+use Rattle.engine.specs.Budget.{failed, moreOf, nothing, waited}
+use Rattle.engine.specs.Bus.{writeOf, phaseAfter, fitsOf}
 use Rattle.engine.specs.Limit.{admitted}
 use Rattle.engine.specs.declared.budget.Budget.{Budget}
 use Rattle.engine.specs.declared.bus.Outcome.{Outcome}
@@ -32,16 +31,12 @@ use Rattle.writing.specs.declared.call.WriteReported.the-variants as rep
 -- a call with a payload of n bytes and a work buffer of w
 unfoldable pub startOf : WritePlan → ℕ → ℕ → WriteCall
 startOf plan n w = record {
-  task = record { plan = plan; length = n; work = w };
+  task = record { plan = plan; lent = record { length = n; work = w } };
   phase = admitted (plan .limit) n w;
   sent = 0;
   budget = record { left = plan .retries };
   tally = nothing;
 }
-
--- the lent lengths are those of the start
-unfoldable pub fitsOf : WriteCall → ℕ → ℕ → Bool
-fitsOf call n w = eqb n (call .task .length) && eqb w (call .task .work)
 
 -- a plain write with no PEC sends the caller's own bytes
 unfoldable pub ownBytes : WriteCall → Bool
@@ -50,11 +45,6 @@ ownBytes call = if isPlain (call .task .plan .frames) then (if call .task .plan 
 -- the frame that is due, before its PEC
 unfoldable pub dueBytes : WriteCall → List ℕ → List ℕ
 dueBytes call payload = bytesAt (call .task .plan .frames) (call .sent) payload
-
--- a frame that was laid is to be sent; 8 where it has no room
-unfoldable pub writeOf : Laid → Transfer
-writeOf (laid.Frame n) = transfer.Write n
-writeOf laid.NoRoom = transfer.Refused answer.WrongBuffer
 
 unfoldable pub shownOf : WriteCall → List ℕ → ℕ → Transfer
 shownOf call payload w = writeOf (laidOf (call .task .plan .pec) (dueBytes call payload) w)
@@ -66,7 +56,7 @@ workShown call payload work = workLaid (call .task .plan .pec) (dueBytes call pa
 unfoldable pub nextOf : WriteCall → List ℕ → ℕ → Transfer
 nextOf call payload w =
     case call .phase
-    waiting (if fitsOf call (length payload) w then
+    waiting (if fitsOf (call .task .lent) (length payload) w then
     (if ownBytes call then transfer.Write (length payload) else shownOf call payload w)
     else transfer.Refused answer.WrongBuffer)
     ended transfer.Ended
@@ -75,7 +65,7 @@ nextOf call payload w =
 unfoldable pub workAfter : WriteCall → List ℕ → List ℕ → List ℕ
 workAfter call payload work =
     case call .phase
-    waiting (if fitsOf call (length payload) (length work) then
+    waiting (if fitsOf (call .task .lent) (length payload) (length work) then
     (if ownBytes call then work else workShown call payload work)
     else work)
     ended (λ a. work)
@@ -84,18 +74,11 @@ workAfter call payload work =
 unfoldable pub partOf : WriteCall → List ℕ → List ℕ → ℕ → List ℕ
 partOf call payload work n = if ownBytes call then sendOf payload work false n else sendOf payload work true n
 
--- one frame more; the count stays at the largest number
-abbrev pub moreOf : ℕ → ℕ
-moreOf sent = min (sent + 1) 4294967295
-
-unfoldable pub writtenOf : ℕ → ℕ → Phase
-writtenOf count sent = if leb count sent then phase.Ended answer.Done else phase.Waiting
-
 -- the next frame, with a budget of its own
 unfoldable pub advanceOf : WriteCall → WriteCall
 advanceOf call = record {
   task = call .task;
-  phase = writtenOf (countOf (call .task .plan .frames) (call .task .length)) (moreOf (call .sent));
+  phase = phaseAfter (countOf (call .task .plan .frames) (call .task .lent .length)) (moreOf (call .sent));
   sent = moreOf (call .sent);
   budget = record { left = call .task .plan .retries };
   tally = call .tally;
@@ -149,7 +132,7 @@ repliedOf o r =
 unfoldable pub reportOf : WriteCall → Outcome → ℕ → ℕ → ℕ → WriteReported
 reportOf call o r n w =
     case call .phase
-    waiting (if fitsOf call n w then
+    waiting (if fitsOf (call .task .lent) n w then
     (if repliedOf o r then reported.Refused answer.WrongReply call else reported.Taken (settleOf call o))
     else reported.Refused answer.WrongBuffer call)
     ended (λ a. reported.Refused answer.NothingOutstanding call)

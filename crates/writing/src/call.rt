@@ -1,18 +1,19 @@
 // The call itself: start, next transfer, report of an outcome.
 use crate::frames::Frames;
+use engine::budget;
 use engine::budget::Budget;
 use engine::budget::Failed;
 use engine::budget::Tally;
+use engine::bus::Lent;
 use engine::bus::Outcome;
 use engine::bus::Phase;
 use engine::bus::Transfer;
 use engine::limit::Limit;
 use protocol::bytes;
 use protocol::error::Answer;
-use protocol::frame::Laid;
 ghost use mathlib.Core.Path.{_≡_};
 ghost use lib.ListN.{length};
-ghost use Rattle.writing.specs.Writing.{startOf, fitsOf, ownBytes, shownOf, workShown, nextOf, workAfter, partOf, moreOf, writtenOf, advanceOf, gaveUp, retryOf, endOf, failOf, settleOf, repliedOf, reportOf};
+ghost use Rattle.writing.specs.Writing.{startOf, ownBytes, shownOf, workShown, nextOf, workAfter, partOf, advanceOf, gaveUp, retryOf, endOf, failOf, settleOf, repliedOf, reportOf};
 
 // What a writing call is: its retries, whether its frames carry a PEC, what it asks of the payload's length, and its frames.
 pub struct WritePlan {
@@ -25,8 +26,7 @@ pub struct WritePlan {
 // What does not change while a writing call runs: the plan, and the lengths of payload and work buffer at the start.
 pub struct WriteTask {
     pub plan: WritePlan,
-    pub length: usize,
-    pub work: usize,
+    pub lent: Lent,
 }
 
 // A writing call. It goes in by value and comes back.
@@ -46,24 +46,6 @@ pub enum WriteReported {
     Refused(Answer, WriteCall),
     // Taken, with the new call.
     Taken(WriteCall),
-}
-
-// One frame more. The count stays at the largest number, which no started call reaches.
-fn more(sent: u32) -> u32
-    ensures { λ r. ⌜ r ≡ moreOf sent ⌝ }
-{
-    if sent < 4294967295 { sent + 1 } else { sent }
-}
-
-// Where a call stands that has sent so many of its frames.
-fn written(frames: usize, sent: u32) -> Phase
-    ensures { λ r. ⌜ r ≡ writtenOf frames sent ⌝ }
-{
-    if frames <= sent as usize {
-        Phase::Ended(Answer::Done)
-    } else {
-        Phase::Waiting
-    }
 }
 
 // What a call says that gives up: why, or how much of a data-flash write was acknowledged.
@@ -89,28 +71,17 @@ impl WriteCall {
         ensures { λ r. ⌜ r ≡ startOf plan (length (now (payload .entry))) (length (now (work .entry))) ⌝ }
     {
         let limit = plan.limit;
-        let task = WriteTask {
-            plan,
+        let lent = Lent {
             length: payload.len(),
             work: work.len(),
         };
+        let task = WriteTask { plan, lent };
         WriteCall {
             task,
             phase: limit.admit(payload.len(), work.len()),
             sent: 0,
             budget: Budget { left: plan.retries },
             tally: Tally::new(),
-        }
-    }
-
-    // Whether the lent payload and work buffer have the lengths of the start.
-    fn fits(self, payload: usize, work: usize) -> bool
-        ensures { λ r. ⌜ r ≡ fitsOf self payload work ⌝ }
-    {
-        if payload == self.task.length {
-            work == self.task.work
-        } else {
-            false
         }
     }
 
@@ -135,10 +106,7 @@ impl WriteCall {
         let task = self.task;
         let plan = task.plan;
         let frames = plan.frames;
-        match frames.lay(payload, self.sent, work, plan.pec) {
-            Laid::Frame(n) => Transfer::Write(n),
-            Laid::NoRoom => Transfer::Refused(Answer::WrongBuffer),
-        }
+        Transfer::write(frames.lay(payload, self.sent, work, plan.pec))
     }
 
     // The next transfer, the same if asked again; the answer once the call has ended.
@@ -146,10 +114,12 @@ impl WriteCall {
         ensures { λ r. ⌜ (r ≡ nextOf self (now (payload .entry)) (length (now (work .entry)))) × (now (work .exit) ≡ workAfter self (now (payload .entry)) (now (work .entry))) ⌝ }
     {
         let phase = self.phase;
+        let task = self.task;
+        let lent = task.lent;
         match phase {
             Phase::Ended(answer) => Transfer::Ended(answer),
             Phase::Waiting => {
-                if self.fits(payload.len(), work.len()) {
+                if lent.fits(payload.len(), work.len()) {
                     if self.own_bytes() {
                         Transfer::Write(payload.len())
                     } else {
@@ -180,11 +150,12 @@ impl WriteCall {
         let task = self.task;
         let plan = task.plan;
         let frames = plan.frames;
+        let lent = task.lent;
         let tally = self.tally;
-        let sent = more(self.sent);
+        let sent = budget::more(self.sent);
         WriteCall {
             task,
-            phase: written(frames.count(task.length), sent),
+            phase: Phase::after(frames.count(lent.length), sent),
             sent,
             budget: Budget { left: plan.retries },
             tally,
@@ -268,10 +239,12 @@ impl WriteCall {
         ensures { λ r. ⌜ r ≡ reportOf self outcome (length (now (reply .entry))) (length (now (payload .entry))) (length (now (work .entry))) ⌝ }
     {
         let phase = self.phase;
+        let task = self.task;
+        let lent = task.lent;
         match phase {
             Phase::Ended(_) => WriteReported::Refused(Answer::NothingOutstanding, self),
             Phase::Waiting => {
-                if self.fits(payload.len(), work.len()) {
+                if lent.fits(payload.len(), work.len()) {
                     if WriteCall::replied(outcome, reply.len()) {
                         WriteReported::Refused(Answer::WrongReply, self)
                     } else {

@@ -56,7 +56,7 @@ fn any_retries(rng: &mut Rng) -> u16 {
     }
 }
 
-/// Mostly 44 in front, as the gauge's own commands have.
+/// Half of them with 44 in front, as the gauge's own commands have.
 fn any_command(rng: &mut Rng) -> u32 {
     let number = rng.below(1 << 32) as u32;
     if rng.percent(50) { number & 0xFFFF | 0x44_0000 } else { number }

@@ -72,7 +72,7 @@ impl Replies {
     fn acknowledged(&mut self, transfer: &Transfer<'_>, right: bool) -> Line {
         let mut said = vec![0x00];
         said.extend(match (*transfer, self.pec_command) {
-            (Transfer::Write(_), _) => Vec::new(),
+            (Transfer::Write(_) | Transfer::Read { count: 0, .. }, _) => Vec::new(),
             (Transfer::Read { count, .. }, None) => self.rng.bytes(count),
             (Transfer::Read { command, count }, Some(pec_command)) => {
                 let data = self.rng.bytes(count - 1);

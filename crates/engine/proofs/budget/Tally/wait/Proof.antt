@@ -6,12 +6,12 @@ use Rattle.engine.specs.Budget.{waited}
 use Rattle.engine.proofs.budget.Tally.wait.Statement.{statement}
 use Rattle.engine.proofs.budget.Tally.wait.Tie as tie
 
-bump-requires : tie.Need-bump-requires
-bump-requires c κs = search needs
+more-requires : tie.Need-more-requires
+more-requires c κs = search needs
 
 returns : tie.Need-returns
 unfolding waited
 returns c = cc
 
 pub wait-spec : {M : Type 1} → statement M
-wait-spec = tie.close (tie.spec bump-requires returns)
+wait-spec = tie.close (tie.spec more-requires returns)

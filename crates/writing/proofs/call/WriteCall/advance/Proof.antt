@@ -12,12 +12,12 @@ more-requires c κs = search needs
 count-requires : tie.Need-count-requires
 count-requires c κs = search needs
 
-written-requires : tie.Need-written-requires
-written-requires c κs = search needs
+after-requires : tie.Need-after-requires
+after-requires c κs = search needs
 
 returns : tie.Need-returns
 unfolding advanceOf
 returns c = cc
 
 pub advance-spec : {M : Type 1} → statement M
-advance-spec = tie.close (tie.spec more-requires count-requires written-requires returns)
+advance-spec = tie.close (tie.spec more-requires count-requires after-requires returns)

@@ -1,10 +1,10 @@
--- `writing::call::WriteCall::fits` meets its contract: both tests are those of `fitsOf`.
+-- `engine::bus::Lent::fits` meets its contract: both tests are those of `fitsOf`.
 -- Assumes nothing.
 use Prim.Native.Nat.{_-_}
 use Rattle.protocol.proofs.Cases.{tests}
-use Rattle.writing.specs.Writing.{fitsOf}
-use Rattle.writing.proofs.call.WriteCall.fits.Statement.{statement}
-use Rattle.writing.proofs.call.WriteCall.fits.Tie as tie
+use Rattle.engine.specs.Bus.{fitsOf}
+use Rattle.engine.proofs.bus.Lent.fits.Statement.{statement}
+use Rattle.engine.proofs.bus.Lent.fits.Tie as tie
 
 returns : tie.Need-returns
 unfolding fitsOf
