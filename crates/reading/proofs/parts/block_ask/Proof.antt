@@ -1,30 +1,30 @@
+-- `reading::parts::block_ask` meets its contract: each return is a case of `blockAsk`.
+-- Assumes nothing.
+use Prim.Native.Nat.{_-_}
 use borrow.Author.Needs.{needs}
+use Rattle.engine.proofs.Cases.{cases}
+use Rattle.reading.specs.Parts.{blockAsk}
 use Rattle.reading.proofs.parts.block_ask.Statement.{statement}
 use Rattle.reading.proofs.parts.block_ask.Tie as tie
-use Rattle.reading.proofs.parts.block_ask.Reads as reads
-use Rattle.reading.proofs.parts.block_ask.Lts as lts
-use Rattle.protocol.proofs.bytes.least.Reads as least-reads
-use Rattle.protocol.proofs.reply.Ask.mac.Reads as mac-reads
 
--- src/parts.rt:78:9
 mac-requires : tie.Need-mac-requires
 mac-requires c κs = search needs
 
--- src/parts.rt:82:13
 least-requires : tie.Need-least-requires
 least-requires c κs = search needs
 
--- src/parts.rt:80:9
 mac-requires-2 : tie.Need-mac-requires-2
 mac-requires-2 c κs = search needs
 
--- src/parts.rt:74:1
 returns : tie.Need-returns
-returns c = ?
+unfolding blockAsk
+returns c = search cases
 
--- src/parts.rt:74:1
 returns-2 : tie.Need-returns-2
-returns-2 c = ?
+unfolding blockAsk
+returns-2 c =
+    let e = rw (c .before .least .ensures) at (c .mac2 .ensures) in
+    search cases
 
 pub block-ask-spec : {M : Type 1} → statement M
 block-ask-spec = tie.close (tie.spec mac-requires least-requires mac-requires-2 returns returns-2)

@@ -1,17 +1,17 @@
+-- `reading::call::ReadCall::due` meets its contract: the ask is that of the read that is due.
+-- Assumes nothing.
+use Prim.Native.Nat.{_-_}
 use borrow.Author.Needs.{needs}
+use Rattle.reading.specs.Reading.{dueAsk}
 use Rattle.reading.proofs.call.ReadCall.due.Statement.{statement}
 use Rattle.reading.proofs.call.ReadCall.due.Tie as tie
-use Rattle.reading.proofs.call.ReadCall.due.Reads as reads
-use Rattle.reading.proofs.call.ReadCall.due.Lts as lts
-use Rattle.reading.proofs.parts.Reads.ask.Reads as ask-reads
 
--- src/call.rt:122:9
 ask-requires : tie.Need-ask-requires
 ask-requires c κs = search needs
 
--- src/call.rt:115:5
 returns : tie.Need-returns
-returns c = ?
+unfolding dueAsk
+returns c = cc
 
 pub due-spec : {M : Type 1} → statement M
 due-spec = tie.close (tie.spec ask-requires returns)

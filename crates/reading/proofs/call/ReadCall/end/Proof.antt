@@ -1,11 +1,13 @@
+-- `reading::call::ReadCall::end` meets its contract: the fields are those of `endOf`.
+-- Assumes nothing.
+use Prim.Native.Nat.{_-_}
+use Rattle.reading.specs.Reading.{endOf}
 use Rattle.reading.proofs.call.ReadCall.end.Statement.{statement}
 use Rattle.reading.proofs.call.ReadCall.end.Tie as tie
-use Rattle.reading.proofs.call.ReadCall.end.Reads as reads
-use Rattle.reading.proofs.call.ReadCall.end.Lts as lts
 
--- src/call.rt:233:5
 returns : tie.Need-returns
-returns c = ?
+unfolding endOf
+returns c = cc
 
 pub end-spec : {M : Type 1} → statement M
 end-spec = tie.close (tie.spec returns)

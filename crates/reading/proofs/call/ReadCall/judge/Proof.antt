@@ -1,38 +1,35 @@
+-- `reading::call::ReadCall::judge` meets its contract: each return is a case of `judgeOf`.
+-- Assumes nothing.
+use Prim.Native.Nat.{_-_}
 use borrow.Author.Needs.{needs}
+use Rattle.engine.proofs.Cases.{cases}
+use Rattle.reading.specs.Reading.{judgeOf}
 use Rattle.reading.proofs.call.ReadCall.judge.Statement.{statement}
 use Rattle.reading.proofs.call.ReadCall.judge.Tie as tie
-use Rattle.reading.proofs.call.ReadCall.judge.Reads as reads
-use Rattle.reading.proofs.call.ReadCall.judge.Lts as lts
-use Rattle.engine.proofs.bus.Lent.fits.Reads as fits-reads
-use Rattle.reading.proofs.call.ReadCall.weigh.Reads as weigh-reads
 
--- src/call.rt:290:49
 enum-told : tie.Need-enum-told
 enum-told c = search needs
 
--- src/call.rt:292:20
 enum-told-2 : tie.Need-enum-told-2
 enum-told-2 c = search needs
 
--- src/call.rt:292:20
 fits-requires : tie.Need-fits-requires
 fits-requires c κs = search needs
 
--- src/call.rt:293:21
 weigh-requires : tie.Need-weigh-requires
 weigh-requires c κs = search needs
 
--- src/call.rt:283:5
 returns : tie.Need-returns
-returns c = ?
+unfolding judgeOf
+returns c = search cases
 
--- src/call.rt:283:5
 returns-2 : tie.Need-returns-2
-returns-2 c = ?
+unfolding judgeOf
+returns-2 c = search cases
 
--- src/call.rt:283:5
 returns-3 : tie.Need-returns-3
-returns-3 c = ?
+unfolding judgeOf
+returns-3 c = search cases
 
 pub judge-spec : {M : Type 1} → statement M
 judge-spec =

@@ -1,35 +1,33 @@
+-- `reading::call::ReadCall::show` meets its contract: the head or the read, as the state says.
+-- Assumes nothing.
+use Prim.Native.Nat.{_-_}
+use mathlib.Core.Path.{refl}
 use borrow.Author.Needs.{needs}
+use Rattle.engine.proofs.Cases.{cases}
+use Rattle.protocol.proofs.Cases.{is-false}
+use Rattle.reading.specs.Reading.{shownOf, workShown}
 use Rattle.reading.proofs.call.ReadCall.show.Statement.{statement}
 use Rattle.reading.proofs.call.ReadCall.show.Tie as tie
-use Rattle.reading.proofs.call.ReadCall.show.Reads as reads
-use Rattle.reading.proofs.call.ReadCall.show.Lts as lts
-use Rattle.protocol.proofs.reply.Ask.count.Reads as count-reads
-use Rattle.reading.proofs.call.ReadCall.due.Reads as due-reads
-use Rattle.reading.proofs.call.ReadCall.show_head.Reads as show-head-reads
 
--- src/call.rt:140:13
 show-head-requires : tie.Need-show-head-requires
 show-head-requires c κs = search needs
 
--- src/call.rt:142:17
 due-requires : tie.Need-due-requires
 due-requires c κs = search needs
 
--- src/call.rt:143:41
 count-requires : tie.Need-count-requires
 count-requires c κs = search needs
 
--- src/call.rt:136:5
 same-length : tie.Need-same-length
 same-length c = search needs
 
--- src/call.rt:136:5
 returns : tie.Need-returns
-returns c = ?
+unfolding shownOf workShown
+returns c = search cases
 
--- src/call.rt:136:5
 returns-2 : tie.Need-returns-2
-returns-2 c = ?
+unfolding shownOf workShown
+returns-2 c = (is-false _ _ _ _ (c .before .before .if1 .left) (rw (c .count .ensures, c .before .due .ensures)), is-false _ _ _ _ (c .before .before .if1 .left) refl)
 
 pub show-spec : {M : Type 1} → statement M
 show-spec =

@@ -1,37 +1,34 @@
+-- `reading::parts::Reads::count` meets its contract: each variant has its own case.
+-- Assumes nothing.
+use Prim.Native.Nat.{_-_}
 use borrow.Author.Needs.{needs}
+use Rattle.reading.specs.Parts.{countOf}
 use Rattle.reading.proofs.parts.Reads.count.Statement.{statement}
 use Rattle.reading.proofs.parts.Reads.count.Tie as tie
-use Rattle.reading.proofs.parts.Reads.count.Reads as reads
-use Rattle.reading.proofs.parts.Reads.count.Lts as lts
-use Rattle.protocol.proofs.bytes.blocks.Reads as blocks-reads
 
--- src/parts.rt:94:31
 enum-told : tie.Need-enum-told
 enum-told c = search needs
 
--- src/parts.rt:95:31
 enum-told-2 : tie.Need-enum-told-2
 enum-told-2 c = search needs
 
--- src/parts.rt:96:33
 enum-told-3 : tie.Need-enum-told-3
 enum-told-3 c = search needs
 
--- src/parts.rt:96:33
 blocks-requires : tie.Need-blocks-requires
 blocks-requires c κs = search needs
 
--- src/parts.rt:90:5
 returns : tie.Need-returns
-returns c = ?
+unfolding countOf
+returns c = rw (c .enum-told .given .1)
 
--- src/parts.rt:90:5
 returns-2 : tie.Need-returns-2
-returns-2 c = ?
+unfolding countOf
+returns-2 c = rw (c .enum-told2 .given .1)
 
--- src/parts.rt:90:5
 returns-3 : tie.Need-returns-3
-returns-3 c = ?
+unfolding countOf
+returns-3 c = rw (c .before .enum-told3 .given .1) (c .blocks2 .ensures)
 
 pub count-spec : {M : Type 1} → statement M
 count-spec =
