@@ -13,7 +13,6 @@ use Rattle.engine.specs.declared.bus.Phase.the-variants as phase
 infixr 10 case_waiting_ended_
 infixr 10 case_acknowledged_error_timeout_
 infixr 10 case_retry_spent_
-
 unfoldable pub case_waiting_ended_ : {A : Type 0} → Phase → A → (Answer → A) → A
 case phase.Waiting waiting x ended f = x
 case phase.Ended a waiting x ended f = f a

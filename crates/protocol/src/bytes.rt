@@ -15,7 +15,11 @@ pub fn least(a: usize, b: usize) -> usize
 pub fn blocks(len: usize) -> usize
     ensures { λ r. ⌜ r ≡ blocksOf len ⌝ }
 {
-    if len % 32 == 0 { len / 32 } else { len / 32 + 1 }
+    if len % 32 == 0 {
+        len / 32
+    } else {
+        len / 32 + 1
+    }
 }
 
 // The first n bytes of a slice, or all of it where it has fewer.

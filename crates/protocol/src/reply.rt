@@ -35,7 +35,11 @@ pub enum Heard {
 fn plus(n: usize, more: usize) -> usize
     ensures { λ r. ⌜ r ≡ min (n + more) 18446744073709551615 ⌝ }
 {
-    if n < 18446744073709551615 - more { n + more } else { 18446744073709551615 }
+    if n < 18446744073709551615 - more {
+        n + more
+    } else {
+        18446744073709551615
+    }
 }
 
 // Whether the last byte of a reply is the PEC of 16, the command, 17 and what came before it.

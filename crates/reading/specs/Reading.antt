@@ -8,9 +8,11 @@ use lib.Dec.{eqb}
 use Rattle.protocol.specs.Pick.{if_then_else_}
 use Rattle.protocol.specs.Bytes.{storedAt}
 use Rattle.protocol.specs.Frame.{laidOf, workLaid}
-use Rattle.protocol.specs.Reply.{countOf, heardOf, dataOf}
+use Rattle.protocol.specs.Reply.{macAsk, countOf, heardOf, dataOf}
+use Rattle.protocol.specs.declared.common.Config.{Config}
 use Rattle.protocol.specs.declared.error.Answer.{Answer}
 use Rattle.protocol.specs.declared.error.Answer.the-variants as answer
+use Rattle.protocol.specs.declared.frame.MacCommand.{MacCommand}
 use Rattle.protocol.specs.declared.reply.Ask.{Ask}
 use Rattle.protocol.specs.declared.reply.Heard.{Heard}
 use Rattle.protocol.specs.declared.reply.Heard.the-variants as heard
@@ -22,10 +24,13 @@ use Rattle.engine.specs.declared.budget.Budget.{Budget}
 use Rattle.engine.specs.declared.bus.Outcome.{Outcome}
 use Rattle.engine.specs.declared.bus.Phase.{Phase}
 use Rattle.engine.specs.declared.bus.Phase.the-variants as phase
+use Rattle.engine.specs.declared.limit.Limit.{Limit}
 use Rattle.engine.specs.declared.bus.Transfer.{Transfer}
 use Rattle.engine.specs.declared.bus.Transfer.the-variants as transfer
 use Rattle.reading.specs.Pick.{case_refused_fault_headed_block_}
 use Rattle.reading.specs.Parts as parts
+use Rattle.reading.specs.declared.parts.Head.the-variants as head
+use Rattle.reading.specs.declared.parts.Reads.the-variants as reads
 use Rattle.reading.specs.declared.call.ReadPlan.{ReadPlan}
 use Rattle.reading.specs.declared.call.ReadTask.{ReadTask}
 use Rattle.reading.specs.declared.call.ReadCall.{ReadCall}
@@ -33,6 +38,26 @@ use Rattle.reading.specs.declared.call.Verdict.{Verdict}
 use Rattle.reading.specs.declared.call.Verdict.the-variants as verdict
 use Rattle.reading.specs.declared.call.ReadReported.{ReadReported}
 use Rattle.reading.specs.declared.call.ReadReported.the-variants as reported
+
+-- one plain read, with no head
+unfoldable pub plainPlan : Config → Limit → Ask → ReadPlan
+plainPlan config limit ask = record {
+  retries = config .«max_bus_retries»;
+  limit = limit;
+  head = head.Bare;
+  «head_pec» = false;
+  reads = reads.Once ask;
+}
+
+-- a MAC read: the command's frame, then one read; every frame of a read goes by `pec_read`
+unfoldable pub macPlan : Config → Limit → MacCommand → ℕ → ReadPlan
+macPlan config limit command wanted = record {
+  retries = config .«max_bus_retries»;
+  limit = limit;
+  head = head.Mac command;
+  «head_pec» = config .«pec_read»;
+  reads = reads.Once (macAsk 0x44 wanted (config .«pec_read»));
+}
 
 -- a call with a buffer of n bytes and a work buffer of w
 unfoldable pub startOf : ReadPlan → ℕ → ℕ → ReadCall

@@ -11,13 +11,16 @@ use engine::bus::Phase;
 use engine::bus::Transfer;
 use engine::limit::Limit;
 use protocol::bytes;
+use protocol::common::Config;
+use protocol::consts::MAC_CMD;
 use protocol::error::Answer;
+use protocol::frame::MacCommand;
 use protocol::reply::Ask;
 use protocol::reply::Heard;
 ghost use mathlib.Core.Path.{_≡_};
 ghost use Prim.Native.Nat.{_*_};
 ghost use lib.ListN.{length, take};
-ghost use Rattle.reading.specs.Reading.{startOf, dueAsk, shownHead, workHead, shownOf, workShown, nextOf, workAfter, headedOf, advanceOf, retryOf, endOf, failOf, heardHead, heardBlock, acknowledgedOf, outcomeOf, judgeOf, storedOf, reportOf, bufferAfter};
+ghost use Rattle.reading.specs.Reading.{plainPlan, macPlan, startOf, dueAsk, shownHead, workHead, shownOf, workShown, nextOf, workAfter, headedOf, advanceOf, retryOf, endOf, failOf, heardHead, heardBlock, acknowledgedOf, outcomeOf, judgeOf, storedOf, reportOf, bufferAfter};
 
 // What a reading call is: its retries, what it asks of the buffer's length, its head and whether that carries a PEC, and its reads.
 pub struct ReadPlan {
@@ -26,6 +29,34 @@ pub struct ReadPlan {
     pub head: Head,
     pub head_pec: bool,
     pub reads: Reads,
+}
+
+impl ReadPlan {
+    // One plain read, with no head.
+    pub fn plain(config: Config, limit: Limit, ask: Ask) -> ReadPlan
+        ensures { λ r. ⌜ r ≡ plainPlan config limit ask ⌝ }
+    {
+        ReadPlan {
+            retries: config.max_bus_retries,
+            limit,
+            head: Head::Bare,
+            head_pec: false,
+            reads: Reads::Once(ask),
+        }
+    }
+
+    // A MAC read: the command's frame, then one read of so many bytes, both by `pec_read`.
+    pub fn mac(config: Config, limit: Limit, command: MacCommand, count: usize) -> ReadPlan
+        ensures { λ r. ⌜ r ≡ macPlan config limit command count ⌝ }
+    {
+        ReadPlan {
+            retries: config.max_bus_retries,
+            limit,
+            head: Head::Mac(command),
+            head_pec: config.pec_read,
+            reads: Reads::Once(Ask::mac(MAC_CMD, count, config.pec_read)),
+        }
+    }
 }
 
 // What does not change while a reading call runs: the plan, and the lengths of buffer and work buffer at the start.
@@ -312,7 +343,13 @@ impl ReadCall {
     }
 
     // An outcome is reported: refused with 10, 8 or 9 and call and buffer as they were, or taken.
-    pub fn report(self, outcome: Outcome, reply: &[u8], buffer: &mut [u8], work: &[u8]) -> ReadReported
+    pub fn report(
+        self,
+        outcome: Outcome,
+        reply: &[u8],
+        buffer: &mut [u8],
+        work: &[u8],
+    ) -> ReadReported
         ensures { λ r. ⌜ (r ≡ reportOf self outcome (now (reply .entry)) (length (now (buffer .entry))) (length (now (work .entry)))) × (now (buffer .exit) ≡ bufferAfter self outcome (now (reply .entry)) (now (buffer .entry)) (length (now (work .entry)))) ⌝ }
     {
         let verdict = self.judge(outcome, reply, buffer.len(), work.len());

@@ -8,6 +8,7 @@ use lib.Dec.{eqb}
 use Rattle.protocol.specs.Pick.{if_then_else_}
 use Rattle.protocol.specs.Bytes.{sendOf}
 use Rattle.protocol.specs.Frame.{laidOf, workLaid}
+use Rattle.protocol.specs.declared.common.Config.{Config}
 use Rattle.protocol.specs.declared.error.Answer.{Answer}
 use Rattle.protocol.specs.declared.error.Answer.the-variants as answer
 use Rattle.engine.specs.Pick.{case_waiting_ended_, case_acknowledged_error_timeout_, case_retry_spent_}
@@ -18,6 +19,7 @@ use Rattle.engine.specs.declared.budget.Budget.{Budget}
 use Rattle.engine.specs.declared.bus.Outcome.{Outcome}
 use Rattle.engine.specs.declared.bus.Phase.{Phase}
 use Rattle.engine.specs.declared.bus.Phase.the-variants as phase
+use Rattle.engine.specs.declared.limit.Limit.{Limit}
 use Rattle.engine.specs.declared.bus.Transfer.{Transfer}
 use Rattle.engine.specs.declared.bus.Transfer.the-variants as transfer
 use Rattle.writing.specs.Frames.{isPlain, isFlash, countOf, bytesAt}
@@ -27,6 +29,15 @@ use Rattle.writing.specs.declared.call.WriteTask.{WriteTask}
 use Rattle.writing.specs.declared.call.WriteCall.{WriteCall}
 use Rattle.writing.specs.declared.call.WriteReported.{WriteReported}
 use Rattle.writing.specs.declared.call.WriteReported.the-variants as reported
+
+-- by the settings' retries and `pec_write`
+unfoldable pub planOf : Config → Limit → Frames → WritePlan
+planOf config limit frames = record {
+  retries = config .«max_bus_retries»;
+  pec = config .«pec_write»;
+  limit = limit;
+  frames = frames;
+}
 
 -- a call with a payload of n bytes and a work buffer of w
 unfoldable pub startOf : WritePlan → ℕ → ℕ → WriteCall

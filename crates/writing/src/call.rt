@@ -10,10 +10,11 @@ use engine::bus::Phase;
 use engine::bus::Transfer;
 use engine::limit::Limit;
 use protocol::bytes;
+use protocol::common::Config;
 use protocol::error::Answer;
 ghost use mathlib.Core.Path.{_≡_};
 ghost use lib.ListN.{length};
-ghost use Rattle.writing.specs.Writing.{startOf, ownBytes, shownOf, workShown, nextOf, workAfter, partOf, advanceOf, gaveUp, retryOf, endOf, failOf, settleOf, repliedOf, reportOf};
+ghost use Rattle.writing.specs.Writing.{planOf, startOf, ownBytes, shownOf, workShown, nextOf, workAfter, partOf, advanceOf, gaveUp, retryOf, endOf, failOf, settleOf, repliedOf, reportOf};
 
 // What a writing call is: its retries, whether its frames carry a PEC, what it asks of the payload's length, and its frames.
 pub struct WritePlan {
@@ -21,6 +22,20 @@ pub struct WritePlan {
     pub pec: bool,
     pub limit: Limit,
     pub frames: Frames,
+}
+
+impl WritePlan {
+    // The frames of a call whose limit is this, by the settings' retries and `pec_write`.
+    pub fn new(config: Config, limit: Limit, frames: Frames) -> WritePlan
+        ensures { λ r. ⌜ r ≡ planOf config limit frames ⌝ }
+    {
+        WritePlan {
+            retries: config.max_bus_retries,
+            pec: config.pec_write,
+            limit,
+            frames,
+        }
+    }
 }
 
 // What does not change while a writing call runs: the plan, and the lengths of payload and work buffer at the start.
@@ -222,20 +237,20 @@ impl WriteCall {
         ensures { λ r. ⌜ r ≡ repliedOf outcome reply ⌝ }
     {
         match outcome {
-            Outcome::Acknowledged => {
-                if reply == 0 {
-                    false
-                } else {
-                    true
-                }
-            }
+            Outcome::Acknowledged => { if reply == 0 { false } else { true } }
             Outcome::BusError(_) => false,
             Outcome::Timeout => false,
         }
     }
 
     // An outcome is reported: refused with 10, 8 or 9 and the call as it was, or taken.
-    pub fn report(self, outcome: Outcome, reply: &[u8], payload: &[u8], work: &[u8]) -> WriteReported
+    pub fn report(
+        self,
+        outcome: Outcome,
+        reply: &[u8],
+        payload: &[u8],
+        work: &[u8],
+    ) -> WriteReported
         ensures { λ r. ⌜ r ≡ reportOf self outcome (length (now (reply .entry))) (length (now (payload .entry))) (length (now (work .entry))) ⌝ }
     {
         let phase = self.phase;

@@ -60,11 +60,13 @@ returns c =
     let v = c .before .before .before .before .before .before .before .before .before .before .args .self in
     let told = c .before .before .before .before .before .before .before .before .before .struct-told .given in
     rw (c .bits5 .ensures, c .before .before .bits4 .ensures, c .before .before .before .before .bits3 .ensures, c .before .before .before .before .before .before .bits2 .ensures, c .before .before .before .before .before .before .before .before .bits .ensures)
-    (rw (toZ-ofZ w16 (v .«low_temp_chrg_mv») (record { sfits = told .0 .1 }),
-        toZ-ofZ w16 (v .«std_low_temp_chrg_mv») (record { sfits = told .1 .0 .1 }),
-        toZ-ofZ w16 (v .«std_hi_temp_chrg_mv») (record { sfits = told .1 .1 .0 .1 }),
-        toZ-ofZ w16 (v .«hi_temp_chrg_mv») (record { sfits = told .1 .1 .1 .0 .1 }),
-        toZ-ofZ w16 (v .«recommended_temp_chrg_mv») (record { sfits = told .1 .1 .1 .1 .0 .1 })))
+    (rw (
+      toZ-ofZ w16 (v .«low_temp_chrg_mv») (record { sfits = told .0 .1 }),
+      toZ-ofZ w16 (v .«std_low_temp_chrg_mv») (record { sfits = told .1 .0 .1 }),
+      toZ-ofZ w16 (v .«std_hi_temp_chrg_mv») (record { sfits = told .1 .1 .0 .1 }),
+      toZ-ofZ w16 (v .«hi_temp_chrg_mv») (record { sfits = told .1 .1 .1 .0 .1 }),
+      toZ-ofZ w16 (v .«recommended_temp_chrg_mv») (record { sfits = told .1 .1 .1 .1 .0 .1 }),
+    ))
 
 pub to-bytes-spec : {M : Type 1} → statement M
 to-bytes-spec =

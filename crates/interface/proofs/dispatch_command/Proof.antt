@@ -1,0 +1,24 @@
+-- `interface::dispatch_command` meets its contract: the call is started with its plan.
+-- Assumes nothing.
+use Prim.Native.Nat.{_-_}
+use borrow.Author.Needs.{needs}
+use Rattle.interface.specs.Plans.{dispatchCommand}
+use Rattle.interface.proofs.dispatch_command.Statement.{statement}
+use Rattle.interface.proofs.dispatch_command.Tie as tie
+
+command-pec-requires : tie.Need-command-pec-requires
+command-pec-requires c κs = search needs
+
+command-reads-requires : tie.Need-command-reads-requires
+command-reads-requires c κs = search needs
+
+start-requires : tie.Need-start-requires
+start-requires c κs = search needs
+
+returns : tie.Need-returns
+unfolding dispatchCommand
+returns c = cc
+
+pub dispatch-command-spec : {M : Type 1} → statement M
+dispatch-command-spec =
+    tie.close (tie.spec command-pec-requires command-reads-requires start-requires returns)

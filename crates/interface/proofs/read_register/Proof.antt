@@ -1,0 +1,23 @@
+-- `interface::read_register` meets its contract: the call is started with its plan.
+-- Assumes nothing.
+use Prim.Native.Nat.{_-_}
+use borrow.Author.Needs.{needs}
+use Rattle.interface.specs.Plans.{readRegister}
+use Rattle.interface.proofs.read_register.Statement.{statement}
+use Rattle.interface.proofs.read_register.Tie as tie
+
+plain-requires : tie.Need-plain-requires
+plain-requires c κs = search needs
+
+plain-requires-2 : tie.Need-plain-requires-2
+plain-requires-2 c κs = search needs
+
+start-requires : tie.Need-start-requires
+start-requires c κs = search needs
+
+returns : tie.Need-returns
+unfolding readRegister
+returns c = cc
+
+pub read-register-spec : {M : Type 1} → statement M
+read-register-spec = tie.close (tie.spec plain-requires plain-requires-2 start-requires returns)

@@ -1,0 +1,17 @@
+-- `r5::read_dataflash` meets its contract: the call is started with its plan.
+-- Assumes nothing.
+use Prim.Native.Nat.{_-_}
+use borrow.Author.Needs.{needs}
+use Rattle.r5.specs.Plans.{flashRead}
+use Rattle.r5.proofs.read_dataflash.Statement.{statement}
+use Rattle.r5.proofs.read_dataflash.Tie as tie
+
+start-requires : tie.Need-start-requires
+start-requires c κs = search needs
+
+returns : tie.Need-returns
+unfolding flashRead
+returns c = cc
+
+pub read-dataflash-spec : {M : Type 1} → statement M
+read-dataflash-spec = tie.close (tie.spec start-requires returns)

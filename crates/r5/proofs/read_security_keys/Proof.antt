@@ -1,0 +1,18 @@
+-- `r5::read_security_keys` meets its contract: the call is started with its plan.
+-- Assumes nothing.
+use Prim.Native.Nat.{_-_}
+use borrow.Author.Needs.{needs}
+use Rattle.r5.proofs.read_security_keys.Statement.{statement}
+use Rattle.r5.proofs.read_security_keys.Tie as tie
+
+mac-read-requires : tie.Need-mac-read-requires
+mac-read-requires c κs = search needs
+
+start-requires : tie.Need-start-requires
+start-requires c κs = search needs
+
+returns : tie.Need-returns
+returns c = cc
+
+pub read-security-keys-spec : {M : Type 1} → statement M
+read-security-keys-spec = tie.close (tie.spec mac-read-requires start-requires returns)

@@ -1,0 +1,20 @@
+-- `r5::write_dataflash` meets its contract: the call is started with its plan.
+-- Assumes nothing.
+use Prim.Native.Nat.{_-_}
+use borrow.Author.Needs.{needs}
+use Rattle.r5.specs.Plans.{flashWrite}
+use Rattle.r5.proofs.write_dataflash.Statement.{statement}
+use Rattle.r5.proofs.write_dataflash.Tie as tie
+
+new-requires : tie.Need-new-requires
+new-requires c κs = search needs
+
+start-requires : tie.Need-start-requires
+start-requires c κs = search needs
+
+returns : tie.Need-returns
+unfolding flashWrite
+returns c = cc
+
+pub write-dataflash-spec : {M : Type 1} → statement M
+write-dataflash-spec = tie.close (tie.spec new-requires start-requires returns)
