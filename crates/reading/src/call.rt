@@ -229,7 +229,7 @@ impl ReadCall {
         let plan = task.plan;
         let reads = plan.reads;
         let lent = task.lent;
-        let budget = self.budget;
+        let left = self.budget;
         let tally = self.tally;
         let received = budget::more(self.received);
         ReadCall {
@@ -237,7 +237,7 @@ impl ReadCall {
             phase: Phase::after(reads.count(lent.length), received),
             heading: false,
             received,
-            budget,
+            budget: left,
             tally,
         }
     }

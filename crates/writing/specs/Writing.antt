@@ -109,13 +109,14 @@ retryOf call left = record {
   tally = waited (call .tally);
 }
 
+-- the call gives up
 unfoldable pub endOf : WriteCall → Answer → WriteCall
 endOf call why = record {
   task = call .task;
   phase = phase.Ended (gaveUp (call .task .plan .frames) (call .sent) why);
   sent = call .sent;
   budget = call .budget;
-  tally = call .tally;
+  tally = call .tally;  -- no wait for the failure that ends the call
 }
 
 unfoldable pub failOf : WriteCall → Answer → WriteCall

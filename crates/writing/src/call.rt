@@ -167,12 +167,13 @@ impl WriteCall {
         let frames = plan.frames;
         let lent = task.lent;
         let tally = self.tally;
+        let retries = plan.retries;
         let sent = budget::more(self.sent);
         WriteCall {
             task,
             phase: Phase::after(frames.count(lent.length), sent),
             sent,
-            budget: Budget { left: plan.retries },
+            budget: Budget { left: retries },
             tally,
         }
     }
