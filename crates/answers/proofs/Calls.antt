@@ -1,0 +1,41 @@
+-- The limits of all calls, by name.
+-- Assumes nothing.
+use Prim.Native.Nat.{ℕ}
+use mathlib.Core.Path.{_≡_, refl}
+use Rattle.protocol.specs.Pick.{if_then_else_}
+use Rattle.protocol.specs.declared.common.Config.{Config}
+use Rattle.writing.specs.Writing as writing
+use Rattle.reading.specs.Reading as reading
+use Rattle.interface.specs.Plans.{plainLimit, writeWithRetries, writeRegister, readRegister, dispatchCommand, readBuffer, writeBuffer}
+use Rattle.r5.specs.Plans.{macRead, macWrite, infoCRead, infoRead, infoWrite, accessKey, infoCWrite, flashRead, flashWrite}
+use Rattle.answers.specs.Calls.{Admitted, Limits}
+
+pub starts-as : Admitted
+unfolding writing.startOf reading.startOf
+starts-as = record { writing = λ plan n w. refl; reading = λ plan n w. refl }
+
+pub limits : (config : Config) → Limits config
+unfolding plainLimit writeWithRetries writeRegister readRegister dispatchCommand readBuffer writeBuffer macRead macWrite infoCRead infoRead infoWrite accessKey infoCWrite flashRead flashWrite writing.planOf reading.plainPlan reading.macPlan if_then_else_
+limits config = record {
+  writesWithPec = λ e. rw e;
+  writesPlain = λ e. rw e;
+  writesRegister = λ address. refl;
+  writesUnchecked = λ address. refl;
+  readsRegister = λ address n. refl;
+  dispatches = λ address input n. refl;
+  readsBuffer = λ address n. refl;
+  writesBuffer = λ address. refl;
+  readsKeys = λ command size. refl;
+  writesKeys = λ command size. refl;
+  sendsKey = λ lower upper. refl;
+  writesInfoC = λ lower upper. refl;
+  readsInfoC = λ n. refl;
+  writesInfo = refl;
+  readsInfo = λ n. refl;
+  readsFlash = λ start. refl;
+  writesFlash = λ start. refl;
+}
+
+-- what meets an equation is the one thing that does: cited for every public function
+pub unique : {A : Type 0} (f r r′ : A) → r ≡ f → r′ ≡ f → r ≡ r′
+unique f r r′ p q = cc

@@ -1,0 +1,7 @@
+pub mod Laws
+pub mod Start
+pub mod Writing
+pub mod Reading
+pub mod Calls
+pub mod Runs
+pub mod Kept

@@ -1,0 +1,224 @@
+-- At a report to a reading call each answer is given exactly when its row says so.
+-- Assumes nothing.
+use Prim.Native.Nat.{ℕ, _≤_, _<_}
+use mathlib.Core.Path.{_≡_, refl, sym, ap, subst, _∙_}
+use mathlib.Core.Bool.{Bool, true, false, false≢true}
+use mathlib.Core.List.{List}
+use mathlib.Core.Logic.{_↔_}
+use lib.ListN.{length}
+use lib.Dec.{leb, eqb}
+use borrow.Author.Tests.{leb-true, eqb-true, eqb-false, le-leb, eq-eqb, ne-eqb}
+use Rattle.protocol.specs.Pick.{if_then_else_}
+use Rattle.protocol.specs.Reply as reply
+use Rattle.protocol.specs.declared.error.Answer.{Answer}
+use Rattle.protocol.specs.declared.error.Answer.the-variants as answer
+use Rattle.engine.specs.Pick.{case_waiting_ended_, case_acknowledged_error_timeout_, case_retry_spent_}
+use Rattle.engine.specs.Budget.{failed, moreOf}
+use Rattle.engine.specs.Bus.{phaseAfter, fitsOf}
+use Rattle.engine.specs.declared.bus.Outcome.{Outcome}
+use Rattle.engine.specs.declared.bus.Outcome.the-variants as outcome
+use Rattle.engine.specs.declared.bus.Phase.{Phase}
+use Rattle.engine.specs.declared.bus.Phase.the-variants as phase
+use Rattle.reading.specs.Pick.{case_refused_fault_headed_block_}
+use Rattle.reading.specs.Parts as parts
+use Rattle.reading.specs.Reading.{dueAsk, headedOf, advanceOf, retryOf, endOf, failOf, heardHead, verdictOf, heardBlock, acknowledgedOf, outcomeOf, judgeOf, reportOf}
+use Rattle.reading.specs.declared.call.ReadCall.{ReadCall}
+use Rattle.reading.specs.declared.call.Verdict.{Verdict}
+use Rattle.reading.specs.declared.call.Verdict.the-variants as verdict
+use Rattle.answers.specs.Rows.{Same, saidR, OpenR, asked, Damaged, made, Reads}
+use Rattle.answers.proofs.Laws.{fits-same, same-fits, other-fits, fits-other}
+
+module _ (call : ReadCall) (o : Outcome) (bytes : List ℕ) (n w : ℕ) where
+  -- what a phase says of the report
+  abbrev Holds : Phase → Type 0
+  Holds phase.Waiting = Unit {0}
+  Holds (phase.Ended a) = Reads call o bytes n w a
+
+  -- where a verdict leads
+  abbrev leads : Verdict → Phase
+  leads (verdict.Refused a) = phase.Ended a
+  leads (verdict.Failed a) = failOf call a .phase
+  leads verdict.Head = headedOf call .phase
+  leads verdict.Block = advanceOf call .phase
+
+  said : saidR (reportOf call o bytes n w) ≡ leads (judgeOf call o bytes n w)
+  unfolding reportOf case_refused_fault_headed_block_
+  said = by (judgeOf call o bytes n w) refl
+    where
+      by : (v : Verdict) → judgeOf call o bytes n w ≡ v → saidR (reportOf call o bytes n w) ≡ leads (judgeOf call o bytes n w)
+      by (verdict.Refused a) e = rw e
+      by (verdict.Failed a) e = rw e
+      by verdict.Head e = rw e
+      by verdict.Block e = rw e
+
+  -- ---- an answer that is given is its row's
+
+  fail-holds : (why : Answer) → (call .budget .left ≡ 0 → Reads call o bytes n w why) → Holds (failOf call why .phase)
+  unfolding failOf failed retryOf endOf case_retry_spent_ if_then_else_
+  fail-holds why row = by (eqb (call .budget .left) 0) refl
+    where
+      by : (t : Bool) → eqb (call .budget .left) 0 ≡ t → Holds (failOf call why .phase)
+      by true t = let q : failOf call why .phase ≡ phase.Ended why = rw t in subst Holds (sym q) (row (eqb-true _ _ t))
+      by false t = let q : failOf call why .phase ≡ phase.Waiting = rw t in subst Holds (sym q) tt
+
+  -- all reads are made, or some are left
+  after-holds : (m : ℕ) (p : Phase) → p ≡ phaseAfter (parts.countOf (call .task .plan .reads) (call .task .lent .length)) m
+      → (parts.countOf (call .task .plan .reads) (call .task .lent .length) ≤ m → Reads call o bytes n w answer.Done) → Holds p
+  unfolding phaseAfter if_then_else_
+  after-holds m p is row = by (leb (parts.countOf (call .task .plan .reads) (call .task .lent .length)) m) refl
+    where
+      by : (t : Bool) → leb (parts.countOf (call .task .plan .reads) (call .task .lent .length)) m ≡ t → Holds p
+      by true t = let q : p ≡ phase.Ended answer.Done = is ∙ rw t in subst Holds (sym q) (row (leb-true _ _ t))
+      by false t = let q : p ≡ phase.Waiting = is ∙ rw t in subst Holds (sym q) tt
+
+  -- a head that was acknowledged
+  head-holds : OpenR call n w → o ≡ outcome.Acknowledged → call .heading ≡ true → Holds (leads (heardHead (length bytes)))
+  unfolding heardHead headedOf asked made if_then_else_
+  head-holds ready ack h = by (eqb (length bytes) 0) refl
+    where
+      none : asked call ≡ 0
+      none = rw h
+
+      by : (t : Bool) → eqb (length bytes) 0 ≡ t → Holds (leads (heardHead (length bytes)))
+      by true t =
+          let q : leads (heardHead (length bytes)) ≡ headedOf call .phase = rw t in
+          subst Holds (sym q)
+          (after-holds (call .received) (headedOf call .phase) refl
+          (λ all. (ready, ack, eqb-true _ _ t ∙ sym none, (λ d. false≢true (sym (d .0) ∙ h)), rw h all)))
+      by false t =
+          let q : leads (heardHead (length bytes)) ≡ phase.Ended answer.WrongReply = rw t in
+          subst Holds (sym q) (ready, ack, (λ e. eqb-false _ _ t (e ∙ none)))
+
+  -- a read that was acknowledged
+  block-holds : OpenR call n w → o ≡ outcome.Acknowledged → call .heading ≡ false → Holds (leads (heardBlock (dueAsk call) bytes))
+  unfolding heardBlock verdictOf reply.heardOf advanceOf asked made if_then_else_
+  block-holds ready ack h = by (eqb (reply.countOf (dueAsk call)) (length bytes)) refl (dueAsk call .pec) refl (reply.checkedOf (dueAsk call .covered) bytes) refl
+    where
+      some : asked call ≡ reply.countOf (dueAsk call)
+      some = rw h
+
+      good : leads (heardBlock (dueAsk call) bytes) ≡ advanceOf call .phase → length bytes ≡ asked call → (Damaged call bytes → ⊥) → Holds (leads (heardBlock (dueAsk call) bytes))
+      good q size fine =
+          subst Holds (sym q) (after-holds (moreOf (call .received)) (advanceOf call .phase) refl (λ all. (ready, ack, size, fine, rw h all)))
+
+      by : (t : Bool) → eqb (reply.countOf (dueAsk call)) (length bytes) ≡ t → (p : Bool) → dueAsk call .pec ≡ p
+          → (k : Bool) → reply.checkedOf (dueAsk call .covered) bytes ≡ k → Holds (leads (heardBlock (dueAsk call) bytes))
+      by false t p x k y =
+          let q : leads (heardBlock (dueAsk call) bytes) ≡ phase.Ended answer.WrongReply = rw t in
+          subst Holds (sym q) (ready, ack, (λ e. eqb-false _ _ t (sym (e ∙ some))))
+      by true t false x k y = good (rw (t, x)) (sym (some ∙ eqb-true _ _ t)) (λ d. false≢true (sym x ∙ d .1))
+      by true t true x true y = good (rw (t, x, y)) (sym (some ∙ eqb-true _ _ t)) (λ d. false≢true (sym (d .2) ∙ y))
+      by true t true x false y =
+          let q : leads (heardBlock (dueAsk call) bytes) ≡ failOf call answer.Pec .phase = rw (t, x, y) in
+          subst Holds (sym q) (fail-holds answer.Pec (λ last. (ready, ack, sym (some ∙ eqb-true _ _ t), (h, x, y), last)))
+
+  outcome-holds : OpenR call n w → (x : Outcome) → o ≡ x → Holds (leads (outcomeOf call o bytes))
+  unfolding outcomeOf acknowledgedOf case_acknowledged_error_timeout_ if_then_else_
+  outcome-holds ready outcome.Acknowledged e = by (call .heading) refl
+    where
+      by : (t : Bool) → call .heading ≡ t → Holds (leads (outcomeOf call o bytes))
+      by true h =
+          let q : outcomeOf call o bytes ≡ heardHead (length bytes) = rw (e, h) in
+          subst (λ (v : Verdict). Holds (leads v)) (sym q) (head-holds ready e h)
+      by false h =
+          let q : outcomeOf call o bytes ≡ heardBlock (dueAsk call) bytes = rw (e, h) in
+          subst (λ (v : Verdict). Holds (leads v)) (sym q) (block-holds ready e h)
+  outcome-holds ready (outcome.BusError code) e =
+      let q : outcomeOf call o bytes ≡ verdict.Failed (answer.I2c code) = rw e in
+      subst (λ (v : Verdict). Holds (leads v)) (sym q) (fail-holds (answer.I2c code) (λ last. (ready, e, last)))
+  outcome-holds ready outcome.Timeout e =
+      let q : outcomeOf call o bytes ≡ verdict.Failed answer.Timeout = rw e in
+      subst (λ (v : Verdict). Holds (leads v)) (sym q) (fail-holds answer.Timeout (λ last. (ready, e, last)))
+
+  judge-holds : Holds (leads (judgeOf call o bytes n w))
+  unfolding judgeOf case_waiting_ended_ if_then_else_
+  judge-holds = by (call .phase) refl (fitsOf (call .task .lent) n w) refl
+    where
+      by : (p : Phase) → call .phase ≡ p → (t : Bool) → fitsOf (call .task .lent) n w ≡ t → Holds (leads (judgeOf call o bytes n w))
+      by (phase.Ended a) e t f =
+          let q : judgeOf call o bytes n w ≡ verdict.Refused answer.NothingOutstanding = rw e in
+          subst (λ (v : Verdict). Holds (leads v)) (sym q) (a, e)
+      by phase.Waiting e false f =
+          let q : judgeOf call o bytes n w ≡ verdict.Refused answer.WrongBuffer = rw (e, f) in
+          subst (λ (v : Verdict). Holds (leads v)) (sym q) (e, other-fits (call .task .lent) n w f)
+      by phase.Waiting e true f =
+          let q : judgeOf call o bytes n w ≡ outcomeOf call o bytes = rw (e, f) in
+          subst (λ (v : Verdict). Holds (leads v)) (sym q) (outcome-holds (e, fits-same (call .task .lent) n w f) o refl)
+
+  -- ---- and a row that holds is answered
+
+  looked : OpenR call n w → judgeOf call o bytes n w ≡ outcomeOf call o bytes
+  unfolding judgeOf case_waiting_ended_ if_then_else_
+  looked (e, same) = rw (e, same-fits (call .task .lent) n w same)
+
+  gives-up : (why : Answer) → call .budget .left ≡ 0 → failOf call why .phase ≡ phase.Ended why
+  unfolding failOf failed endOf case_retry_spent_ if_then_else_
+  gives-up why last = rw (eq-eqb (call .budget .left) 0 last)
+
+  heard : OpenR call n w → o ≡ outcome.Acknowledged → judgeOf call o bytes n w ≡ acknowledgedOf call bytes
+  unfolding outcomeOf case_acknowledged_error_timeout_
+  heard ready ack = looked ready ∙ rw ack
+
+  -- a read, and not a head
+  reading : call .heading ≡ false → acknowledgedOf call bytes ≡ heardBlock (dueAsk call) bytes
+  unfolding acknowledgedOf if_then_else_
+  reading h = rw h
+
+  asked-some : call .heading ≡ false → asked call ≡ reply.countOf (dueAsk call)
+  unfolding asked if_then_else_
+  asked-some h = rw h
+
+  done-row : OpenR call n w → o ≡ outcome.Acknowledged → length bytes ≡ asked call → (Damaged call bytes → ⊥)
+      → parts.countOf (call .task .plan .reads) (call .task .lent .length) ≤ made call → leads (judgeOf call o bytes n w) ≡ phase.Ended answer.Done
+  unfolding acknowledgedOf heardHead heardBlock verdictOf reply.heardOf headedOf advanceOf phaseAfter asked made if_then_else_
+  done-row ready ack size fine all = ap leads (heard ready ack) ∙ by (call .heading) refl (dueAsk call .pec) refl (reply.checkedOf (dueAsk call .covered) bytes) refl
+    where
+      by : (t : Bool) → call .heading ≡ t → (p : Bool) → dueAsk call .pec ≡ p → (k : Bool) → reply.checkedOf (dueAsk call .covered) bytes ≡ k
+          → leads (acknowledgedOf call bytes) ≡ phase.Ended answer.Done
+      by true h p x k y = let none : length bytes ≡ 0 = size ∙ rw h in let every = rw h at all in rw (h, eq-eqb (length bytes) 0 none, le-leb _ _ every)
+      by false h false x k y =
+          let t = eq-eqb (reply.countOf (dueAsk call)) (length bytes) (sym (size ∙ asked-some h)) in
+          let every = rw h at all in
+          ap leads (reading h) ∙ rw (t, x, le-leb _ _ every)
+      by false h true x true y =
+          let t = eq-eqb (reply.countOf (dueAsk call)) (length bytes) (sym (size ∙ asked-some h)) in
+          let every = rw h at all in
+          ap leads (reading h) ∙ rw (t, x, y, le-leb _ _ every)
+      by false h true x false y = absurd (fine (h, x, y))
+
+  pec-row : OpenR call n w → o ≡ outcome.Acknowledged → length bytes ≡ asked call → Damaged call bytes → call .budget .left ≡ 0
+      → leads (judgeOf call o bytes n w) ≡ phase.Ended answer.Pec
+  unfolding acknowledgedOf heardBlock verdictOf reply.heardOf asked if_then_else_
+  pec-row ready ack size (h, x, y) last =
+      let t = eq-eqb (reply.countOf (dueAsk call)) (length bytes) (sym (size ∙ asked-some h)) in
+      ap leads (heard ready ack ∙ reading h) ∙ rw (t, x, y) (gives-up answer.Pec last)
+
+  wrong-row : OpenR call n w → o ≡ outcome.Acknowledged → (length bytes ≡ asked call → ⊥) → leads (judgeOf call o bytes n w) ≡ phase.Ended answer.WrongReply
+  unfolding acknowledgedOf heardHead heardBlock verdictOf reply.heardOf asked if_then_else_
+  wrong-row ready ack other = ap leads (heard ready ack) ∙ by (call .heading) refl
+    where
+      by : (t : Bool) → call .heading ≡ t → leads (acknowledgedOf call bytes) ≡ phase.Ended answer.WrongReply
+      by true h = let z : asked call ≡ 0 = rw h in rw (h, ne-eqb (length bytes) 0 (λ e. other (e ∙ sym z)))
+      by false h =
+          let t = ne-eqb (reply.countOf (dueAsk call)) (length bytes) (λ e. other (sym e ∙ sym (asked-some h))) in
+          ap leads (reading h) ∙ rw t
+
+  report-row : (a : Answer) → Reads call o bytes n w a → leads (judgeOf call o bytes n w) ≡ phase.Ended a
+  unfolding judgeOf outcomeOf case_waiting_ended_ case_acknowledged_error_timeout_ if_then_else_
+  report-row answer.Done (ready, ack, size, fine, all) = done-row ready ack size fine all
+  report-row (answer.I2c code) (ready, e, last) = ap leads (looked ready) ∙ rw e (gives-up (answer.I2c code) last)
+  report-row answer.Timeout (ready, e, last) = ap leads (looked ready) ∙ rw e (gives-up answer.Timeout last)
+  report-row answer.Pec (ready, ack, size, damaged, last) = pec-row ready ack size damaged last
+  report-row answer.DataTooLarge h = absurd h
+  report-row answer.DataFlashAddressOutOfRange h = absurd h
+  report-row (answer.PartialDataFlashWrite committed) h = absurd h
+  report-row answer.NotACommand h = absurd h
+  report-row answer.WrongBuffer (e, other) = rw (e, fits-other (call .task .lent) n w other)
+  report-row answer.WrongReply (ready, ack, other) = wrong-row ready ack other
+  report-row answer.NothingOutstanding (a, e) = rw e
+  report-row answer.BadLine h = absurd h
+
+-- THE TABLE OF A READING CALL
+pub reads : (call : ReadCall) (o : Outcome) (bytes : List ℕ) (n w : ℕ) (a : Answer) → (saidR (reportOf call o bytes n w) ≡ phase.Ended a) ↔ Reads call o bytes n w a
+reads call o bytes n w a =
+    (λ e. subst (Holds call o bytes n w) (sym (said call o bytes n w) ∙ e) (judge-holds call o bytes n w), λ row. said call o bytes n w ∙ report-row call o bytes n w a row)

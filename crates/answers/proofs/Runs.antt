@@ -1,0 +1,150 @@
+-- What a report can lead to, and what stays true of a call however it is fed.
+-- Assumes nothing.
+use Prim.Native.Nat.{ℕ, _+_, _-_, _*_, _≤_, _<_, min}
+use mathlib.Core.Path.{_≡_, refl, sym, ap, subst, _∙_}
+use mathlib.Core.Bool.{Bool, true, false, _&&_, _||_}
+use mathlib.Core.List.{List, [], _∷_}
+use native.Mathlib.Omega.{arith}
+use native.Mathlib.Nat.{add-mul, mul-le-mul-right, le-trans}
+use lib.Dec.{leb, eqb}
+use borrow.Author.Tests.{leb-true, leb-false, eqb-true, eqb-false}
+use Rattle.protocol.specs.Pick.{if_then_else_}
+use Rattle.protocol.specs.Bytes.{blocksOf}
+use Rattle.protocol.specs.Window.{inWindow}
+use Rattle.protocol.specs.declared.error.Answer.{Answer}
+use Rattle.protocol.specs.declared.error.Answer.the-variants as answer
+use Rattle.engine.specs.Pick.{case_waiting_ended_, case_acknowledged_error_timeout_, case_retry_spent_}
+use Rattle.engine.specs.Budget.{failed, moreOf, waited, nothing}
+use Rattle.engine.specs.Bus.{phaseAfter, fitsOf}
+use Rattle.engine.specs.declared.budget.Budget.{Budget}
+use Rattle.engine.specs.declared.bus.Outcome.{Outcome}
+use Rattle.engine.specs.declared.bus.Outcome.the-variants as outcome
+use Rattle.engine.specs.declared.bus.Phase.{Phase}
+use Rattle.engine.specs.declared.bus.Phase.the-variants as phase
+use Rattle.writing.specs.Frames as frames
+use Rattle.writing.specs.Writing.{startOf, advanceOf, retryOf, endOf, failOf, settleOf, repliedOf, reportOf}
+use Rattle.writing.specs.declared.call.WritePlan.{WritePlan}
+use Rattle.writing.specs.declared.call.WriteCall.{WriteCall}
+use Rattle.writing.specs.declared.call.WriteReported.the-variants as wrote
+use Rattle.answers.specs.Runs.{WriteReport, callW, reportedW, feedW, TameW}
+
+-- where a report can lead a writing call
+pub data Step (call : WriteCall) : WriteCall → Type 0 where
+  stays : Step call call
+  goes-on : call .phase ≡ phase.Waiting → Step call (advanceOf call)
+  again : (left : Budget) → call .phase ≡ phase.Waiting → left .left + 1 ≡ call .budget .left → Step call (retryOf call left)
+  ends : (why : Answer) → call .phase ≡ phase.Waiting → Step call (endOf call why)
+
+module _ (call : WriteCall) where
+  fails : (why : Answer) → call .phase ≡ phase.Waiting → Step call (failOf call why)
+  unfolding failOf failed case_retry_spent_ if_then_else_
+  fails why e = by (eqb (call .budget .left) 0) refl
+    where
+      by : (t : Bool) → eqb (call .budget .left) 0 ≡ t → Step call (failOf call why)
+      by true t = let q : failOf call why ≡ endOf call why = rw t in subst (Step call) (sym q) (ends why e)
+      by false t =
+          let some = eqb-false (call .budget .left) 0 t in
+          let q : failOf call why ≡ retryOf call (record { left = call .budget .left - 1 }) = rw t in
+          subst (Step call) (sym q) (again (record { left = call .budget .left - 1 }) e (omega arith))
+
+  settles : (o : Outcome) → call .phase ≡ phase.Waiting → Step call (settleOf call o)
+  unfolding settleOf case_acknowledged_error_timeout_
+  settles outcome.Acknowledged e = goes-on e
+  settles (outcome.BusError code) e = fails (answer.I2c code) e
+  settles outcome.Timeout e = fails answer.Timeout e
+
+  pub steps : (o : Outcome) (r n w : ℕ) → Step call (callW (reportOf call o r n w))
+  unfolding reportOf case_waiting_ended_ if_then_else_
+  steps o r n w = by (call .phase) refl (fitsOf (call .task .lent) n w) refl (repliedOf o r) refl
+    where
+      by : (p : Phase) → call .phase ≡ p → (t : Bool) → fitsOf (call .task .lent) n w ≡ t → (s : Bool) → repliedOf o r ≡ s → Step call (callW (reportOf call o r n w))
+      by (phase.Ended a) e t f s g = let q : callW (reportOf call o r n w) ≡ call = rw e in subst (Step call) (sym q) stays
+      by phase.Waiting e false f s g = let q : callW (reportOf call o r n w) ≡ call = rw (e, f) in subst (Step call) (sym q) stays
+      by phase.Waiting e true f true g = let q : callW (reportOf call o r n w) ≡ call = rw (e, f, g) in subst (Step call) (sym q) stays
+      by phase.Waiting e true f false g =
+          let q : callW (reportOf call o r n w) ≡ settleOf call o = rw (e, f, g) in
+          subst (Step call) (sym q) (settles o e)
+
+-- what stays true: a waiting call has frames left, and each frame so far had at most 65,535 waits
+record Sound (count : ℕ) (call : WriteCall) : Type 0 where
+  counts : frames.countOf (call .task .plan .frames) (call .task .lent .length) ≡ count
+  retries : call .task .plan .retries ≤ 65535
+  due : call .phase ≡ phase.Waiting → call .sent < count
+  sent : call .sent ≤ 256
+  spare : call .budget .left ≤ 65535
+  waits : call .tally .waits + call .budget .left ≤ 65535 * (call .sent + 1)
+
+-- a call that is done does not wait
+not-done : (count m : ℕ) → phaseAfter count m ≡ phase.Waiting → m < count
+unfolding phaseAfter if_then_else_
+not-done count m e = by (leb count m) refl
+  where
+    by : (t : Bool) → leb count m ≡ t → m < count
+    by true t = let z : _≡_ {A = ℕ} 0 1 = cc (rw t at e) in absurd (omega arith)
+    by false t = leb-false count m t
+
+module _ (count : ℕ) (few : count ≤ 256) where
+  keeps : (call after : WriteCall) → Step call after → Sound count call → Sound count after
+  unfolding advanceOf retryOf endOf waited
+  keeps call after stays s = s
+  keeps call after (goes-on e) s =
+      let below = s .due e in
+      let next : moreOf (call .sent) ≡ call .sent + 1 = omega arith in
+      record {
+        counts = s .counts;
+        retries = s .retries;
+        due = λ w. rw (s .counts) at (not-done _ _ w);
+        sent = omega (arith, s .sent);
+        spare = s .retries;
+        waits = omega (arith, s .waits, s .retries);
+      }
+  keeps call after (again left e less) s =
+      record {
+        counts = s .counts;
+        retries = s .retries;
+        due = λ w. s .due e;
+        sent = s .sent;
+        spare = omega (arith, s .spare);
+        waits = omega (arith, s .waits, s .sent);
+      }
+  keeps call after (ends why e) s =
+      record {
+        counts = s .counts;
+        retries = s .retries;
+        due = λ w. s .due e;
+        sent = s .sent;
+        spare = s .spare;
+        waits = s .waits;
+      }
+
+  fed : (es : List WriteReport) (call : WriteCall) → Sound count call → Sound count (feedW call es)
+  unfolding feedW
+  fed [] call s = s
+  fed (e ∷ es) call s = fed es (reportedW call e) (keeps call (reportedW call e) (steps call (e .outcome) (e .reply) (e .payload) (e .work)) s)
+
+-- a call with at most 256 frames, if it waits at its start, never gets near the end of a counter
+pub tame : (plan : WritePlan) (n w : ℕ) → plan .retries ≤ 65535
+    → (startOf plan n w .phase ≡ phase.Waiting → 0 < frames.countOf (plan .frames) n) → frames.countOf (plan .frames) n ≤ 256
+    → (es : List WriteReport) → TameW (feedW (startOf plan n w) es)
+unfolding startOf nothing
+tame plan n w r some few es =
+    let s = fed (frames.countOf (plan .frames) n) few es (startOf plan n w)
+    (record { counts = refl; retries = r; due = some; sent = omega arith; spare = r; waits = omega arith }) in
+    record { frames = s .sent; waits = omega (arith, s .waits, s .sent) }
+
+-- a call that has ended, or was refused at its start, stays as it is
+pub over-stays : (es : List WriteReport) (call : WriteCall) (a : Answer) → call .phase ≡ phase.Ended a → feedW call es ≡ call
+unfolding feedW reportOf case_waiting_ended_
+over-stays [] call a e = refl
+over-stays (x ∷ es) call a e = let q : reportedW call x ≡ call = rw e in ap (λ (c : WriteCall). feedW c es) q ∙ over-stays es call a e
+
+-- a transfer inside the window has at most 256 blocks
+pub window-few : (start n : ℕ) → inWindow start n ≡ true → blocksOf n ≤ 256
+unfolding inWindow
+window-few start n e = by (eqb n 0) refl (leb 0x4000 start) refl (leb (start + (n - 1)) 0x5FFF) refl
+  where
+    by : (a : Bool) → eqb n 0 ≡ a → (b : Bool) → leb 0x4000 start ≡ b → (c : Bool) → leb (start + (n - 1)) 0x5FFF ≡ c → blocksOf n ≤ 256
+    by true a b p c q = let none = eqb-true n 0 a in omega arith
+    by false a true p true q = omega (arith, leb-true 0x4000 start p, leb-true (start + (n - 1)) 0x5FFF q)
+    by false a false p c q = let z : _≡_ {A = ℕ} 0 1 = cc (rw (a, p) at e) in absurd (omega arith)
+    by false a true p false q = let z : _≡_ {A = ℕ} 0 1 = cc (rw (a, p, q) at e) in absurd (omega arith)

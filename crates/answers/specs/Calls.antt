@@ -1,0 +1,41 @@
+-- What each call asks of its lengths, by name: with `starts`, the refusals of all 21 calls. (01, length limits)
+-- Assumes nothing.
+use Prim.Native.Nat.{ℕ}
+use mathlib.Core.Path.{_≡_}
+use mathlib.Core.Bool.{true, false}
+use Rattle.protocol.specs.Common.{noPec}
+use Rattle.protocol.specs.declared.common.Config.{Config}
+use Rattle.protocol.specs.declared.frame.MacCommand.{MacCommand}
+use Rattle.engine.specs.Limit.{admitted}
+use Rattle.engine.specs.declared.limit.Limit.the-variants as limit
+use Rattle.writing.specs.Writing as writing
+use Rattle.writing.specs.declared.call.WritePlan.{WritePlan}
+use Rattle.reading.specs.Reading as reading
+use Rattle.reading.specs.declared.call.ReadPlan.{ReadPlan}
+use Rattle.interface.specs.Plans.{writeWithRetries, writeRegister, readRegister, dispatchCommand, readBuffer, writeBuffer}
+use Rattle.r5.specs.Plans.{macRead, macWrite, infoCRead, infoRead, infoWrite, accessKey, infoCWrite, flashRead, flashWrite}
+
+-- a call starts as its limit says
+pub record Admitted : Type 0 where
+  pub writing : (plan : WritePlan) (n w : ℕ) → writing.startOf plan n w .phase ≡ admitted (plan .limit) n w
+  pub reading : (plan : ReadPlan) (n w : ℕ) → reading.startOf plan n w .phase ≡ admitted (plan .limit) n w
+
+-- keys at 28 and 16, the override at 10: `macRead` and `macWrite`; unchecked calls are `readBuffer` and `writeRegister` of `noPec`
+pub record Limits (config : Config) : Type 0 where
+  pub writesWithPec : config .«pec_write» ≡ true → writeWithRetries config .limit ≡ limit.AtMost 38
+  pub writesPlain : config .«pec_write» ≡ false → writeWithRetries config .limit ≡ limit.Free
+  pub writesRegister : (address : ℕ) → writeRegister config address .limit ≡ limit.AtMost 32
+  pub writesUnchecked : (address : ℕ) → writeRegister (noPec config) address .limit ≡ limit.AtMost 32
+  pub readsRegister : (address n : ℕ) → readRegister config address n .limit ≡ limit.AtMost 32
+  pub dispatches : (address input n : ℕ) → dispatchCommand config address input n .limit ≡ limit.Command input
+  pub readsBuffer : (address n : ℕ) → readBuffer config address n .limit ≡ limit.Free
+  pub writesBuffer : (address : ℕ) → writeBuffer config address .limit ≡ limit.AtMost 33
+  pub readsKeys : (command : MacCommand) (size : ℕ) → macRead config command size .limit ≡ limit.Exactly size
+  pub writesKeys : (command : MacCommand) (size : ℕ) → macWrite config command size .limit ≡ limit.Exactly size
+  pub sendsKey : (lower upper : ℕ) → accessKey config lower upper .limit ≡ limit.Free
+  pub writesInfoC : (lower upper : ℕ) → infoCWrite config lower upper .limit ≡ limit.AtMost 32
+  pub readsInfoC : (n : ℕ) → infoCRead config n .limit ≡ limit.AtMost 32
+  pub writesInfo : infoWrite config .limit ≡ limit.AtMost 32
+  pub readsInfo : (n : ℕ) → infoRead config n .limit ≡ limit.AtMost 33
+  pub readsFlash : (start : ℕ) → flashRead config start .limit ≡ limit.Window start
+  pub writesFlash : (start : ℕ) → flashWrite config start .limit ≡ limit.Window start
