@@ -20,7 +20,7 @@ pub enum Transfer {
     Write(usize),
     // A write of one command byte followed by a read of so many bytes.
     Read(u8, usize),
-    // Nothing: the lent buffers are not those of the start, and the call still waits.
+    // Nothing: the lent buffers are not those of the start, or the frame has no room, and the call still waits.
     Refused(Answer),
     // Nothing more: the call has ended, or was refused at its start.
     Ended(Answer),

@@ -2,6 +2,7 @@
 use engine::limit::Limit;
 use protocol::common::Config;
 use protocol::consts::LARGEST_BUF_SIZE_BYTES;
+use protocol::consts::LARGEST_PLAIN_SIZE_BYTES;
 use protocol::consts::LARGEST_REG_SIZE_BYTES;
 use protocol::reply::Ask;
 use reading::call::ReadCall;
@@ -22,7 +23,7 @@ fn plain_limit(pec_write: bool) -> Limit
     ensures { λ r. ⌜ r ≡ plainLimit «pec_write» ⌝ }
 {
     if pec_write {
-        Limit::AtMost(38)
+        Limit::AtMost(LARGEST_PLAIN_SIZE_BYTES)
     } else {
         Limit::Free
     }

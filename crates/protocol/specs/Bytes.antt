@@ -23,6 +23,6 @@ storedAt at most b w = if leb at (length w) then take at w ++ blockIn most b (dr
 abbrev pub blocksOf : ℕ → ℕ
 blocksOf n = (n + 31) / 32
 
--- the part to send: with the PEC on the frame's n bytes in the work buffer, otherwise the caller's own
+-- the part to send: the frame's n bytes as they were built in the work buffer, or the caller's own
 unfoldable pub sendOf : List ℕ → List ℕ → Bool → ℕ → List ℕ
-sendOf payload work pec n = if pec then take n work else take n payload
+sendOf payload work built n = if built then take n work else take n payload

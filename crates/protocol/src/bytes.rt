@@ -1,4 +1,5 @@
 // Parts of slices, and what is copied from one to another.
+use crate::consts::LARGEST_DF_BLOCK_SIZE_BYTES;
 ghost use mathlib.Core.Path.{_≡_};
 ghost use Prim.Native.Nat.{_≤_, min};
 ghost use lib.ListN.{length, take, drop};
@@ -15,10 +16,10 @@ pub fn least(a: usize, b: usize) -> usize
 pub fn blocks(len: usize) -> usize
     ensures { λ r. ⌜ r ≡ blocksOf len ⌝ }
 {
-    if len % 32 == 0 {
-        len / 32
+    if len % LARGEST_DF_BLOCK_SIZE_BYTES == 0 {
+        len / LARGEST_DF_BLOCK_SIZE_BYTES
     } else {
-        len / 32 + 1
+        len / LARGEST_DF_BLOCK_SIZE_BYTES + 1
     }
 }
 
@@ -40,11 +41,11 @@ pub fn block(s: &[u8], at: usize, most: usize) -> &[u8]
     &s[at..end]
 }
 
-// The part to send, n bytes long: with `pec_write` on it was built in the work buffer, otherwise the caller's own bytes are the frame.
-pub fn to_send<'a>(payload: &'a [u8], work: &'a [u8], pec_write: bool, n: usize) -> &'a [u8]
-    ensures { λ r. ⌜ now r ≡ sendOf (now (payload .entry)) (now (work .entry)) «pec_write» n ⌝ }
+// The part to send, n bytes long: what was built in the work buffer, or, of a plain write with `pec_write` off, the caller's own bytes.
+pub fn to_send<'a>(payload: &'a [u8], work: &'a [u8], built: bool, n: usize) -> &'a [u8]
+    ensures { λ r. ⌜ now r ≡ sendOf (now (payload .entry)) (now (work .entry)) built n ⌝ }
 {
-    if pec_write {
+    if built {
         front(work, n)
     } else {
         front(payload, n)

@@ -43,5 +43,11 @@ pub const DEFAULT_BUS_RETRIES: u16 = 3;
 
 pub const DEFAULT_ERROR_BACKOFF_DELAY_MS: u32 = 10;
 
-// A work buffer has room for the longest frame, a plain write of 38 bytes with its PEC.
+// The addresses of the window.
+pub const DF_SIZE_BYTES: usize = 0x2000;
+
+// The longest frame that a plain write puts a PEC after.
+pub const LARGEST_PLAIN_SIZE_BYTES: usize = 38;
+
+// A work buffer has room for the longest frame and its PEC.
 pub const LEAST_WORK_BUFFER: usize = 39;

@@ -1,6 +1,7 @@
 // The data-flash window, 4000 to 5FFF hex. (interface.rs, check_df_range)
 use crate::consts::DF_FIRST_ADDRESS;
 use crate::consts::DF_LAST_ADDRESS;
+use crate::consts::DF_SIZE_BYTES;
 ghost use mathlib.Core.Path.{_≡_};
 ghost use Rattle.protocol.specs.Window.{inWindow};
 
@@ -14,7 +15,7 @@ pub fn check_df_range(starting_address: u16, len: usize) -> bool
     if starting_address < DF_FIRST_ADDRESS {
         return false;
     }
-    if 0x2000 < len {
+    if DF_SIZE_BYTES < len {
         return false;
     }
     (starting_address as usize) + (len - 1) <= DF_LAST_ADDRESS as usize

@@ -12,6 +12,7 @@ use engine::bus::Transfer;
 use engine::limit::Limit;
 use protocol::bytes;
 use protocol::common::Config;
+use protocol::consts::LARGEST_DF_BLOCK_SIZE_BYTES;
 use protocol::consts::MAC_CMD;
 use protocol::error::Answer;
 use protocol::frame::MacCommand;
@@ -338,7 +339,7 @@ impl ReadCall {
         let reads = plan.reads;
         let lent = task.lent;
         let ask = self.due();
-        let at = self.received as usize * 32;
+        let at = self.received as usize * LARGEST_DF_BLOCK_SIZE_BYTES;
         bytes::store_block(buffer, at, ask.data_of(reply), reads.most(lent.length));
     }
 

@@ -46,7 +46,12 @@ impl Head {
             Head::Command(address) => frame::lay_command(work, address, pec),
             Head::Mac(command) => frame::lay_fixed(work, command, b"", pec),
             Head::DataFlash(start) => {
-                frame::lay_number(work, start as usize + i as usize * 32, b"", pec)
+                frame::lay_number(
+                    work,
+                    start as usize + i as usize * LARGEST_DF_BLOCK_SIZE_BYTES,
+                    b"",
+                    pec,
+                )
             }
         }
     }
@@ -66,7 +71,7 @@ pub enum Reads {
 fn left(len: usize, i: u32) -> usize
     ensures { λ r. ⌜ r ≡ leftOf len i ⌝ }
 {
-    let at = i as usize * 32;
+    let at = i as usize * LARGEST_DF_BLOCK_SIZE_BYTES;
     if at < len { len - at } else { 0 }
 }
 

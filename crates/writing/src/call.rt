@@ -11,6 +11,7 @@ use engine::bus::Transfer;
 use engine::limit::Limit;
 use protocol::bytes;
 use protocol::common::Config;
+use protocol::consts::LARGEST_DF_BLOCK_SIZE_BYTES;
 use protocol::error::Answer;
 ghost use mathlib.Core.Path.{_≡_};
 ghost use lib.ListN.{length};
@@ -72,7 +73,7 @@ fn gave_up(frames: Frames, sent: u32, why: Answer) -> Answer
             why
         } else {
             Answer::PartialDataFlashWrite {
-                committed: sent as usize * 32,
+                committed: sent as usize * LARGEST_DF_BLOCK_SIZE_BYTES,
             }
         }
     } else {

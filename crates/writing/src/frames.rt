@@ -42,7 +42,7 @@ fn lay_half(work: &mut [u8], lower: u16, upper: u16, i: u32, pec: bool) -> Laid
 fn lay_block(work: &mut [u8], start: u16, payload: &[u8], i: u32, pec: bool) -> Laid
     ensures { λ r. ⌜ (r ≡ laidOf pec (blockBytes start i (now (payload .entry))) (length (now (work .entry)))) × (now (work .exit) ≡ workLaid pec (blockBytes start i (now (payload .entry))) (now (work .entry))) ⌝ }
 {
-    let at = i as usize * 32;
+    let at = i as usize * LARGEST_DF_BLOCK_SIZE_BYTES;
     let block = bytes::block(payload, at, LARGEST_DF_BLOCK_SIZE_BYTES);
     frame::lay_number(work, start as usize + at, block, pec)
 }
