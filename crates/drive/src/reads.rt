@@ -1,0 +1,306 @@
+// The reading calls.
+use crate::say;
+use crate::writes;
+use engine::bus::Outcome;
+use engine::bus::Transfer;
+use protocol::bytes;
+use protocol::common::Config;
+use reading::call::ReadCall;
+use reading::call::ReadReported;
+
+// One retry, with and without PEC on reads.
+fn config(pec: bool) -> Config {
+    Config {
+        max_bus_retries: 1,
+        pec_write: false,
+        pec_read: pec,
+    }
+}
+
+// The bytes 10, 11, .. hex.
+fn count_up(reply: &mut [u8]) {
+    for i in 0..reply.len() {
+        reply[i] = ((i + 16) % 256) as u8;
+    }
+}
+
+// A reply of n bytes at the front of what is lent: its last byte is the PEC of 16, the command, 17 and what comes before it.
+fn fill(reply: &mut [u8], n: usize, command: u8) {
+    count_up(reply);
+    if n == 0 {
+        return;
+    }
+    if reply.len() < n {
+        return;
+    }
+    let opening = [0x16, command, 0x17];
+    let check = smbus_pec::pec(smbus_pec::pec(0, &opening), bytes::front(reply, n - 1));
+    reply[n - 1] = check;
+}
+
+// Shows the transfer that is due, and says how many bytes it asks for.
+fn show(call: ReadCall, buffer: &[u8], work: &mut [u8]) -> usize {
+    match call.next(buffer, work) {
+        Transfer::Write(n) => {
+            say::write(call.to_send(work, n));
+            0
+        }
+        Transfer::Read(command, count) => {
+            say::read(command, count);
+            count
+        }
+        Transfer::Refused(a) => {
+            say::refusal(a);
+            0
+        }
+        Transfer::Ended(_) => {
+            say::words(b" -");
+            0
+        }
+    }
+}
+
+// Reports what a mark stands for: a brings a good reply, p one whose PEC differs, r one that is too long, s lends a shorter work buffer.
+fn report(call: ReadCall, mark: u8, reply: &[u8], buffer: &mut [u8], work: &[u8]) -> ReadReported {
+    match mark {
+        b'r' => call.report(
+            Outcome::Acknowledged,
+            b"a reply that is longer than any that was asked for",
+            buffer,
+            work,
+        ),
+        b's' => call.report(Outcome::Acknowledged, reply, buffer, b"short"),
+        _ => call.report(writes::outcome(mark), reply, buffer, work),
+    }
+}
+
+// The command that a reply's PEC is worked out with: for p another one.
+fn covered(mark: u8, command: u8) -> u8 {
+    if mark == b'p' { command ^ 1 } else { command }
+}
+
+// One transfer and its outcome.
+fn step(call: ReadCall, mark: u8, command: u8, buffer: &mut [u8], work: &mut [u8]) -> ReadCall {
+    let mut reply = [0u8; 64];
+    let count = show(call, buffer, work);
+    fill(&mut reply, count, covered(mark, command));
+    match report(call, mark, bytes::front(&reply, count), buffer, work) {
+        ReadReported::Refused(a, same) => {
+            say::refusal(a);
+            same
+        }
+        ReadReported::Taken(next) => next,
+    }
+}
+
+// The buffer as it is before a call.
+fn clear(buffer: &mut [u8]) {
+    for i in 0..buffer.len() {
+        buffer[i] = 0xA5;
+    }
+}
+
+// A call over a script, on a line, with the buffer at the end.
+fn run(start: ReadCall, command: u8, buffer: &mut [u8], work: &mut [u8], script: &[u8]) {
+    let mut call = start;
+    clear(buffer);
+    say::words(script);
+    for i in 0..script.len() {
+        call = step(call, script[i], command, buffer, work);
+    }
+    let phase = call.phase;
+    say::end(phase, call.tally.waits);
+    say::write(buffer);
+    say::words(b"\n");
+}
+
+// A call through success, retries, each failure and the refusals of a step, with this buffer.
+fn scripts(call: ReadCall, command: u8, buffer: &mut [u8]) {
+    let mut work = [0u8; 39];
+    run(call, command, buffer, &mut work, b"");
+    run(call, command, buffer, &mut work, b"aaaa");
+    run(call, command, buffer, &mut work, b"aeaaaa");
+    run(call, command, buffer, &mut work, b"ee");
+    run(call, command, buffer, &mut work, b"aapat");
+    run(call, command, buffer, &mut work, b"tpp");
+    run(call, command, buffer, &mut work, b"rsa");
+}
+
+// A call by name with a buffer of n bytes.
+fn all_of(name: &[u8], call: ReadCall, command: u8, n: usize) {
+    let mut room = [0u8; 64];
+    say::words(name);
+    say::words(b"\n");
+    if n <= 64 {
+        scripts(call, command, &mut room[..n]);
+    }
+}
+
+// The calls with this PEC setting.
+fn with(pec: bool) {
+    let work = [0u8; 39];
+    let room = [0u8; 40];
+    let c = config(pec);
+    all_of(
+        b"read_register",
+        interface::read_register(c, 0x12, &room[..2], &work),
+        0x12,
+        2,
+    );
+    all_of(
+        b"read_buffer",
+        interface::read_buffer(c, 0x23, &room[..2], &work),
+        0x23,
+        2,
+    );
+    all_of(
+        b"read_register_unchecked",
+        r5::read_register_unchecked(c, 0x12, &room[..0], &work),
+        0x12,
+        0,
+    );
+    all_of(
+        b"dispatch_command 443500, 2",
+        interface::dispatch_command(c, 0x443500, b"", &room[..2], &work),
+        0x44,
+        2,
+    );
+    all_of(
+        b"dispatch_command FF010203, 0",
+        interface::dispatch_command(c, 0xFF010203, b"", b"", &work),
+        0x44,
+        0,
+    );
+    all_of(
+        b"dispatch_command 010203, 1",
+        interface::dispatch_command(c, 0x010203, b"", &room[..1], &work),
+        0x44,
+        1,
+    );
+    all_of(
+        b"read_security_keys",
+        r5::read_security_keys(c, &room[..28], &work),
+        0x44,
+        28,
+    );
+    all_of(
+        b"read_authentication_key",
+        r5::read_authentication_key(c, &room[..16], &work),
+        0x44,
+        16,
+    );
+    all_of(
+        b"read_charging_voltage_override",
+        r5::read_charging_voltage_override(c, &room[..10], &work),
+        0x44,
+        10,
+    );
+    all_of(
+        b"read_mfg_info_c",
+        r5::read_mfg_info_c(c, &room[..2], &work),
+        0x44,
+        2,
+    );
+    all_of(
+        b"read_mfg_info",
+        r5::read_mfg_info(c, &room[..2], &work),
+        0x70,
+        2,
+    );
+    all_of(
+        b"read_dataflash",
+        r5::read_dataflash(c, 0x5FDF, &room[..33], &work),
+        0x44,
+        33,
+    );
+}
+
+// A call that is refused, or done, at its start.
+fn refused(name: &[u8], call: ReadCall) {
+    say::words(name);
+    let phase = call.phase;
+    say::end(phase, call.tally.waits);
+    say::words(b"\n");
+}
+
+// The refusals of a start, on each side of a limit.
+fn starts() {
+    let work = [0u8; 39];
+    let s = [0u8; 40];
+    let t = [0u8; 33];
+    let c = config(true);
+    refused(
+        b"read_register 32",
+        interface::read_register(c, 1, &s[..32], &work),
+    );
+    refused(
+        b"read_register 33",
+        interface::read_register(c, 1, &s[..33], &work),
+    );
+    refused(
+        b"read_register 33, work 38",
+        interface::read_register(c, 1, &s[..33], &work[..38]),
+    );
+    refused(b"read_buffer 40", interface::read_buffer(c, 1, &s, &work));
+    refused(
+        b"dispatch_command input 33",
+        interface::dispatch_command(c, 1, &t, &s[..1], &work),
+    );
+    refused(
+        b"dispatch_command output 33",
+        interface::dispatch_command(c, 1, b"", &s[..33], &work),
+    );
+    refused(
+        b"dispatch_command input 1",
+        interface::dispatch_command(c, 1, b"!", &s[..1], &work),
+    );
+    refused(
+        b"dispatch_command input 1, output 33",
+        interface::dispatch_command(c, 1, b"!", &s[..33], &work),
+    );
+    refused(
+        b"read_security_keys 29",
+        r5::read_security_keys(c, &s[..29], &work),
+    );
+    refused(
+        b"read_authentication_key 15",
+        r5::read_authentication_key(c, &s[..15], &work),
+    );
+    refused(
+        b"read_charging_voltage_override 11",
+        r5::read_charging_voltage_override(c, &s[..11], &work),
+    );
+    refused(
+        b"read_mfg_info_c 32",
+        r5::read_mfg_info_c(c, &s[..32], &work),
+    );
+    refused(
+        b"read_mfg_info_c 33",
+        r5::read_mfg_info_c(c, &s[..33], &work),
+    );
+    refused(b"read_mfg_info 33", r5::read_mfg_info(c, &s[..33], &work));
+    refused(b"read_mfg_info 34", r5::read_mfg_info(c, &s[..34], &work));
+    refused(
+        b"read_dataflash 3FFF 1",
+        r5::read_dataflash(c, 0x3FFF, &s[..1], &work),
+    );
+    refused(
+        b"read_dataflash 5FFF 1",
+        r5::read_dataflash(c, 0x5FFF, &s[..1], &work),
+    );
+    refused(
+        b"read_dataflash 5FFF 2",
+        r5::read_dataflash(c, 0x5FFF, &s[..2], &work),
+    );
+    refused(
+        b"read_dataflash FFFF 0",
+        r5::read_dataflash(c, 0xFFFF, b"", &work),
+    );
+}
+
+// Everything.
+pub fn all() {
+    with(false);
+    with(true);
+    starts();
+}

@@ -1,0 +1,57 @@
+// What is printed.
+use engine::bus::Phase;
+use libc::STDOUT_FILENO;
+use protocol::error::Answer;
+
+// Words as they stand.
+pub fn words(s: &[u8]) {
+    io::write_all(STDOUT_FILENO, s);
+}
+
+// A byte as two digits.
+fn byte(b: u8) {
+    io::print_hex(STDOUT_FILENO, b as u64, 2);
+}
+
+// Bytes as digits.
+pub fn bytes(s: &[u8]) {
+    for i in 0..s.len() {
+        byte(s[i]);
+    }
+}
+
+// A write, or the frame of it.
+pub fn write(frame: &[u8]) {
+    words(b" ");
+    bytes(frame);
+}
+
+// A read: its command and the number of bytes asked.
+pub fn read(command: u8, count: usize) {
+    words(b" ");
+    byte(command);
+    words(b"?");
+    io::print_decimal(STDOUT_FILENO, count as u64);
+}
+
+// A refusal of a step.
+pub fn refusal(a: Answer) {
+    words(b" (");
+    io::print_decimal(STDOUT_FILENO, a.number() as u64);
+    words(b")");
+}
+
+// How a call stands: its answer with the detail, or that it waits; and its waits.
+pub fn end(phase: Phase, waits: u32) {
+    match phase {
+        Phase::Waiting => words(b" : waits"),
+        Phase::Ended(a) => {
+            words(b" : ");
+            io::print_decimal(STDOUT_FILENO, a.number() as u64);
+            words(b" ");
+            io::print_decimal(STDOUT_FILENO, a.detail() as u64);
+        }
+    }
+    words(b" ");
+    io::print_decimal(STDOUT_FILENO, waits as u64);
+}
