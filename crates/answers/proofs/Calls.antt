@@ -36,6 +36,6 @@ limits config = record {
   writesFlash = λ start. refl;
 }
 
--- what meets an equation is the one thing that does: cited for every public function
+-- uniqueness: every public contract is such an equation, for the result and for each lent byte (docs/STATEMENTS.md)
 pub unique : {A : Type 0} (f r r′ : A) → r ≡ f → r′ ≡ f → r ≡ r′
 unique f r r′ p q = cc

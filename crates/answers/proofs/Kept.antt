@@ -38,7 +38,7 @@ use Rattle.reading.specs.declared.call.Verdict.{Verdict}
 use Rattle.reading.specs.declared.call.Verdict.the-variants as verdict
 use Rattle.answers.specs.Runs.{ReadReport, Reader, callR, reportedR, feedR, TameR}
 
--- a block that is stored changes nothing before it, nothing after it, and no length
+-- a block that is stored changes nothing after it, and no length
 pub stored-after : (at most : ℕ) (b w : List ℕ) → drop (at + most) (storedAt at most b w) ≡ drop (at + most) w
 unfolding storedAt blockIn if_then_else_
 stored-after at most b w = by (leb at (length w)) refl
@@ -298,7 +298,7 @@ module _ (plan : ReadPlan) (w : ℕ) (buffer : List ℕ) (r : plan .retries ≤ 
   pub tame : TameR (after .call)
   tame = let s = sound in record { blocks = s .some; waits = omega (arith, s .waits) }
 
-  -- and until it has ended well, the buffer past the whole blocks is as it was, and so is its length
+  -- and until it has ended well, the buffer past the whole blocks is as it was
   pub kept : (after .call .phase ≡ phase.Ended answer.Done → ⊥) → drop (after .call .received * 32) (after .buffer) ≡ drop (after .call .received * 32) buffer
   kept undone = by (sound .front)
     where

@@ -1,4 +1,4 @@
--- What each call asks of its lengths, by name: with `starts`, the refusals of all 21 calls. (01, length limits)
+-- What each call asks of its lengths, by name: with `starts`, the refusals of every call at its start. (01, length limits)
 -- Assumes nothing.
 use Prim.Native.Nat.{ℕ}
 use mathlib.Core.Path.{_≡_}

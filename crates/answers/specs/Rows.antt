@@ -17,6 +17,8 @@ use Rattle.engine.specs.declared.bus.Outcome.{Outcome}
 use Rattle.engine.specs.declared.bus.Outcome.the-variants as outcome
 use Rattle.engine.specs.declared.bus.Phase.{Phase}
 use Rattle.engine.specs.declared.bus.Phase.the-variants as phase
+use Rattle.engine.specs.declared.bus.Transfer.{Transfer}
+use Rattle.engine.specs.declared.bus.Transfer.the-variants as transfer
 use Rattle.engine.specs.declared.limit.Limit.{Limit}
 use Rattle.engine.specs.declared.limit.Limit.the-variants as limit
 use Rattle.writing.specs.Frames as frames
@@ -106,7 +108,7 @@ abbrev pub saidR : ReadReported → Phase
 saidR (read.Refused a call) = phase.Ended a
 saidR (read.Taken call) = call .phase
 
--- a waiting call with the right buffers, whose last allowed attempt is under way
+-- a waiting call with the right buffers
 abbrev pub OpenW : WriteCall → ℕ → ℕ → Type 0
 OpenW call n w = (call .phase ≡ phase.Waiting) × Same (call .task .lent) n w
 
@@ -165,3 +167,57 @@ Reads call o bytes n w answer.WrongBuffer = (call .phase ≡ phase.Waiting) × (
 Reads call o bytes n w answer.WrongReply = OpenR call n w × (o ≡ outcome.Acknowledged) × (length bytes ≡ asked call → ⊥)
 Reads call o bytes n w answer.NothingOutstanding = (a : Answer) × (call .phase ≡ phase.Ended a)
 Reads call o bytes n w answer.BadLine = ⊥
+
+-- ---- a refusal of a step is 8, 9 or 10 and hands the call back as it was; a call that was taken ends with 0, 1, 2, 3 or 6
+
+abbrev pub Refusal : Answer → Type 0
+Refusal answer.Done = ⊥
+Refusal (answer.I2c code) = ⊥
+Refusal answer.Timeout = ⊥
+Refusal answer.Pec = ⊥
+Refusal answer.DataTooLarge = ⊥
+Refusal answer.DataFlashAddressOutOfRange = ⊥
+Refusal (answer.PartialDataFlashWrite committed) = ⊥
+Refusal answer.NotACommand = ⊥
+Refusal answer.WrongBuffer = Unit {0}
+Refusal answer.WrongReply = Unit {0}
+Refusal answer.NothingOutstanding = Unit {0}
+Refusal answer.BadLine = ⊥
+
+abbrev pub Ending : Answer → Type 0
+Ending answer.Done = Unit {0}
+Ending (answer.I2c code) = Unit {0}
+Ending answer.Timeout = Unit {0}
+Ending answer.Pec = Unit {0}
+Ending answer.DataTooLarge = ⊥
+Ending answer.DataFlashAddressOutOfRange = ⊥
+Ending (answer.PartialDataFlashWrite committed) = Unit {0}
+Ending answer.NotACommand = ⊥
+Ending answer.WrongBuffer = ⊥
+Ending answer.WrongReply = ⊥
+Ending answer.NothingOutstanding = ⊥
+Ending answer.BadLine = ⊥
+
+abbrev pub Ends : Phase → Type 0
+Ends phase.Waiting = Unit {0}
+Ends (phase.Ended a) = Ending a
+
+abbrev pub SortW : WriteCall → WriteReported → Type 0
+SortW call (wrote.Refused a same) = Refusal a × (same ≡ call)
+SortW call (wrote.Taken next) = (call .phase ≡ phase.Waiting) × Ends (next .phase)
+
+-- of a read, the buffer after a refusal, and after every ending but 0, is the buffer before
+abbrev pub Kept : Phase → List ℕ → List ℕ → Type 0
+Kept p before after = (p ≡ phase.Waiting → ⊥) → (p ≡ phase.Ended answer.Done → ⊥) → after ≡ before
+
+abbrev pub SortR : ReadCall → List ℕ → List ℕ → ReadReported → Type 0
+SortR call before after (read.Refused a same) = Refusal a × (same ≡ call) × (after ≡ before)
+SortR call before after (read.Taken next) = (call .phase ≡ phase.Waiting) × Ends (next .phase) × Kept (next .phase) before after
+
+-- ---- what is shown: an ended call its answer at any lent length, a waiting one 8 where the lengths differ; both spare the work buffer
+
+abbrev pub Shown : Phase → Lent → ℕ → ℕ → List ℕ → List ℕ → Transfer → Type 0
+Shown p lent n w before after (transfer.Ended a) = (p ≡ phase.Ended a) × (after ≡ before)
+Shown p lent n w before after (transfer.Refused a) = (p ≡ phase.Waiting) × (a ≡ answer.WrongBuffer) × (after ≡ before)
+Shown p lent n w before after (transfer.Write count) = (p ≡ phase.Waiting) × Same lent n w
+Shown p lent n w before after (transfer.Read command count) = (p ≡ phase.Waiting) × Same lent n w × (after ≡ before)

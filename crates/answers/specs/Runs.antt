@@ -1,4 +1,4 @@
--- A call fed any list of reports, with any replies and any lent lengths.
+-- A call fed any list of reports: with any replies, and to a writing call with any lent lengths.
 -- Assumes nothing.
 use Prim.Native.Nat.{ℕ, _*_, _≤_, _<_}
 use mathlib.Core.Path.{_≡_}
