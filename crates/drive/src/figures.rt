@@ -18,7 +18,7 @@ fn figure(millivolts: i16) {
 }
 
 // Ten bytes, their five figures, and the bytes of those.
-pub fn all() {
+pub(crate) fn all() {
     let v = ChargingVoltageOverride::from_bytes(b"\xFF\xFF\x00\x80\xFF\x7F\x00\x01\x01\x00");
     say::words(b"ffff0080ff7f00010100 :");
     figure(v.low_temp_chrg_mv);

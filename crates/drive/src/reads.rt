@@ -299,7 +299,7 @@ fn starts() {
 }
 
 // Everything.
-pub fn all() {
+pub(crate) fn all() {
     with(false);
     with(true);
     starts();

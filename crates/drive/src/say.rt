@@ -4,7 +4,7 @@ use libc::STDOUT_FILENO;
 use protocol::error::Answer;
 
 // Words as they stand.
-pub fn words(s: &[u8]) {
+pub(crate) fn words(s: &[u8]) {
     io::write_all(STDOUT_FILENO, s);
 }
 
@@ -14,20 +14,20 @@ fn byte(b: u8) {
 }
 
 // Bytes as digits.
-pub fn bytes(s: &[u8]) {
+pub(crate) fn bytes(s: &[u8]) {
     for i in 0..s.len() {
         byte(s[i]);
     }
 }
 
 // A write, or the frame of it.
-pub fn write(frame: &[u8]) {
+pub(crate) fn write(frame: &[u8]) {
     words(b" ");
     bytes(frame);
 }
 
 // A read: its command and the number of bytes asked.
-pub fn read(command: u8, count: usize) {
+pub(crate) fn read(command: u8, count: usize) {
     words(b" ");
     byte(command);
     words(b"?");
@@ -35,14 +35,14 @@ pub fn read(command: u8, count: usize) {
 }
 
 // A refusal of a step.
-pub fn refusal(a: Answer) {
+pub(crate) fn refusal(a: Answer) {
     words(b" (");
     io::print_decimal(STDOUT_FILENO, a.number() as u64);
     words(b")");
 }
 
 // How a call stands: its answer with the detail, or that it waits; and its waits.
-pub fn end(phase: Phase, waits: u32) {
+pub(crate) fn end(phase: Phase, waits: u32) {
     match phase {
         Phase::Waiting => words(b" : waits"),
         Phase::Ended(a) => {

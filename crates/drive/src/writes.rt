@@ -16,7 +16,7 @@ fn config(pec: bool) -> Config {
 }
 
 // The outcome that a digit of a script stands for: e is bus error 5, t a timeout, all others are acknowledged.
-pub fn outcome(mark: u8) -> Outcome {
+pub(crate) fn outcome(mark: u8) -> Outcome {
     match mark {
         b'e' => Outcome::BusError(5),
         b't' => Outcome::Timeout,
@@ -235,7 +235,7 @@ fn starts() {
 }
 
 // Everything.
-pub fn all() {
+pub(crate) fn all() {
     with(false);
     with(true);
     starts();
