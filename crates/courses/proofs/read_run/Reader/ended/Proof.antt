@@ -1,0 +1,17 @@
+-- `courses::read_run::Reader::ended` meets its contract: the fields are those of `endedOf`.
+-- Assumes nothing.
+use Prim.Native.Nat.{_-_}
+use borrow.Author.Needs.{needs}
+use Rattle.courses.specs.ReadRun.{endedOf}
+use Rattle.courses.proofs.read_run.Reader.ended.Statement.{statement}
+use Rattle.courses.proofs.read_run.Reader.ended.Tie as tie
+
+end-of-requires : tie.Need-end-of-requires
+end-of-requires c κs = search needs
+
+returns : tie.Need-returns
+unfolding endedOf
+returns c = cc
+
+pub ended-spec : {M : Type 1} → statement M
+ended-spec = tie.close (tie.spec end-of-requires returns)

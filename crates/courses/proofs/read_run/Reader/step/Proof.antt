@@ -1,0 +1,106 @@
+-- `courses::read_run::Reader::step` meets its contract: a head or a read goes to the gauge.
+-- Assumes nothing.
+use Prim.Native.Nat.{_-_}
+use borrow.Author.Needs.{needs}
+use Rattle.courses.proofs.Cases.{at-refused, at-ended}
+use Rattle.courses.proofs.Steps.{step-sent, step-asked}
+use Rattle.courses.specs.ReadRun.{stepOf}
+use Rattle.courses.proofs.read_run.Reader.step.Statement.{statement}
+use Rattle.courses.proofs.read_run.Reader.step.Tie as tie
+
+next-requires : tie.Need-next-requires
+next-requires c κs = search needs
+
+enum-known-transfer : tie.Need-enum-known-transfer
+enum-known-transfer c = search needs
+
+send-requires : tie.Need-send-requires
+send-requires c κs = search needs
+
+enum-known-transfer-2 : tie.Need-enum-known-transfer-2
+enum-known-transfer-2 c = search needs
+
+ask-requires : tie.Need-ask-requires
+ask-requires c κs = search needs
+
+enum-told : tie.Need-enum-told
+enum-told c = search needs
+
+enum-told-2 : tie.Need-enum-told-2
+enum-told-2 c = search needs
+
+same-length : tie.Need-same-length
+same-length c = search needs
+
+same-length-2 : tie.Need-same-length-2
+same-length-2 c = search needs
+
+same-length-3 : tie.Need-same-length-3
+same-length-3 c = search needs
+
+returns : tie.Need-returns
+returns c =
+    let shown = c .before .before .before .before .before .before .before .before .before .before .before .before .before .next .ensures in
+    let sent = c .before .before .before .before .send .ensures in
+    step-sent _ _ _ _ _ _ _ _ _ (shown .0) (shown .1) _ _ (c .before .before .before .before .before .before .before .before .before .transfer .given .1) (sent .0) (sent .1) (sent .2)
+
+same-length-4 : tie.Need-same-length-4
+same-length-4 c = search needs
+
+same-length-5 : tie.Need-same-length-5
+same-length-5 c = search needs
+
+same-length-6 : tie.Need-same-length-6
+same-length-6 c = search needs
+
+returns-2 : tie.Need-returns-2
+returns-2 c =
+    let shown = c .before .before .before .before .before .before .before .before .before .before .before .next .ensures in
+    let asked = c .before .before .ask .ensures in
+    step-asked _ _ _ _ _ _ _ _ _ (shown .0) (shown .1) _ _ (c .before .before .before .before .before .before .before .transfer2 .given .1) (asked .0) (asked .1)
+
+same-length-7 : tie.Need-same-length-7
+same-length-7 c = search needs
+
+same-length-8 : tie.Need-same-length-8
+same-length-8 c = search needs
+
+returns-3 : tie.Need-returns-3
+unfolding stepOf
+returns-3 c = at-refused _ _ _ _ _ _ _ (c .before .before .before .before .next .ensures .0) (c .enum-told .given .1) (cc)
+
+same-length-9 : tie.Need-same-length-9
+same-length-9 c = search needs
+
+same-length-10 : tie.Need-same-length-10
+same-length-10 c = search needs
+
+returns-4 : tie.Need-returns-4
+unfolding stepOf
+returns-4 c = at-ended _ _ _ _ _ _ _ (c .before .before .before .before .next .ensures .0) (c .enum-told2 .given .1) (cc)
+
+pub step-spec : {M : Type 1} → statement M
+step-spec =
+    tie.close
+    (tie.spec
+    next-requires
+    enum-known-transfer
+    send-requires
+    enum-known-transfer-2
+    ask-requires
+    enum-told
+    enum-told-2
+    same-length
+    same-length-2
+    same-length-3
+    returns
+    same-length-4
+    same-length-5
+    same-length-6
+    returns-2
+    same-length-7
+    same-length-8
+    returns-3
+    same-length-9
+    same-length-10
+    returns-4)

@@ -1,0 +1,4 @@
+pub mod Pick
+pub mod Course
+pub mod WriteRun
+pub mod ReadRun

@@ -1,0 +1,19 @@
+-- `requests::request::config` meets its contract: its fields are those of `configOf`.
+-- Assumes nothing.
+use borrow.Author.Needs.{needs}
+use Rattle.requests.specs.Request.{configOf}
+use Rattle.requests.proofs.request.config.Statement.{statement}
+use Rattle.requests.proofs.request.config.Tie as tie
+
+byte-requires : tie.Need-byte-requires
+byte-requires c κs = search needs
+
+pair-requires : tie.Need-pair-requires
+pair-requires c κs = search needs
+
+returns : tie.Need-returns
+unfolding configOf
+returns c = cc
+
+pub config-spec : {M : Type 1} → statement M
+config-spec = tie.close (tie.spec byte-requires pair-requires returns)
