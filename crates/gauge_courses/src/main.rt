@@ -1,0 +1,250 @@
+// Runs a data-flash write of three blocks against the model gauge over every course of up to seven transfers, with a PEC and without, and with 0 to 2
+// retries. Each run that stops is gone on with: a cut call over a heard course, an error by a second call with the bytes past its count. A line for
+// each setting has the runs, how they ended, and how many flashes then equal that of one clean write. The file `stdout` comes from
+// tests/gauge_courses.py, a program of its own that goes by document 01.
+use courses::course::End;
+use courses::write_run::WriteRun;
+use courses::write_run::Writer;
+use engine::budget;
+use libc::STDOUT_FILENO;
+use model_gauge::gauge::FLASH_BYTES;
+use model_gauge::gauge::Gauge;
+use protocol::bytes;
+use protocol::common::Config;
+use protocol::error::Answer;
+ghost use Prim.Native.Nat.{_≤_};
+
+const ADDRESS: u16 = 0x5000;
+
+const PAYLOAD: [u8; 70] =
+    *b"Three blocks of history for one pack: two of thirty-two bytes, and six";
+
+// As many transfers as a course has at the most, all heard.
+const HEARD: [u8; 7] = [0, 0, 0, 0, 0, 0, 0];
+
+fn main() {
+    let mut old = [0u8; 8192];
+    fill(&mut old);
+    let mut clean = [0u8; 8192];
+    write_clean(&old, &mut clean);
+    for retries in 0..3u16 {
+        setting(retries, false, &old, &clean);
+        setting(retries, true, &old, &clean);
+    }
+}
+
+// How runs ended, and what they left once they were gone on with.
+struct Counts {
+    runs: u32,
+    cuts: u32,
+    done: u32,
+    bus_errors: u32,
+    timeouts: u32,
+    partial: u32,
+    others: u32,
+    clean: u32,
+}
+
+impl Counts {
+    fn new() -> Counts {
+        Counts {
+            runs: 0,
+            cuts: 0,
+            done: 0,
+            bus_errors: 0,
+            timeouts: 0,
+            partial: 0,
+            others: 0,
+            clean: 0,
+        }
+    }
+
+    // One run more, which ended so.
+    fn ended(mut self, end: End) -> Counts {
+        self.runs = budget::more(self.runs);
+        match end {
+            End::Cut => {
+                self.cuts = budget::more(self.cuts);
+                self
+            }
+            End::Answered(answer) => self.answered(answer.number()),
+        }
+    }
+
+    // One answer more, by its number.
+    fn answered(mut self, number: u8) -> Counts {
+        if number == 0 {
+            self.done = budget::more(self.done);
+            return self;
+        }
+        if number == 1 {
+            self.bus_errors = budget::more(self.bus_errors);
+            return self;
+        }
+        if number == 2 {
+            self.timeouts = budget::more(self.timeouts);
+            return self;
+        }
+        if number == 6 {
+            self.partial = budget::more(self.partial);
+            return self;
+        }
+        self.others = budget::more(self.others);
+        self
+    }
+
+    // One flash more that is as the clean write leaves it, or not.
+    fn compared(mut self, equal: bool) -> Counts {
+        if equal {
+            self.clean = budget::more(self.clean);
+        }
+        self
+    }
+}
+
+// A flash as it was before the write: no two neighbouring bytes are the same.
+fn fill(flash: &mut [u8]) {
+    for i in 0..flash.len() {
+        flash[i] = (i % 251) as u8;
+    }
+}
+
+// The flash that one clean write leaves.
+fn write_clean(old: &[u8], clean: &mut [u8]) {
+    let mut work = [0u8; 39];
+    bytes::copy_block(clean, old, FLASH_BYTES);
+    let config = Config::new();
+    send(config, 0, clean, &mut work);
+}
+
+// A call with the bytes past the first `past`, over a heard course.
+fn send(config: Config, past: usize, flash: &mut [u8], work: &mut [u8]) {
+    let payload = PAYLOAD;
+    let heard = HEARD;
+    let sent = bytes::least(past, payload.len());
+    let rest = bytes::block(&payload, sent, payload.len());
+    let call = r5::write_dataflash(config, ADDRESS + sent as u16, rest, work);
+    let writer = Writer {
+        call,
+        gauge: Gauge::new(),
+    };
+    writer.run(rest, work, flash, &heard);
+}
+
+// The bytes that an answer says were acknowledged; none given means zero.
+fn count_of(answer: Answer) -> usize {
+    if answer.number() == 6 {
+        answer.detail()
+    } else {
+        0
+    }
+}
+
+// A run that stopped is gone on with.
+fn go_on(config: Config, run: WriteRun, flash: &mut [u8], work: &mut [u8]) {
+    let payload = PAYLOAD;
+    let heard = HEARD;
+    let end = run.end;
+    let writer = run.writer;
+    match end {
+        End::Cut => {
+            writer.run(&payload, work, flash, &heard);
+        }
+        End::Answered(answer) => {
+            if answer.number() != 0 {
+                send(config, count_of(answer), flash, work);
+            }
+        }
+    }
+}
+
+// The write over one course, gone on with where it stopped.
+fn run(config: Config, course: &[u8], old: &[u8], clean: &[u8], counts: Counts) -> Counts {
+    let payload = PAYLOAD;
+    let mut flash = [0u8; 8192];
+    let mut work = [0u8; 39];
+    bytes::copy_block(&mut flash, old, FLASH_BYTES);
+    let call = r5::write_dataflash(config, ADDRESS, &payload, &work);
+    let writer = Writer {
+        call,
+        gauge: Gauge::new(),
+    };
+    let run = writer.run(&payload, &mut work, &mut flash, course);
+    go_on(config, run, &mut flash, &mut work);
+    let equal = check::same(&flash, clean);
+    let end = run.end;
+    counts.ended(end).compared(equal)
+}
+
+// The course of a number: its digits in base 3, lowest first.
+fn course_of(number: u32) -> [u8; 7] {
+    let mut course = [0u8; 7];
+    let mut rest = number;
+    for i in 0..7usize {
+        course[i] = (rest % 3) as u8;
+        rest = rest / 3;
+    }
+    course
+}
+
+// How many courses there are of a length up to seven.
+fn courses_of(length: usize) -> u32
+    ensures { λ r. ⌜ r ≤ 2187 ⌝ }
+{
+    match length {
+        0 => 1,
+        1 => 3,
+        2 => 9,
+        3 => 27,
+        4 => 81,
+        5 => 243,
+        6 => 729,
+        _ => 2187,
+    }
+}
+
+// Every course of one length.
+fn each(config: Config, length: usize, old: &[u8], clean: &[u8], counts: Counts) -> Counts {
+    let courses = courses_of(length);
+    let mut counted = counts;
+    for number in 0..courses {
+        let course = course_of(number);
+        counted = run(config, bytes::front(&course, length), old, clean, counted);
+    }
+    counted
+}
+
+// Every course of up to seven transfers at one setting, and its line.
+fn setting(retries: u16, pec: bool, old: &[u8], clean: &[u8]) {
+    let config = Config {
+        max_bus_retries: retries,
+        pec_write: pec,
+        pec_read: false,
+    };
+    let mut counted = Counts::new();
+    for length in 0..8usize {
+        counted = each(config, length, old, clean, counted);
+    }
+    print(retries, pec, counted);
+}
+
+// A word and a number.
+fn item(word: &[u8], n: u32) {
+    io::write_all(STDOUT_FILENO, word);
+    io::print_decimal(STDOUT_FILENO, n as u64);
+}
+
+// The line of a setting.
+fn print(retries: u16, pec: bool, counts: Counts) {
+    item(b"retries ", retries as u32);
+    item(b" pec ", pec as u32);
+    item(b": runs ", counts.runs);
+    item(b" cuts ", counts.cuts);
+    item(b" done ", counts.done);
+    item(b" bus errors ", counts.bus_errors);
+    item(b" timeouts ", counts.timeouts);
+    item(b" partial ", counts.partial);
+    item(b" others ", counts.others);
+    item(b" clean ", counts.clean);
+    io::write_all(STDOUT_FILENO, b"\n");
+}

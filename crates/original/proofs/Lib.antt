@@ -1,0 +1,14 @@
+pub mod Laws
+pub mod WriteTurns
+pub mod OneFrame
+pub mod FlashWrite
+pub mod Range
+pub mod ReadTurns
+pub mod Replies
+pub mod PlainRead
+pub mod MacRead
+pub mod OnlyHead
+pub mod FlashRead
+pub mod WriteCalls
+pub mod ReadCalls
+pub mod Equal

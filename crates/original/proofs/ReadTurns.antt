@@ -1,0 +1,236 @@
+-- A reading call, fed, turn by turn: a head that goes out, a read, a failed attempt.
+-- Assumes nothing.
+use Prim.Native.Nat.{ℕ, suc, _+_, _-_, _≤_, _<_}
+use mathlib.Core.Path.{_≡_, refl, sym, _∙_}
+use mathlib.Core.List.{List, [], _∷_, _++_}
+use mathlib.Core.Bool.{Bool, true, false}
+use native.Mathlib.Omega.{arith}
+use lib.ListN.{length, take, length-append, length-take, length-replicate}
+use lib.Dec.{eqb}
+use borrow.Author.Tests.{lt-ltb, eq-eqb, le-leb, lt-leb}
+use Rattle.protocol.specs.Pick.{if_then_else_}
+use Rattle.protocol.specs.Answer.{numberOf}
+use Rattle.protocol.specs.Frame.{sealed, laidOf, workLaid}
+use Rattle.protocol.specs.Reply.{countOf, checkedOf, heardOf}
+use Rattle.protocol.proofs.Laws.{take-over, length-over}
+use Rattle.protocol.specs.declared.error.Answer.{Answer}
+use Rattle.protocol.specs.declared.error.Answer.the-variants as answer
+use Rattle.protocol.specs.declared.reply.Ask.{Ask}
+use Rattle.protocol.specs.declared.reply.Heard.the-variants as heard
+use Rattle.engine.specs.Pick.{case_waiting_ended_, case_acknowledged_error_timeout_, case_retry_spent_}
+use Rattle.engine.specs.Budget.{failed, moreOf, nothing, waited}
+use Rattle.engine.specs.Bus.{writeOf, phaseAfter, fitsOf}
+use Rattle.engine.specs.Limit.{admitted}
+use Rattle.engine.specs.declared.bus.Phase.the-variants as phase
+use Rattle.reading.specs.Pick.{case_refused_fault_headed_block_}
+use Rattle.reading.specs.Parts as parts
+use Rattle.reading.specs.Reading as reading
+use Rattle.reading.specs.declared.call.ReadPlan.{ReadPlan}
+use Rattle.reading.specs.declared.call.ReadCall.{ReadCall}
+use Rattle.reading.specs.declared.call.Verdict.the-variants as verdict
+use Rattle.original.specs.Bus.{BusOutcome, Acknowledged, BusError, Timeout, delivered, Made, write, read, begun, Ok, Err, Waiting, _leaving_, busOp_err_ok_}
+use Rattle.original.specs.Fed.{told, brings, reply, answered, shows_sending_transfer_answer_, heard_taken_refused_, fedRead}
+use Rattle.original.proofs.WriteTurns.{sealed-short}
+
+-- one that has ended says its answer
+pub at-end : (call : ReadCall) (buffer work : List ℕ) (done : List Made) (a : Answer) → call .phase ≡ phase.Ended a
+    → (outcomes : List BusOutcome) → fedRead call buffer work done outcomes ≡ answered a (record { transfers = done; waits = call .tally .waits }) outcomes leaving buffer
+unfolding fedRead reading.nextOf case_waiting_ended_ shows_sending_transfer_answer_
+at-end call buffer work done a e [] = rw e
+at-end call buffer work done a e (o ∷ outcomes) = rw e
+
+-- an acknowledged read brings as many bytes as were asked
+pub length-delivered : (n : ℕ) (bytes : List ℕ) → length (delivered n bytes) ≡ n
+length-delivered n bytes = rw (length-take, length-append, length-replicate) (omega arith)
+
+module _ (plan : ReadPlan) (n w : ℕ) where
+  -- the call that has handed over i blocks and waits, for its head or for a read
+  abbrev pub at : Bool → ℕ → ℕ → ℕ → ReadCall
+  at heading i left waits = record {
+    task = record { plan = plan; lent = record { length = n; work = w } };
+    phase = phase.Waiting;
+    heading = heading;
+    received = i;
+    budget = record { left = left };
+    tally = record { waits = waits };
+  }
+
+  fits : (m v : ℕ) → m ≡ n → v ≡ w → fitsOf (record { length = n; work = w }) m v ≡ true
+  unfolding fitsOf
+  fits m v e q = rw (eq-eqb m n e, eq-eqb v w q)
+
+  -- the head of block i as it goes out
+  unfoldable pub headAt : ℕ → List ℕ
+  headAt i = sealed (plan .«head_pec») (parts.headBytes (plan .head) i)
+
+  -- what read i asks for
+  abbrev pub askAt : ℕ → Ask
+  askAt i = parts.askOf (plan .reads) n i
+
+  pub shown-head : {A : Type 0} (i left waits : ℕ) (buffer work : List ℕ) (f : Made → A) (g : Answer → A) → length buffer ≡ n → length work ≡ w → length (parts.headBytes (plan .head) i) < w
+      → (shows reading.nextOf (at true i left waits) (length buffer) (length work) sending (λ m. take m (reading.workAfter (at true i left waits) (length buffer) work)) transfer f answer g) ≡ f (write (headAt i))
+  unfolding reading.nextOf reading.workAfter reading.shownOf reading.shownHead reading.workShown reading.workHead case_waiting_ended_ headAt shows_sending_transfer_answer_ if_then_else_ laidOf workLaid writeOf
+  shown-head i left waits buffer work f g b e h = rw (b, e, fits n w refl refl, lt-ltb _ _ h, take-over)
+
+  pub shown-read : {A : Type 0} (i left waits : ℕ) (buffer work : List ℕ) (part : ℕ → List ℕ) (f : Made → A) (g : Answer → A) → length buffer ≡ n → length work ≡ w
+      → (shows reading.nextOf (at false i left waits) (length buffer) (length work) sending part transfer f answer g) ≡ f (read (askAt i .command) (countOf (askAt i)))
+  unfolding reading.nextOf reading.shownOf reading.dueAsk case_waiting_ended_ shows_sending_transfer_answer_ if_then_else_
+  shown-read i left waits buffer work part f g b e = rw (b, e, fits n w refl refl)
+
+  pub kept-head : (i left waits : ℕ) (buffer work : List ℕ) → length buffer ≡ n → length work ≡ w → length (parts.headBytes (plan .head) i) < w
+      → length (reading.workAfter (at true i left waits) (length buffer) work) ≡ w
+  unfolding reading.workAfter reading.workShown reading.workHead case_waiting_ended_ if_then_else_ workLaid
+  kept-head i left waits buffer work b e h =
+      let short : length (sealed (plan .«head_pec») (parts.headBytes (plan .head) i)) ≤ length work = omega (arith, sealed-short (plan .«head_pec») (parts.headBytes (plan .head) i)) in
+      rw (b, e, fits n w refl refl, lt-ltb _ _ h, length-over) e
+
+  pub kept-read : (i left waits : ℕ) (buffer work : List ℕ) → length work ≡ w → length (reading.workAfter (at false i left waits) (length buffer) work) ≡ w
+  unfolding reading.workAfter reading.workShown case_waiting_ended_ if_then_else_
+  kept-read i left waits buffer work e = by (fitsOf (record { length = n; work = w }) (length buffer) (length work))
+    where
+      by : (t : Bool) → length (if t then work else work) ≡ w
+      by true = e
+      by false = e
+
+  -- what has gone out, with a head or a read more
+  abbrev pub with-head : ℕ → List Made → List Made
+  with-head i done = done ++ (write (headAt i) ∷ [])
+
+  abbrev pub with-read : ℕ → List Made → List Made
+  with-read i done = done ++ (read (askAt i .command) (countOf (askAt i)) ∷ [])
+
+  -- the outcomes have run out, and the call waits for that of its last transfer
+  pub waits-head : (i left waits : ℕ) (buffer work : List ℕ) (done : List Made) → length buffer ≡ n → length work ≡ w → length (parts.headBytes (plan .head) i) < w
+      → fedRead (at true i left waits) buffer work done [] ≡ Waiting (record { transfers = with-head i done; waits = waits }) leaving buffer
+  unfolding fedRead
+  waits-head i left waits buffer work done b e h = shown-head i left waits buffer work _ _ b e h
+
+  pub waits-read : (i left waits : ℕ) (buffer work : List ℕ) (done : List Made) → length buffer ≡ n → length work ≡ w
+      → fedRead (at false i left waits) buffer work done [] ≡ Waiting (record { transfers = with-read i done; waits = waits }) leaving buffer
+  unfolding fedRead
+  waits-read i left waits buffer work done b e = shown-read i left waits buffer work _ _ _ b e
+
+  -- what a head's outcome comes to
+  judged-head : (i left waits : ℕ) (frame : List ℕ) (o : BusOutcome) (m v : ℕ) → m ≡ n → v ≡ w
+      → reading.judgeOf (at true i left waits) (told o) (reply (write frame) o) m v ≡ (busOp o err (λ e. verdict.Failed e) ok (λ bytes. verdict.Head))
+  unfolding reading.judgeOf reading.outcomeOf reading.acknowledgedOf reading.heardHead told reply brings case_waiting_ended_ case_acknowledged_error_timeout_ busOp_err_ok_ if_then_else_
+  judged-head i left waits frame (Acknowledged bytes) m v e q = rw (fits m v e q)
+  judged-head i left waits frame (BusError code) m v e q = rw (fits m v e q)
+  judged-head i left waits frame Timeout m v e q = rw (fits m v e q)
+
+  -- a head goes out
+  pub turn-head : (i left waits : ℕ) (buffer work : List ℕ) (done : List Made) (o : BusOutcome) (outcomes : List BusOutcome) → length buffer ≡ n → length work ≡ w → length (parts.headBytes (plan .head) i) < w
+      → fedRead (at true i left waits) buffer work done (o ∷ outcomes)
+      ≡ (busOp o
+      err (λ e. fedRead (reading.failOf (at true i left waits) e) buffer (reading.workAfter (at true i left waits) (length buffer) work) (with-head i done) outcomes)
+      ok (λ bytes. fedRead (reading.headedOf (at true i left waits)) buffer (reading.workAfter (at true i left waits) (length buffer) work) (with-head i done) outcomes))
+  unfolding fedRead reading.reportOf reading.bufferAfter case_refused_fault_headed_block_ heard_taken_refused_ busOp_err_ok_
+  turn-head i left waits buffer work done (Acknowledged bytes) outcomes b e h =
+      shown-head i left waits buffer work _ _ b e h
+      ∙ rw (judged-head i left waits (headAt i) (Acknowledged bytes) (length buffer) (length (reading.workAfter (at true i left waits) (length buffer) work)) b (kept-head i left waits buffer work b e h))
+  turn-head i left waits buffer work done (BusError code) outcomes b e h =
+      shown-head i left waits buffer work _ _ b e h
+      ∙ rw (judged-head i left waits (headAt i) (BusError code) (length buffer) (length (reading.workAfter (at true i left waits) (length buffer) work)) b (kept-head i left waits buffer work b e h))
+  turn-head i left waits buffer work done Timeout outcomes b e h =
+      shown-head i left waits buffer work _ _ b e h
+      ∙ rw (judged-head i left waits (headAt i) Timeout (length buffer) (length (reading.workAfter (at true i left waits) (length buffer) work)) b (kept-head i left waits buffer work b e h))
+
+  -- what a read brings
+  abbrev pub brought : ℕ → List ℕ → List ℕ
+  brought i bytes = delivered (countOf (askAt i)) bytes
+
+  -- whether it is believed
+  unfoldable pub believed : ℕ → List ℕ → Bool
+  believed i answered = if askAt i .pec then checkedOf (askAt i .covered) answered else true
+
+  judged-read : (i left waits : ℕ) (o : BusOutcome) (m v : ℕ) → m ≡ n → v ≡ w
+      → reading.judgeOf (at false i left waits) (told o) (reply (read (askAt i .command) (countOf (askAt i))) o) m v
+      ≡ (busOp o err (λ e. verdict.Failed e) ok (λ bytes. if believed i (brought i bytes) then verdict.Block else verdict.Failed answer.Pec))
+  unfolding reading.judgeOf reading.outcomeOf reading.acknowledgedOf reading.heardBlock reading.verdictOf reading.dueAsk heardOf believed told reply brings case_waiting_ended_ case_acknowledged_error_timeout_ busOp_err_ok_ if_then_else_
+  judged-read i left waits (Acknowledged bytes) m v e q =
+      rw (fits m v e q, eq-eqb (countOf (askAt i)) (length (brought i bytes)) (sym (length-delivered (countOf (askAt i)) bytes))) (by (askAt i .pec) (checkedOf (askAt i .covered) (brought i bytes)))
+    where
+      by : (pec good : Bool) → reading.verdictOf (if pec then (if good then heard.Good else heard.WrongPec) else heard.Good) ≡ (if (if pec then good else true) then verdict.Block else verdict.Failed answer.Pec)
+      by true true = refl
+      by true false = refl
+      by false good = refl
+  judged-read i left waits (BusError code) m v e q = rw (fits m v e q)
+  judged-read i left waits Timeout m v e q = rw (fits m v e q)
+
+  -- a read goes out and is answered
+  turn-reply : (i left waits : ℕ) (buffer work : List ℕ) (done : List Made) (bytes : List ℕ) (outcomes : List BusOutcome) → length buffer ≡ n → length work ≡ w
+      → (t : Bool) → believed i (brought i bytes) ≡ t
+      → fedRead (at false i left waits) buffer work done (Acknowledged bytes ∷ outcomes)
+      ≡ (if t
+      then fedRead (reading.advanceOf (at false i left waits)) (reading.storedOf (at false i left waits) (brought i bytes) buffer) (reading.workAfter (at false i left waits) (length buffer) work) (with-read i done) outcomes
+      else fedRead (reading.failOf (at false i left waits) answer.Pec) buffer (reading.workAfter (at false i left waits) (length buffer) work) (with-read i done) outcomes)
+  unfolding fedRead reading.reportOf reading.bufferAfter case_refused_fault_headed_block_ heard_taken_refused_ busOp_err_ok_ if_then_else_ reply brings
+  turn-reply i left waits buffer work done bytes outcomes b e true q =
+      shown-read i left waits buffer work _ _ _ b e
+      ∙ rw (judged-read i left waits (Acknowledged bytes) (length buffer) (length (reading.workAfter (at false i left waits) (length buffer) work)) b (kept-read i left waits buffer work e), q)
+  turn-reply i left waits buffer work done bytes outcomes b e false q =
+      shown-read i left waits buffer work _ _ _ b e
+      ∙ rw (judged-read i left waits (Acknowledged bytes) (length buffer) (length (reading.workAfter (at false i left waits) (length buffer) work)) b (kept-read i left waits buffer work e), q)
+
+  -- a read goes out
+  pub turn-read : (i left waits : ℕ) (buffer work : List ℕ) (done : List Made) (o : BusOutcome) (outcomes : List BusOutcome) → length buffer ≡ n → length work ≡ w
+      → fedRead (at false i left waits) buffer work done (o ∷ outcomes)
+      ≡ (busOp o
+      err (λ e. fedRead (reading.failOf (at false i left waits) e) buffer (reading.workAfter (at false i left waits) (length buffer) work) (with-read i done) outcomes)
+      ok (λ bytes. if believed i (brought i bytes)
+      then fedRead (reading.advanceOf (at false i left waits)) (reading.storedOf (at false i left waits) (brought i bytes) buffer) (reading.workAfter (at false i left waits) (length buffer) work) (with-read i done) outcomes
+      else fedRead (reading.failOf (at false i left waits) answer.Pec) buffer (reading.workAfter (at false i left waits) (length buffer) work) (with-read i done) outcomes))
+  unfolding fedRead reading.reportOf reading.bufferAfter case_refused_fault_headed_block_ heard_taken_refused_ busOp_err_ok_
+  turn-read i left waits buffer work done (Acknowledged bytes) outcomes b e = turn-reply i left waits buffer work done bytes outcomes b e (believed i (brought i bytes)) refl
+  turn-read i left waits buffer work done (BusError code) outcomes b e =
+      shown-read i left waits buffer work _ _ _ b e
+      ∙ rw (judged-read i left waits (BusError code) (length buffer) (length (reading.workAfter (at false i left waits) (length buffer) work)) b (kept-read i left waits buffer work e))
+  turn-read i left waits buffer work done Timeout outcomes b e =
+      shown-read i left waits buffer work _ _ _ b e
+      ∙ rw (judged-read i left waits Timeout (length buffer) (length (reading.workAfter (at false i left waits) (length buffer) work)) b (kept-read i left waits buffer work e))
+
+  -- a failed attempt: the head is due again, or none is left
+  pub after-failure : (heading : Bool) (i left waits : ℕ) (why : Answer) (buffer work : List ℕ) (done : List Made) (outcomes : List BusOutcome) → waits + left ≤ 65535 → eqb (numberOf why) 0 ≡ false → (t : Bool) → eqb left 0 ≡ t
+      → fedRead (reading.failOf (at heading i left waits) why) buffer work done outcomes
+      ≡ (if eqb left 0 then Err why (record { transfers = done; waits = waits }) outcomes leaving buffer
+      else fedRead (at (parts.hasHead (plan .head)) i (left - 1) (waits + 1)) buffer work done outcomes)
+  unfolding reading.failOf reading.endOf reading.retryOf failed waited case_retry_spent_ if_then_else_ answered
+  after-failure heading i left waits why buffer work done outcomes b bad true e =
+      let f : reading.failOf (at heading i left waits) why ≡ reading.endOf (at heading i left waits) why = rw e in
+      rw (f, e) (at-end (reading.endOf (at heading i left waits) why) buffer work done why refl outcomes ∙ rw bad)
+  after-failure heading i left waits why buffer work done outcomes b bad false e =
+      let m : moreOf waits ≡ waits + 1 = omega arith in
+      rw (e, m)
+
+  -- a head was heard, and a read is due
+  pub after-head : (i left waits : ℕ) → i < parts.countOf (plan .reads) n → reading.headedOf (at true i left waits) ≡ at false i left waits
+  unfolding reading.headedOf phaseAfter if_then_else_
+  after-head i left waits h = rw (lt-leb (parts.countOf (plan .reads) n) i h)
+
+  -- a block was handed over, and another is due
+  pub after-block : (i left waits : ℕ) → suc i < parts.countOf (plan .reads) n → i ≤ 256 → reading.advanceOf (at false i left waits) ≡ at false (suc i) left waits
+  unfolding reading.advanceOf phaseAfter if_then_else_
+  after-block i left waits h few =
+      let m : moreOf i ≡ suc i = omega arith in
+      rw (m, lt-leb (parts.countOf (plan .reads) n) (suc i) h)
+
+  -- it was the last one
+  pub after-last : (i left waits : ℕ) (buffer work : List ℕ) (done : List Made) (outcomes : List BusOutcome) → parts.countOf (plan .reads) n ≤ suc i → i ≤ 256
+      → fedRead (reading.advanceOf (at false i left waits)) buffer work done outcomes ≡ Ok (record { transfers = done; waits = waits }) outcomes leaving buffer
+  unfolding reading.advanceOf phaseAfter if_then_else_ answered
+  after-last i left waits buffer work done outcomes h few =
+      let m : moreOf i ≡ suc i = omega arith in
+      let p : reading.advanceOf (at false i left waits) .phase ≡ phase.Ended answer.Done = rw (m, le-leb (parts.countOf (plan .reads) n) (suc i) h) in
+      at-end (reading.advanceOf (at false i left waits)) buffer work done answer.Done p outcomes
+
+  -- a call that is admitted
+  pub started : (buffer work : List ℕ) (outcomes : List BusOutcome) → admitted (plan .limit) n w ≡ phase.Waiting
+      → fedRead (reading.startOf plan n w) buffer work [] outcomes ≡ fedRead (at (parts.hasHead (plan .head)) 0 (plan .retries) 0) buffer work [] outcomes
+  unfolding reading.startOf nothing
+  started buffer work outcomes a = rw a
+
+  -- one that is refused, or done at once, makes no transfer
+  pub no-transfer : (buffer work : List ℕ) (a : Answer) (outcomes : List BusOutcome) → admitted (plan .limit) n w ≡ phase.Ended a
+      → fedRead (reading.startOf plan n w) buffer work [] outcomes ≡ answered a begun outcomes leaving buffer
+  unfolding reading.startOf nothing
+  no-transfer buffer work a outcomes e = at-end (reading.startOf plan n w) buffer work [] a e outcomes

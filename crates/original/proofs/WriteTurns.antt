@@ -1,0 +1,195 @@
+-- A writing call, fed, is the sequence of its frames' own retry loops.
+-- Assumes nothing.
+use Prim.Native.Nat.{ℕ, zero, suc, _+_, _-_, _*_, _≤_, _<_}
+use mathlib.Core.Path.{_≡_, refl, _∙_}
+use mathlib.Core.List.{List, [], _∷_, _++_}
+use mathlib.Core.Bool.{Bool, true, false}
+use native.Mathlib.Omega.{arith}
+use lib.ListN.{length, length-append}
+use lib.Seq.{take-length}
+use lib.Dec.{eqb}
+use borrow.Author.Tests.{lt-ltb, eq-eqb, le-leb, lt-leb, eqb-false}
+use Rattle.protocol.specs.Pick.{if_then_else_}
+use Rattle.protocol.specs.Answer.{numberOf}
+use Rattle.protocol.specs.Bytes.{sendOf}
+use Rattle.protocol.specs.Frame.{sealed, laidOf, workLaid}
+use Rattle.protocol.proofs.Laws.{take-over, length-over}
+use Rattle.protocol.specs.declared.error.Answer.{Answer}
+use Rattle.protocol.specs.declared.error.Answer.the-variants as answer
+use Rattle.engine.specs.Pick.{case_waiting_ended_, case_acknowledged_error_timeout_, case_retry_spent_}
+use Rattle.engine.specs.Budget.{failed, moreOf, nothing, waited}
+use Rattle.engine.specs.Bus.{writeOf, phaseAfter, fitsOf}
+use Rattle.engine.specs.Limit.{admitted}
+use Rattle.engine.specs.declared.bus.Phase.the-variants as phase
+use Rattle.writing.specs.Frames.{isFlash, bytesAt, countOf}
+use Rattle.writing.specs.Writing as writing
+use Rattle.writing.specs.declared.frames.Frames.{Frames}
+use Rattle.writing.specs.declared.call.WritePlan.{WritePlan}
+use Rattle.writing.specs.declared.call.WriteCall.{WriteCall}
+use Rattle.original.specs.Bus.{BusOutcome, Acknowledged, BusError, Timeout, Made, write, Log, begun, delayed, Came, Ok, Err, busOp_err_ok_, settle}
+use Rattle.original.specs.Fed.{told, brings, reply, answered, shows_sending_transfer_answer_, wrote_taken_refused_, fedWrite}
+use Rattle.original.specs.OriginalInterface.{writeWithRetriesInternal}
+
+-- a PEC is one byte
+pub sealed-short : (pec : Bool) (f : List ℕ) → length (sealed pec f) ≤ suc (length f)
+unfolding sealed if_then_else_
+sealed-short true f = simp length-append (omega arith)
+sealed-short false f = omega arith
+
+-- one that has ended says its answer
+at-end : (call : WriteCall) (payload work : List ℕ) (done : List Made) (a : Answer) → call .phase ≡ phase.Ended a
+    → (outcomes : List BusOutcome) → fedWrite call payload work done outcomes ≡ answered a (record { transfers = done; waits = call .tally .waits }) outcomes
+unfolding fedWrite writing.nextOf case_waiting_ended_ shows_sending_transfer_answer_
+at-end call payload work done a e [] = rw e
+at-end call payload work done a e (o ∷ outcomes) = rw e
+
+-- a call that gives up says an error
+gave-up : (fs : Frames) (i : ℕ) (why : Answer) (log : Log) (outcomes : List BusOutcome) → eqb (numberOf why) 0 ≡ false
+    → answered (writing.gaveUp fs i why) log outcomes ≡ Err (writing.gaveUp fs i why) log outcomes
+unfolding answered writing.gaveUp if_then_else_
+gave-up fs i why log outcomes e = by (isFlash fs) (eqb i 0)
+  where
+    by : (flash first : Bool) → answered (if flash then (if first then why else answer.PartialDataFlashWrite (i * 32)) else why) log outcomes ≡ Err (if flash then (if first then why else answer.PartialDataFlashWrite (i * 32)) else why) log outcomes
+    by true true = rw e
+    by true false = refl
+    by false first = rw e
+
+module _ (plan : WritePlan) (payload : List ℕ) (w : ℕ) where
+  -- the call that has sent i frames and waits, with `left` retries for the frame that is due
+  abbrev pub at : ℕ → ℕ → ℕ → WriteCall
+  at i left waits = record {
+    task = record { plan = plan; lent = record { length = length payload; work = w } };
+    phase = phase.Waiting;
+    sent = i;
+    budget = record { left = left };
+    tally = record { waits = waits };
+  }
+
+  -- whether the caller's own bytes go out
+  abbrev pub own : Bool
+  own = writing.ownBytes (at 0 0 0)
+
+  -- frame i as it goes out
+  unfoldable pub frameAt : ℕ → List ℕ
+  frameAt i = if own then payload else sealed (plan .pec) (bytesAt (plan .frames) i payload)
+
+  fits : fitsOf (record { length = length payload; work = w }) (length payload) w ≡ true
+  unfolding fitsOf
+  fits = rw (eq-eqb (length payload) (length payload) refl, eq-eqb w w refl)
+
+  -- what it shows: frame i
+  shown : {A : Type 0} (i left waits : ℕ) (work : List ℕ) (f : Made → A) (g : Answer → A) → length work ≡ w → (own ≡ false → length (bytesAt (plan .frames) i payload) < w)
+      → (t : Bool) → own ≡ t
+      → (shows writing.nextOf (at i left waits) payload (length work) sending writing.partOf (at i left waits) payload (writing.workAfter (at i left waits) payload work) transfer f answer g) ≡ f (write (frameAt i))
+  unfolding writing.nextOf writing.workAfter writing.partOf writing.ownBytes writing.shownOf writing.workShown writing.dueBytes case_waiting_ended_ frameAt shows_sending_transfer_answer_ if_then_else_ sendOf laidOf workLaid writeOf
+  shown i left waits work f g e h true o = rw (e, fits, o, o, take-length)
+  shown i left waits work f g e h false o = rw (e, fits, lt-ltb _ _ (h o), o, o, take-over)
+
+  -- showing leaves the work buffer as long as it was
+  kept : (i left waits : ℕ) (work : List ℕ) → length work ≡ w → (own ≡ false → length (bytesAt (plan .frames) i payload) < w)
+      → (t : Bool) → own ≡ t → length (writing.workAfter (at i left waits) payload work) ≡ w
+  unfolding writing.workAfter writing.ownBytes writing.workShown writing.dueBytes case_waiting_ended_ if_then_else_ workLaid
+  kept i left waits work e h true o = rw (e, fits, o) e
+  kept i left waits work e h false o =
+      let short : length (sealed (plan .pec) (bytesAt (plan .frames) i payload)) ≤ length work = omega (arith, h o, sealed-short (plan .pec) (bytesAt (plan .frames) i payload)) in
+      rw (e, fits, lt-ltb _ _ (h o), o, length-over) e
+
+  -- what it has done, once frame i is out
+  abbrev out : ℕ → ℕ → List Made → Log
+  out i waits done = record { transfers = done ++ (write (frameAt i) ∷ []); waits = waits }
+
+  -- a failed attempt
+  after-failure : (i left waits : ℕ) (why : Answer) (work : List ℕ) (done : List Made) (outcomes : List BusOutcome) (t : Bool) → eqb left 0 ≡ t
+      → fedWrite (writing.failOf (at i left waits) why) payload work done outcomes
+      ≡ (if eqb left 0 then answered (writing.gaveUp (plan .frames) i why) (record { transfers = done; waits = waits }) outcomes
+      else fedWrite (at i (left - 1) (moreOf waits)) payload work done outcomes)
+  unfolding writing.failOf writing.endOf writing.retryOf failed waited case_retry_spent_ if_then_else_
+  after-failure i left waits why work done outcomes true e =
+      let f : writing.failOf (at i left waits) why ≡ writing.endOf (at i left waits) why = rw e in
+      rw (f, e) (at-end (writing.endOf (at i left waits) why) payload work done _ refl outcomes)
+  after-failure i left waits why work done outcomes false e = rw e
+
+  -- a report is taken
+  reported : {A : Type 0} (i left waits : ℕ) (frame : List ℕ) (o : BusOutcome) (f : WriteCall → A) (g : Answer → A) (n : ℕ) → n ≡ w
+      → (wrote writing.reportOf (at i left waits) (told o) (length (reply (write frame) o)) (length payload) n taken f refused g) ≡ f (writing.settleOf (at i left waits) (told o))
+  unfolding writing.reportOf writing.repliedOf told reply brings case_waiting_ended_ case_acknowledged_error_timeout_ wrote_taken_refused_ if_then_else_
+  reported i left waits frame (Acknowledged bytes) f g n e = rw (e, fits)
+  reported i left waits frame (BusError code) f g n e = rw (e, fits)
+  reported i left waits frame Timeout f g n e = rw (e, fits)
+
+  -- a turn: frame i goes out, and what the bus did with it is reported
+  turn : (i left waits : ℕ) (work : List ℕ) (done : List Made) (o : BusOutcome) (outcomes : List BusOutcome) → length work ≡ w → (own ≡ false → length (bytesAt (plan .frames) i payload) < w)
+      → fedWrite (at i left waits) payload work done (o ∷ outcomes)
+      ≡ fedWrite (writing.settleOf (at i left waits) (told o)) payload (writing.workAfter (at i left waits) payload work) (done ++ (write (frameAt i) ∷ [])) outcomes
+  unfolding fedWrite
+  turn i left waits work done o outcomes e h =
+      shown i left waits work _ _ e h own refl ∙ reported i left waits (frameAt i) o _ _ _ (kept i left waits work e h own refl)
+
+  -- frames from i on, each with a budget of its own
+  unfoldable pub each : ℕ → ℕ → Log → List BusOutcome → Came
+  each zero i log outcomes = Ok log outcomes
+  each (suc todo) i log outcomes =
+      settle (λ log outcomes. each todo (suc i) log outcomes) (writing.gaveUp (plan .frames) i) (writeWithRetriesInternal (plan .retries) (frameAt i) log outcomes)
+
+  module _ (room : (i : ℕ) → i < countOf (plan .frames) (length payload) → own ≡ false → length (bytesAt (plan .frames) i payload) < w)
+      (few : countOf (plan .frames) (length payload) ≤ 256) (small : plan .retries ≤ 65535) where
+    -- what a call does that waits
+    abbrev Same : List BusOutcome → Type 0
+    Same outcomes = (todo i left waits : ℕ) (work : List ℕ) (done : List Made) → length work ≡ w → suc (i + todo) ≡ countOf (plan .frames) (length payload) → left ≤ 65535 → waits + left ≤ suc i * 65535
+        → fedWrite (at i left waits) payload work done outcomes
+        ≡ settle (each todo (suc i)) (writing.gaveUp (plan .frames) i) (writeWithRetriesInternal left (frameAt i) (record { transfers = done; waits = waits }) outcomes)
+
+    after-frame : (outcomes : List BusOutcome) → Same outcomes → (todo i left waits : ℕ) (work : List ℕ) (done : List Made) → length work ≡ w → suc (i + todo) ≡ countOf (plan .frames) (length payload) → waits ≤ suc i * 65535
+        → fedWrite (writing.advanceOf (at i left waits)) payload work done outcomes ≡ each todo (suc i) (record { transfers = done; waits = waits }) outcomes
+    unfolding each writing.advanceOf phaseAfter answered if_then_else_
+    after-frame outcomes ih zero i left waits work done e c b =
+        let m : moreOf i ≡ suc i = omega arith in
+        let p : writing.advanceOf (at i left waits) .phase ≡ phase.Ended answer.Done = rw (m, le-leb (countOf (plan .frames) (length payload)) (suc i) (omega arith)) in
+        at-end (writing.advanceOf (at i left waits)) payload work done answer.Done p outcomes
+    after-frame outcomes ih (suc todo) i left waits work done e c b =
+        let m : moreOf i ≡ suc i = omega arith in
+        let q : writing.advanceOf (at i left waits) ≡ at (suc i) (plan .retries) waits = rw (m, lt-leb (countOf (plan .frames) (length payload)) (suc i) (omega arith)) in
+        rw q (ih todo (suc i) (plan .retries) waits work done e (omega arith) small (omega arith))
+
+    after-fault : (outcomes : List BusOutcome) → Same outcomes → (todo i left waits : ℕ) (why : Answer) (work : List ℕ) (done : List Made) → eqb (numberOf why) 0 ≡ false
+        → length work ≡ w → suc (i + todo) ≡ countOf (plan .frames) (length payload) → left ≤ 65535 → waits + left ≤ suc i * 65535 → (t : Bool) → eqb left 0 ≡ t
+        → fedWrite (writing.failOf (at i left waits) why) payload work (done ++ (write (frameAt i) ∷ [])) outcomes
+        ≡ settle (each todo (suc i)) (writing.gaveUp (plan .frames) i)
+        (if eqb left 0 then Err why (out i waits done) outcomes else writeWithRetriesInternal (left - 1) (frameAt i) (delayed (out i waits done)) outcomes)
+    unfolding if_then_else_ settle
+    after-fault outcomes ih todo i left waits why work done bad e c l b true t =
+        after-failure i left waits why work (done ++ (write (frameAt i) ∷ [])) outcomes true t ∙ rw t (gave-up (plan .frames) i why (out i waits done) outcomes bad)
+    after-fault outcomes ih todo i left waits why work done bad e c l b false t =
+        let m : moreOf waits ≡ waits + 1 = omega (arith, eqb-false left 0 t) in
+        let some : 1 ≤ left = omega (arith, eqb-false left 0 t) in
+        after-failure i left waits why work (done ++ (write (frameAt i) ∷ [])) outcomes false t
+        ∙ rw (t, m) (ih todo i (left - 1) (waits + 1) work (done ++ (write (frameAt i) ∷ [])) e c (omega arith) (omega arith))
+
+    same : (outcomes : List BusOutcome) → Same outcomes
+    unfolding fedWrite writeWithRetriesInternal settle busOp_err_ok_ told writing.settleOf case_acknowledged_error_timeout_
+    same [] todo i left waits work done e c l b = shown i left waits work _ _ e (room i (omega arith)) own refl
+    same (Acknowledged bytes ∷ outcomes) todo i left waits work done e c l b =
+        let h : own ≡ false → length (bytesAt (plan .frames) i payload) < w = room i (omega arith) in
+        turn i left waits work done (Acknowledged bytes) outcomes e h
+        ∙ after-frame outcomes (same outcomes) todo i left waits _ _ (kept i left waits work e h own refl) c (omega arith)
+    same (BusError code ∷ outcomes) todo i left waits work done e c l b =
+        let h : own ≡ false → length (bytesAt (plan .frames) i payload) < w = room i (omega arith) in
+        turn i left waits work done (BusError code) outcomes e h
+        ∙ after-fault outcomes (same outcomes) todo i left waits (answer.I2c code) _ done refl (kept i left waits work e h own refl) c l b (eqb left 0) refl
+    same (Timeout ∷ outcomes) todo i left waits work done e c l b =
+        let h : own ≡ false → length (bytesAt (plan .frames) i payload) < w = room i (omega arith) in
+        turn i left waits work done Timeout outcomes e h
+        ∙ after-fault outcomes (same outcomes) todo i left waits answer.Timeout _ done refl (kept i left waits work e h own refl) c l b (eqb left 0) refl
+
+    -- a call that is admitted, fed, is its frames one after the other
+    pub frames-in-turn : (todo : ℕ) (work : List ℕ) (outcomes : List BusOutcome) → length work ≡ w → countOf (plan .frames) (length payload) ≡ suc todo
+        → admitted (plan .limit) (length payload) w ≡ phase.Waiting
+        → fedWrite (writing.startOf plan (length payload) w) payload work [] outcomes ≡ each (suc todo) 0 begun outcomes
+    unfolding each writing.startOf nothing
+    frames-in-turn todo work outcomes e c a = rw a (same outcomes todo 0 (plan .retries) 0 work [] e (omega arith) small (omega arith))
+
+-- a call that is refused, or done at once, makes no transfer
+pub no-frame : (plan : WritePlan) (payload work : List ℕ) (a : Answer) (outcomes : List BusOutcome) → admitted (plan .limit) (length payload) (length work) ≡ phase.Ended a
+    → fedWrite (writing.startOf plan (length payload) (length work)) payload work [] outcomes ≡ answered a begun outcomes
+unfolding writing.startOf nothing
+no-frame plan payload work a outcomes e = at-end (writing.startOf plan (length payload) (length work)) payload work [] a e outcomes

@@ -1,0 +1,6 @@
+pub mod Bus
+pub mod OriginalInterface
+pub mod OriginalR5
+pub mod Fed
+pub mod Equal
+pub mod Runs

@@ -1,0 +1,226 @@
+-- The model's courses are an instance of demand 3: the gauge takes every block's frame, so a transfer of the course is one of the events.
+-- Assumes nothing.
+use Prim.Native.Nat.{ℕ, _+_, _*_, _-_, _≤_, _<_, min}
+use mathlib.Core.Path.{_≡_, refl, sym, ap, _∙_}
+use mathlib.Core.Bool.{Bool, true, false}
+use mathlib.Core.List.{List, [], _∷_, _++_}
+use native.Mathlib.Omega.{arith}
+use lib.Dec.{eqb, ltb}
+use lib.ListN.{length, take, drop, length-take, length-drop}
+use borrow.Author.Tests.{eq-eqb, eqb-true, eqb-false}
+use Rattle.protocol.specs.Pick.{if_then_else_}
+use Rattle.protocol.specs.Bytes.{over}
+use Rattle.protocol.specs.declared.common.Config.{Config}
+use Rattle.protocol.specs.declared.error.Answer.{Answer}
+use Rattle.protocol.specs.declared.error.Answer.the-variants as answer
+use Rattle.engine.specs.Pick.{case_waiting_ended_}
+use Rattle.engine.specs.Bus.{fitsOf}
+use Rattle.engine.specs.declared.budget.Budget.{Budget}
+use Rattle.engine.specs.declared.budget.Tally.{Tally}
+use Rattle.engine.specs.declared.bus.Phase.{Phase}
+use Rattle.engine.specs.declared.bus.Phase.the-variants as phase
+use Rattle.writing.specs.Frames.{blockBytes}
+use Rattle.writing.specs.Writing.{nextOf, workAfter}
+use Rattle.model_gauge.specs.Gauge.{takes, pointed, flashAfter, actedOf, gaugeAfter, heardOf, outcomeOf}
+use Rattle.model_gauge.specs.declared.gauge.Event.{Event as ModelEvent}
+use Rattle.model_gauge.specs.declared.gauge.Event.the-variants as model
+use Rattle.model_gauge.specs.declared.gauge.Gauge.{Gauge}
+use Rattle.courses.specs.Pick.{case_write_read_none_, case_refused_admitted_}
+use Rattle.courses.specs.Course.{eventOf, eventsOf, soundOf, admitOf, endOf}
+use Rattle.courses.specs.WriteRun.{World as ModelWorld, Left, world, reportedOf, sentOf, sentFlash, stepOf, driveOf, endedOf, leftOf, runOf}
+use Rattle.courses.proofs.Cases.{at-write}
+use Rattle.promises.specs.Flash.{blockOf}
+use Rattle.promises.specs.Demand3 as demand
+use Rattle.promises.specs.Demand3.{World, began, step, run, Accepted}
+use Rattle.promises.specs.Courses.{eventIn, eventsIn, beside, endIn, left-over, OnCourses}
+use Rattle.promises.proofs.Window.{within}
+use Rattle.promises.proofs.Frames.{takes-block, block-points}
+use Rattle.promises.proofs.Machine.{worldAt, callAt, frameOf, shows, lays, hands-out, laid-long, step-sent, step-ended}
+use Rattle.promises.proofs.Demand3.{Going, going-step, going, run-ended, run-empty, stopped}
+
+-- what the gauge does to the flash is what the demand supposes
+same-flash : (e : ModelEvent) (frame flash : List ℕ) → flashAfter e frame flash ≡ demand.flashAfter (eventIn e) frame flash
+unfolding flashAfter
+same-flash model.Heard frame flash = refl
+same-flash model.LostBefore frame flash = refl
+same-flash model.LostAfter frame flash = refl
+
+-- of a frame that it takes the host hears what the demand says
+same-outcome : (e : ModelEvent) (frame : List ℕ) → takes frame ≡ true → outcomeOf e frame ≡ demand.outcomeOf (eventIn e)
+unfolding outcomeOf heardOf if_then_else_
+same-outcome model.Heard frame t = rw t
+same-outcome model.LostBefore frame t = refl
+same-outcome model.LostAfter frame t = refl
+
+same-gauge : (e : ModelEvent) (frame : List ℕ) (gauge : Gauge) → pointed frame gauge ≡ gauge → gaugeAfter e frame gauge ≡ gauge
+unfolding gaugeAfter actedOf
+same-gauge model.Heard frame gauge p = p
+same-gauge model.LostBefore frame gauge p = refl
+same-gauge model.LostAfter frame gauge p = p
+
+module _ (config : Config) (address : ℕ) (payload : List ℕ) (n : ℕ) (gauge : Gauge) where
+  -- an ended call stays as it is
+  drive-ended : (es : List ModelEvent) (a : Answer) (i : ℕ) (b : Budget) (t : Tally) (work flash : List ℕ)
+      → driveOf payload es (beside gauge (worldAt config address payload n (phase.Ended a) i b t work flash))
+      ≡ beside gauge (worldAt config address payload n (phase.Ended a) i b t work flash)
+  unfolding driveOf stepOf nextOf workAfter case_waiting_ended_ case_write_read_none_
+  drive-ended [] a i b t work flash = refl
+  drive-ended (e ∷ es) a i b t work flash = drive-ended es a i b t work flash
+
+  -- how a run says that it ended
+  ended-at : (i : ℕ) (b : Budget) (t : Tally) (work flash : List ℕ) (p : Phase) → length work ≡ n
+      → leftOf (length payload) (beside gauge (worldAt config address payload n p i b t work flash)) .run .end ≡ endIn p
+  unfolding leftOf endedOf endOf case_waiting_ended_ fitsOf if_then_else_
+  ended-at i b t work flash phase.Waiting long = rw (eq-eqb (length payload) (length payload) refl, eq-eqb (length work) n long)
+  ended-at i b t work flash (phase.Ended a) long = refl
+
+  module _ (room : 39 ≤ n) (low : 0x4000 ≤ address) (high : address + length payload ≤ 0x6000) where
+    -- a transfer of a call that waits
+    model-waiting : (e : ModelEvent) (i : ℕ) (b : Budget) (t : Tally) (work flash : List ℕ) → length work ≡ n → i * 32 < length payload
+        → stepOf payload e (beside gauge (worldAt config address payload n phase.Waiting i b t work flash))
+        ≡ beside gauge (step payload (eventIn e) (worldAt config address payload n phase.Waiting i b t work flash))
+    unfolding stepOf sentOf sentFlash blockBytes
+    model-waiting e i b t work flash long h =
+        let m : length (blockOf 32 i payload) ≡ min 32 (length payload - i * 32) = length-take 32 (drop (i * 32) payload) ∙ ap (min 32) (length-drop (i * 32) payload) in
+        let taken : takes (frameOf config address payload n i) ≡ true =
+        takes-block (config .«pec_write») (address + i * 32) (blockOf 32 i payload) (omega arith) (omega arith) (omega arith) (omega arith) (omega arith) in
+        let left : pointed (frameOf config address payload n i) gauge ≡ gauge =
+        block-points (config .«pec_write») (address + i * 32) (blockOf 32 i payload) (omega arith) (omega arith) (omega arith) (omega arith) (omega arith) gauge in
+        sym (at-write _ _ _ _ _ _ _ refl (shows config address payload n i b t work long room)
+        (rw (lays config address payload n i b t work long room, hands-out config address payload n i b t work long room, laid-long config address payload n i b t work long room, same-outcome e (frameOf config address payload n i) taken, same-gauge e (frameOf config address payload n i) gauge left, same-flash)
+        (ap (beside gauge) (step-sent config address payload n i b t work long room (eventIn e) flash))))
+
+-- a transfer of the model is a transfer of the demand
+module _ (config : Config) (address : ℕ) (payload old : List ℕ) (n : ℕ) (room : 39 ≤ n) (whole : length old ≡ 8192)
+    (low : 0x4000 ≤ address) (high : address + length payload ≤ 0x6000) (gauge : Gauge) where
+  model-at : (e : ModelEvent) (p : Phase) (i : ℕ) (b : Budget) (t : Tally) (work flash : List ℕ) → length work ≡ n → demand.Told 32 (length payload) i p
+      → stepOf payload e (beside gauge (worldAt config address payload n p i b t work flash))
+      ≡ beside gauge (step payload (eventIn e) (worldAt config address payload n p i b t work flash))
+  unfolding driveOf
+  model-at e phase.Waiting i b t work flash long s = model-waiting config address payload n gauge room low high e i b t work flash long s
+  model-at e (phase.Ended a) i b t work flash long s =
+      drive-ended config address payload n gauge (e ∷ []) a i b t work flash
+      ∙ ap (beside gauge) (sym (step-ended config address payload n (eventIn e) a i b t work flash))
+
+  model-step : (e : ModelEvent) (w : World) → Going config address payload old n room whole low high w
+      → stepOf payload e (beside gauge w) ≡ beside gauge (step payload (eventIn e) w)
+  model-step e w g = rw (g .is) (model-at e (g .at) (g .i) (g .b) (g .t) (g .work) (g .flash) (g .long) (g .told))
+
+  model-run : (es : List ModelEvent) (w : World) → Going config address payload old n room whole low high w
+      → driveOf payload es (beside gauge w) ≡ beside gauge (run payload (eventsIn es) w)
+  unfolding driveOf run
+  model-run [] w g = refl
+  model-run (e ∷ es) w g =
+      ap (driveOf payload es) (model-step e w g)
+      ∙ model-run es (step payload (eventIn e) w) (going-step config address payload old n room whole low high (eventIn e) w g)
+
+  -- what a run that ends here says
+  ended-going : (w : World) → Going config address payload old n room whole low high w
+      → leftOf (length payload) (beside gauge w) .run .end ≡ endIn (w .call .phase)
+  ended-going w g = rw (g .is) (by (g .at) (g .long))
+    where
+      by : (p : Phase) → length (g .work) ≡ n
+          → leftOf (length payload) (beside gauge (worldAt config address payload n p (g .i) (g .b) (g .t) (g .work) (g .flash))) .run .end ≡ endIn p
+      by = ended-at config address payload n gauge (g .i) (g .b) (g .t) (g .work) (g .flash)
+
+module _ (config : Config) (address : ℕ) (payload work flash : List ℕ) (a : Accepted address payload work flash) (gauge : Gauge) where
+  -- driving the call over events of the model
+  pub drive-same : (es : List ModelEvent)
+      → driveOf payload es (beside gauge (began config address payload work flash)) ≡ beside gauge (run payload (eventsIn es) (began config address payload work flash))
+  unfolding run
+  drive-same es = by (eqb (length payload) 0) refl
+    where
+      by : (t : Bool) → eqb (length payload) 0 ≡ t
+          → driveOf payload es (beside gauge (began config address payload work flash)) ≡ beside gauge (run payload (eventsIn es) (began config address payload work flash))
+      by true t =
+          let empty : length payload ≡ 0 = eqb-true _ _ t in
+          ap (λ (w : World). driveOf payload es (beside gauge w)) (run-empty config address payload work flash a empty [])
+          ∙ drive-ended config address payload (length work) gauge es answer.Done 0 _ _ work flash
+          ∙ ap (beside gauge) (sym (run-empty config address payload work flash a empty (eventsIn es)))
+      by false t =
+          let some : length payload ≡ 0 → ⊥ = eqb-false _ _ t in
+          let some′ : 0 < length payload = omega arith in
+          let w = within address (length payload) (a .window) some′ in
+          model-run config address payload flash (length work) (a .room) (a .whole) (w .0) (w .1) gauge es (began config address payload work flash)
+          (going config address payload work flash a some′ (w .0) (w .1) [])
+
+  pub run-same : (course : List ℕ) → soundOf course ≡ true
+      → runOf payload course (beside gauge (began config address payload work flash))
+      ≡ leftOf (length payload) (beside gauge (run payload (eventsIn (eventsOf course)) (began config address payload work flash)))
+  unfolding runOf admitOf case_refused_admitted_ if_then_else_ began
+  run-same course sound =
+      rw (eq-eqb (length flash) 8192 (a .whole), sound) (ap (leftOf (length payload)) (drive-same (eventsOf course)))
+
+  pub run-ends : (course : List ℕ) → soundOf course ≡ true
+      → runOf payload course (beside gauge (began config address payload work flash)) .run .end
+      ≡ endIn (run payload (eventsIn (eventsOf course)) (began config address payload work flash) .call .phase)
+  run-ends course sound = ap (λ (l : Left). l .run .end) (run-same course sound) ∙ by (eqb (length payload) 0) refl
+    where
+      by : (t : Bool) → eqb (length payload) 0 ≡ t
+          → leftOf (length payload) (beside gauge (run payload (eventsIn (eventsOf course)) (began config address payload work flash))) .run .end
+          ≡ endIn (run payload (eventsIn (eventsOf course)) (began config address payload work flash) .call .phase)
+      by true t =
+          rw (run-empty config address payload work flash a (eqb-true _ _ t) (eventsIn (eventsOf course)))
+          (ended-at config address payload (length work) gauge 0 _ _ work flash (phase.Ended answer.Done) refl)
+      by false t =
+          let some : length payload ≡ 0 → ⊥ = eqb-false _ _ t in
+          let some′ : 0 < length payload = omega arith in
+          let w = within address (length payload) (a .window) some′ in
+          ended-going config address payload flash (length work) (a .room) (a .whole) (w .0) (w .1) gauge _
+          (going config address payload work flash a some′ (w .0) (w .1) (eventsIn (eventsOf course)))
+
+-- ---- running on
+
+drive-both : (payload : List ℕ) (es further : List ModelEvent) (w : ModelWorld) → driveOf payload (es ++ further) w ≡ driveOf payload further (driveOf payload es w)
+unfolding driveOf
+drive-both payload [] further w = refl
+drive-both payload (e ∷ es) further w = drive-both payload es further (stepOf payload e w)
+
+events-both : (course further : List ℕ) → eventsOf (course ++ further) ≡ eventsOf course ++ eventsOf further
+unfolding eventsOf
+events-both [] further = refl
+events-both (byte ∷ course) further = ap (λ (es : List ModelEvent). eventOf byte ∷ es) (events-both course further)
+
+sound-both : (course further : List ℕ) → soundOf course ≡ true → soundOf further ≡ true → soundOf (course ++ further) ≡ true
+unfolding soundOf if_then_else_
+sound-both [] further p q = q
+sound-both (byte ∷ course) further p q = by (ltb 2 byte) p (λ r. sound-both course further r q)
+  where
+    by : (t : Bool) → (if t then false else soundOf course) ≡ true → (soundOf course ≡ true → soundOf (course ++ further) ≡ true)
+        → (if t then false else soundOf (course ++ further)) ≡ true
+    by true p on = p
+    by false p on = on p
+
+began-whole : (config : Config) (address : ℕ) (payload work flash : List ℕ) → Accepted address payload work flash → length (began config address payload work flash .flash) ≡ 8192
+unfolding began
+began-whole config address payload work flash a = a .whole
+
+module _ (config : Config) (address : ℕ) (payload work flash : List ℕ) (a : Accepted address payload work flash) (gauge : Gauge) where
+  admitted-run : (w : ModelWorld) (course : List ℕ) → length (w .flash) ≡ 8192 → soundOf course ≡ true
+      → runOf payload course w ≡ leftOf (length payload) (driveOf payload (eventsOf course) w)
+  unfolding runOf admitOf case_refused_admitted_ if_then_else_
+  admitted-run w course whole sound = rw (eq-eqb (length (w .flash)) 8192 whole, sound)
+
+  pub runs-on : (course further : List ℕ) → soundOf course ≡ true → soundOf further ≡ true
+      → runOf payload (course ++ further) (beside gauge (began config address payload work flash))
+      ≡ runOf payload further (left-over (runOf payload course (beside gauge (began config address payload work flash))))
+  unfolding leftOf endedOf
+  runs-on course further p q =
+      let w : ModelWorld = beside gauge (began config address payload work flash) in
+      let whole : length (driveOf payload (eventsOf course) w .flash) ≡ 8192 =
+      ap (λ (v : ModelWorld). length (v .flash)) (drive-same config address payload work flash a gauge (eventsOf course))
+      ∙ stopped config address payload work flash a (eventsIn (eventsOf course)) .bytes .size ∙ a .whole in
+      admitted-run w (course ++ further) (began-whole config address payload work flash a) (sound-both course further p q)
+      ∙ ap (leftOf (length payload)) (ap (λ (es : List ModelEvent). driveOf payload es w) (events-both course further) ∙ drive-both payload (eventsOf course) (eventsOf further) w)
+      ∙ sym (ap (λ (l : Left). runOf payload further (left-over l)) (admitted-run w course (began-whole config address payload work flash a) p)
+      ∙ admitted-run (driveOf payload (eventsOf course) w) further whole q)
+
+-- every run over every course keeps demand 3
+pub on-courses : OnCourses
+on-courses =
+    record {
+      same = λ config address payload work flash a gauge course sound. run-same config address payload work flash a gauge course sound;
+      ends = λ config address payload work flash a gauge course sound. run-ends config address payload work flash a gauge course sound;
+      promised = λ config address payload work flash a course. stopped config address payload work flash a (eventsIn (eventsOf course));
+      runs-on = λ config address payload work flash a gauge course further p q. runs-on config address payload work flash a gauge course further p q;
+    }

@@ -1,0 +1,21 @@
+-- Demand 1 is what `answers` proves.
+-- Assumes nothing.
+use Rattle.answers.proofs.Start.{starts}
+use Rattle.answers.proofs.Writing.{writes}
+use Rattle.answers.proofs.Reading.{reads}
+use Rattle.answers.proofs.Sorts.{sort-w, sort-r, shows-w, shows-r}
+use Rattle.answers.proofs.Calls.{starts-as, limits}
+use Rattle.promises.specs.Demand1.{Demand1}
+
+pub demand1 : Demand1
+demand1 = record {
+  starts = starts;
+  starts-so = starts-as;
+  limits = limits;
+  writes = writes;
+  reads = reads;
+  refused-w = sort-w;
+  refused-r = sort-r;
+  shown-w = shows-w;
+  shown-r = shows-r;
+}

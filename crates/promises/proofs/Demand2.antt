@@ -1,0 +1,7 @@
+-- Demand 2 is what `original` proves.
+-- Assumes nothing.
+use Rattle.original.proofs.Equal.{equal}
+use Rattle.promises.specs.Demand2.{Demand2}
+
+pub demand2 : Demand2
+demand2 = record { equal = equal }

@@ -1,0 +1,352 @@
+-- Demand 3: what every event keeps, a write keeps, over every list of events; and so on over any number of goes.
+-- Assumes nothing.
+use Prim.Native.Nat.{ℕ, zero, suc, _+_, _*_, _-_, _/_, _≤_, _<_, min}
+use mathlib.Core.Path.{_≡_, refl, sym, ap, _∙_}
+use mathlib.Core.Bool.{Bool, true, false}
+use mathlib.Core.Logic.{_⊎_, inl, inr}
+use mathlib.Core.List.{List, [], _∷_}
+use native.Mathlib.Omega.{arith}
+use native.Mathlib.Nat.{add-zero}
+use lib.Dec.{eqb, leb, ltb}
+use lib.Seq.{take-all}
+use lib.ListN.{length, take, drop, length-take, length-drop, replicate}
+use borrow.Author.Tests.{eqb-true, eqb-false, leb-true, leb-false, ne-eqb, eq-eqb, le-ltb}
+use Rattle.protocol.specs.Pick.{if_then_else_}
+use Rattle.protocol.specs.Bytes.{over, blocksOf}
+use Rattle.protocol.specs.Answer.{numberOf, detailOf}
+use Rattle.protocol.specs.Frame.{sealed, pairOf, macBytes}
+use Rattle.protocol.specs.Window.{inWindow}
+use Rattle.protocol.specs.declared.common.Config.{Config}
+use Rattle.protocol.specs.declared.error.Answer.{Answer}
+use Rattle.protocol.specs.declared.error.Answer.the-variants as answer
+use Rattle.engine.specs.Pick.{case_retry_spent_}
+use Rattle.engine.specs.Bus.{phaseAfter}
+use Rattle.engine.specs.Budget.{failed as failedOf, nothing, waited}
+use Rattle.engine.specs.Limit.{windowed, measured, admitted}
+use Rattle.engine.specs.declared.budget.Budget.{Budget}
+use Rattle.engine.specs.declared.budget.Tally.{Tally}
+use Rattle.engine.specs.declared.bus.Phase.{Phase}
+use Rattle.engine.specs.declared.bus.Phase.the-variants as phase
+use Rattle.writing.specs.Frames.{isFlash, blockBytes}
+use Rattle.writing.specs.Writing.{planOf, startOf, gaveUp, retryOf, endOf, failOf}
+use Rattle.r5.specs.Plans.{flashWrite}
+use Rattle.model_gauge.specs.Gauge.{stored}
+use Rattle.promises.specs.Flash.{store, blockOf, upto, Overlaid, Stands}
+use Rattle.promises.specs.Demand3.{Cause, busError, timedOut, Event, acknowledged, failed, unheard, flashAfter, World, began, step, run, placeOf, clean, Answered, all-acked, some-acked, none-acked, Told, Promised, countOf, Goes, ended-well, went-on, started-over, Accepted, Demand3}
+use Rattle.promises.proofs.Overlay.{overlaid-long, overlaid-none, landed, overlaid-all, overlaid-rest, in-bytes, from-bytes}
+use Rattle.promises.proofs.Store.{store-nothing}
+use Rattle.promises.proofs.Window.{inside, within}
+use Rattle.promises.proofs.Frames.{stores-block}
+use Rattle.promises.proofs.Machine.{whyOf, worldAt, callAt, frameOf, laid-long, step-acknowledged, step-failed, step-unheard, step-ended}
+
+-- ---- what the phases say
+
+-- once all blocks of n bytes are acknowledged the call is done, and before that it waits
+told-after : (n i : ℕ) → Told 32 n i (phaseAfter (blocksOf n) i)
+unfolding phaseAfter if_then_else_
+told-after n i = by (leb (blocksOf n) i) refl
+  where
+    by : (t : Bool) → leb (blocksOf n) i ≡ t → Told 32 n i (if t then phase.Ended answer.Done else phase.Waiting)
+    by true t = let h : blocksOf n ≤ i = leb-true _ _ t in all-acked refl (omega arith)
+    by false t = let h : i < blocksOf n = leb-false _ _ t in omega arith
+
+-- a call that gives up says how much was acknowledged
+told-gave-up : (n i : ℕ) (c : Cause) → i * 32 < n → Answered 32 n i (if eqb i 0 then whyOf c else answer.PartialDataFlashWrite (i * 32))
+unfolding if_then_else_
+told-gave-up n i c h = by c (eqb i 0) refl
+  where
+    cause : (c : Cause) → (numberOf (whyOf c) ≡ 1) ⊎ (numberOf (whyOf c) ≡ 2)
+    cause (busError code) = inl refl
+    cause timedOut = inr refl
+
+    by : (c : Cause) (t : Bool) → eqb i 0 ≡ t → Answered 32 n i (if t then whyOf c else answer.PartialDataFlashWrite (i * 32))
+    by c true t = none-acked (cause c) (eqb-true i 0 t)
+    by c false t = let some : i ≡ 0 → ⊥ = eqb-false i 0 t in some-acked refl refl (omega arith) h
+
+module _ (config : Config) (address : ℕ) (payload old : List ℕ) (n : ℕ) (room : 39 ≤ n) (whole : length old ≡ 8192)
+    (low : 0x4000 ≤ address) (high : address + length payload ≤ 0x6000) where
+  place : ℕ
+  place = placeOf address
+
+  -- what every event keeps: the call has as many frames sent as there are blocks acknowledged, and the flash is the overlay of those
+  pub record Going (w : World) : Type 0 where
+    pub at : Phase
+    pub i : ℕ
+    pub b : Budget
+    pub t : Tally
+    pub work : List ℕ
+    pub flash : List ℕ
+    pub is : w ≡ worldAt config address payload n at i b t work flash
+    pub long : length work ≡ n
+    pub holds : Overlaid 32 (placeOf address) payload old i flash
+    pub told : Told 32 (length payload) i at
+
+  -- the block that is due, stored, is the next one over the old flash
+  lands : (i : ℕ) (flash : List ℕ) → i * 32 < length payload → Overlaid 32 (placeOf address) payload old i flash
+      → stored (frameOf config address payload n i) flash ≡ upto 32 (placeOf address) payload old (suc i)
+  unfolding blockBytes
+  lands i flash h v =
+      let size : length flash ≡ 8192 = overlaid-long 32 (placeOf address) payload old (omega arith) i flash v ∙ whole in
+      let m : length (blockOf 32 i payload) ≡ min 32 (length payload - i * 32) = length-take 32 (drop (i * 32) payload) ∙ ap (min 32) (length-drop (i * 32) payload) in
+      let at : address + i * 32 - 0x4000 ≡ placeOf address + i * 32 = omega arith in
+      stores-block (config .«pec_write») (address + i * 32) (blockOf 32 i payload) (omega arith) (omega arith) (omega arith) (omega arith) (omega arith) flash size
+      ∙ rw at (landed 32 (placeOf address) payload old (omega arith) i flash h v)
+
+  -- a failed attempt: the same block again, or the call gives up
+  going-failed : (c : Cause) (i : ℕ) (b : Budget) (t : Tally) (work flash : List ℕ) → length work ≡ n → i * 32 < length payload
+      → Overlaid 32 (placeOf address) payload old i flash
+      → Going (record { call = failOf (callAt config address payload n phase.Waiting i b t) (whyOf c); work = work; flash = flash; acked = i })
+  unfolding failOf failedOf case_retry_spent_ retryOf endOf gaveUp isFlash planOf flashWrite if_then_else_
+  going-failed c i b t work flash long h v = by (eqb (b .left) 0) refl
+    where
+      by : (z : Bool) → eqb (b .left) 0 ≡ z → Going (record { call = failOf (callAt config address payload n phase.Waiting i b t) (whyOf c); work = work; flash = flash; acked = i })
+      by true z = rw z (record { at = phase.Ended (if eqb i 0 then whyOf c else answer.PartialDataFlashWrite (i * 32)); i = i; b = b; t = t; work = work; flash = flash; is = refl; long = long; holds = v; told = told-gave-up (length payload) i c h })
+      by false z = rw z (record { at = phase.Waiting; i = i; b = record { left = b .left - 1 }; t = waited t; work = work; flash = flash; is = refl; long = long; holds = v; told = h })
+
+  going-at : (e : Event) (at : Phase) (i : ℕ) (b : Budget) (t : Tally) (work flash : List ℕ) → length work ≡ n
+      → Overlaid 32 (placeOf address) payload old i flash → Told 32 (length payload) i at
+      → Going (step payload e (worldAt config address payload n at i b t work flash))
+  going-at e (phase.Ended a) i b t work flash long v s =
+      rw (step-ended config address payload n e a i b t work flash)
+      (record { at = phase.Ended a; i = i; b = b; t = t; work = work; flash = flash; is = refl; long = long; holds = v; told = s })
+  going-at acknowledged phase.Waiting i b t work flash long v s =
+      rw (step-acknowledged config address payload n i b t work long room flash (omega arith))
+      (record {
+        at = phaseAfter (blocksOf (length payload)) (suc i);
+        i = suc i;
+        b = record { left = config .«max_bus_retries» };
+        t = t;
+        work = over (frameOf config address payload n i) work;
+        flash = stored (frameOf config address payload n i) flash;
+        is = refl;
+        long = laid-long config address payload n i b t work long room;
+        holds = inl (lands i flash s v);
+        told = told-after (length payload) (suc i);
+      })
+  going-at (failed c) phase.Waiting i b t work flash long v s =
+      rw (step-failed config address payload n i b t work long room c flash)
+      (going-failed c i b t (over (frameOf config address payload n i) work) flash (laid-long config address payload n i b t work long room) s v)
+  going-at (unheard c) phase.Waiting i b t work flash long v s =
+      rw (step-unheard config address payload n i b t work long room c flash)
+      (going-failed c i b t (over (frameOf config address payload n i) work) (stored (frameOf config address payload n i) flash) (laid-long config address payload n i b t work long room) s (inr (lands i flash s v)))
+
+  pub going-step : (e : Event) (w : World) → Going w → Going (step payload e w)
+  going-step e w g = rw (g .is) (going-at e (g .at) (g .i) (g .b) (g .t) (g .work) (g .flash) (g .long) (g .holds) (g .told))
+
+  pub going-run : (es : List Event) (w : World) → Going w → Going (run payload es w)
+  unfolding run
+  going-run [] w g = g
+  going-run (e ∷ es) w g = going-run es (step payload e w) (going-step e w g)
+
+  -- what a write that keeps it is promised
+  pub going-promised : (w : World) → Going w → Promised address payload old w
+  going-promised w g =
+      rw (g .is)
+      (record { overlay = g .holds; bytes = in-bytes 32 (placeOf address) payload old (omega arith) (g .i) (g .flash) (g .holds); told = g .told })
+
+-- ---- the start
+
+-- an accepted write waits with its first block due, or is done where there is none
+began-is : (config : Config) (address : ℕ) (payload work flash : List ℕ) → Accepted address payload work flash → (t : Bool) → eqb (length payload) 0 ≡ t
+    → began config address payload work flash
+    ≡ worldAt config address payload (length work) (if t then phase.Ended answer.Done else phase.Waiting) 0 (record { left = config .«max_bus_retries» }) nothing work flash
+unfolding began startOf admitted measured windowed planOf flashWrite if_then_else_
+began-is config address payload work flash a t e = rw (le-ltb (length work) 39 (a .room), a .window, e)
+
+-- an ended call stays as it is over every list of events
+pub run-ended : (config : Config) (address : ℕ) (payload : List ℕ) (n : ℕ) (es : List Event) (a : Answer) (i : ℕ) (b : Budget) (t : Tally) (work flash : List ℕ)
+    → run payload es (worldAt config address payload n (phase.Ended a) i b t work flash) ≡ worldAt config address payload n (phase.Ended a) i b t work flash
+unfolding run
+run-ended config address payload n [] a i b t work flash = refl
+run-ended config address payload n (e ∷ es) a i b t work flash =
+    rw (step-ended config address payload n e a i b t work flash) (run-ended config address payload n es a i b t work flash)
+
+-- an empty write has ended before its first transfer
+pub run-empty : (config : Config) (address : ℕ) (payload work flash : List ℕ) → Accepted address payload work flash → length payload ≡ 0 → (es : List Event)
+    → run payload es (began config address payload work flash)
+    ≡ worldAt config address payload (length work) (phase.Ended answer.Done) 0 (record { left = config .«max_bus_retries» }) nothing work flash
+unfolding if_then_else_
+run-empty config address payload work flash a none es =
+    rw (began-is config address payload work flash a true (eq-eqb (length payload) 0 none)) (run-ended config address payload (length work) es answer.Done 0 _ _ work flash)
+
+promised-empty : (config : Config) (address : ℕ) (payload work flash : List ℕ) → Accepted address payload work flash → length payload ≡ 0 → (es : List Event)
+    → Promised address payload flash (run payload es (began config address payload work flash))
+promised-empty config address payload work flash a none es =
+    rw (run-empty config address payload work flash a none es)
+    (record {
+      overlay = inl (sym (store-nothing flash (placeOf address)));
+      bytes = record {
+        size = refl;
+        acked = λ j l m. absurd (omega arith);
+        next = inl (λ j lo hi m. absurd (omega arith));
+        before = λ j l. refl;
+        past = λ j l. refl;
+      };
+      told = all-acked refl (omega arith);
+    })
+
+module _ (config : Config) (address : ℕ) (payload work flash : List ℕ) (a : Accepted address payload work flash) (some : 0 < length payload) where
+  -- a write that is not empty keeps what every event keeps
+  pub going : (low : 0x4000 ≤ address) (high : address + length payload ≤ 0x6000) (es : List Event)
+      → Going config address payload flash (length work) (a .room) (a .whole) low high (run payload es (began config address payload work flash))
+  unfolding if_then_else_
+  going low high es =
+      let t : eqb (length payload) 0 ≡ false = ne-eqb (length payload) 0 (λ e. omega arith) in
+      let whole : length flash ≡ 8192 = a .whole in
+      going-run config address payload flash (length work) (a .room) (a .whole) low high es (began config address payload work flash)
+      (record {
+        at = phase.Waiting;
+        i = 0;
+        b = record { left = config .«max_bus_retries» };
+        t = nothing;
+        work = work;
+        flash = flash;
+        is = began-is config address payload work flash a false t;
+        long = refl;
+        holds = overlaid-none 32 (placeOf address) payload flash (omega arith);
+        told = omega arith;
+      })
+
+  promised-some : (es : List Event) → Promised address payload flash (run payload es (began config address payload work flash))
+  promised-some es =
+      let w = within address (length payload) (a .window) some in
+      going-promised config address payload flash (length work) (a .room) (a .whole) (w .0) (w .1) _ (going (w .0) (w .1) es)
+
+-- STOP ANYWHERE
+pub stopped : (config : Config) (address : ℕ) (payload work flash : List ℕ) → Accepted address payload work flash → (es : List Event)
+    → Promised address payload flash (run payload es (began config address payload work flash))
+stopped config address payload work flash a es = by (eqb (length payload) 0) refl
+  where
+    by : (t : Bool) → eqb (length payload) 0 ≡ t → Promised address payload flash (run payload es (began config address payload work flash))
+    by true t = promised-empty config address payload work flash a (eqb-true _ _ t) es
+    by false t = let some : length payload ≡ 0 → ⊥ = eqb-false _ _ t in promised-some config address payload work flash a (omega arith) es
+
+-- ---- going on
+
+-- the count that is given is of acknowledged bytes, and below the length
+count-acked : (n i : ℕ) (a : Answer) → 0 < n → Answered 32 n i a → (countOf a ≤ i * 32) × (countOf a < n)
+unfolding if_then_else_
+count-acked n i a some (all-acked z h) = rw z (omega arith, some)
+count-acked n i a some (some-acked z e p h) = rw (z, e) (omega arith, h)
+count-acked n i a some (none-acked (inl z) e) = rw z (omega arith, some)
+count-acked n i a some (none-acked (inr z) e) = rw z (omega arith, some)
+
+-- a call that says done has had every block acknowledged
+done-all : (n i : ℕ) → Answered 32 n i answer.Done → n ≤ i * 32
+done-all n i (all-acked z h) = h
+done-all n i (some-acked z e p h) = absurd (omega arith)
+done-all n i (none-acked (inl z) e) = absurd (omega arith)
+done-all n i (none-acked (inr z) e) = absurd (omega arith)
+
+-- of an empty payload nothing is ever stored
+goes-empty : {address : ℕ} {payload flash after : List ℕ} → inWindow address (length payload) ≡ true → length flash ≡ 8192 → length payload ≡ 0
+    → Goes address payload flash after → after ≡ flash
+unfolding if_then_else_
+goes-empty {address} {payload} {flash} win whole none (ended-well config work es room e) =
+    ap (λ (w : World). w .flash) (run-empty config address payload work flash (record { window = win; room = room; whole = whole }) none es)
+goes-empty {address} {payload} {flash} {after} win whole none (went-on config work es a room e g) =
+    let acc : Accepted address payload work flash = record { window = win; room = room; whole = whole } in
+    let r = run-empty config address payload work flash acc none es in
+    let same : run payload es (began config address payload work flash) .flash ≡ flash = ap (λ (w : World). w .flash) r in
+    let p : phase.Ended answer.Done ≡ phase.Ended a = sym (ap (λ (w : World). w .call .phase) r) ∙ e in
+    let q : answer.Done ≡ a = cc in
+    let c : countOf a ≡ 0 = rw (← q) in
+    goes-empty {address = address + countOf a} {payload = drop (countOf a) payload} (rw c (rw (add-zero address) win)) (rw same whole) (rw c none) g ∙ same
+goes-empty {address} {payload} {flash} {after} win whole none (started-over config work es room e g) =
+    let acc : Accepted address payload work flash = record { window = win; room = room; whole = whole } in
+    let r = run-empty config address payload work flash acc none es in
+    let same : run payload es (began config address payload work flash) .flash ≡ flash = ap (λ (w : World). w .flash) r in
+    goes-empty {address = address} {payload = payload} win (rw same whole) none g ∙ same
+
+-- each go leaves less to do, and the last one leaves what one clean write would
+goes-some : {address : ℕ} {payload flash after : List ℕ} → 0x4000 ≤ address → address + length payload ≤ 0x6000 → 0 < length payload → length flash ≡ 8192
+    → Goes address payload flash after → after ≡ clean address payload flash
+goes-some {address} {payload} {flash} low high some whole (ended-well config work es room e) =
+    let acc : Accepted address payload work flash = record { window = inside address (length payload) low high; room = room; whole = whole } in
+    let s = stopped config address payload work flash acc es in
+    let told : Answered 32 (length payload) (run payload es (began config address payload work flash) .acked) answer.Done = rw e at (s .told) in
+    overlaid-all 32 (placeOf address) payload flash (run payload es (began config address payload work flash) .acked) _ (done-all _ _ told) (s .overlay)
+goes-some {address} {payload} {flash} {after} low high some whole (went-on config work es a room e g) =
+    let acc : Accepted address payload work flash = record { window = inside address (length payload) low high; room = room; whole = whole } in
+    let w : World = run payload es (began config address payload work flash) in
+    let s : Promised address payload flash w = stopped config address payload work flash acc es in
+    let told : Answered 32 (length payload) (w .acked) a = rw e at (s .told) in
+    let small = count-acked (length payload) (w .acked) a some told in
+    let less : countOf a < length payload = small .1 in
+    let left : length (drop (countOf a) payload) ≡ length payload - countOf a = length-drop (countOf a) payload in
+    let place : placeOf (address + countOf a) ≡ placeOf address + countOf a = omega arith in
+    goes-some {address = address + countOf a} {payload = drop (countOf a) payload} {flash = w .flash} (omega arith) (omega arith) (omega arith) (s .bytes .size ∙ whole) g
+    ∙ rw place (overlaid-rest 32 (placeOf address) payload flash (omega arith) (w .acked) (countOf a) (w .flash) (small .0) (omega arith) (s .overlay))
+goes-some {address} {payload} {flash} {after} low high some whole (started-over config work es room e g) =
+    let acc : Accepted address payload work flash = record { window = inside address (length payload) low high; room = room; whole = whole } in
+    let w : World = run payload es (began config address payload work flash) in
+    let s : Promised address payload flash w = stopped config address payload work flash acc es in
+    goes-some {address = address} {payload = payload} {flash = w .flash} low high some (s .bytes .size ∙ whole) g
+    ∙ rw (add-zero (placeOf address)) at (overlaid-rest 32 (placeOf address) payload flash (omega arith) (w .acked) 0 (w .flash) (omega arith) (omega arith) (s .overlay))
+
+-- GO ON, any number of times
+pub resumed : (address : ℕ) (payload flash after : List ℕ) → inWindow address (length payload) ≡ true → length flash ≡ 8192
+    → Goes address payload flash after → after ≡ clean address payload flash
+resumed address payload flash after win whole g = by (eqb (length payload) 0) refl
+  where
+    by : (t : Bool) → eqb (length payload) 0 ≡ t → after ≡ clean address payload flash
+    by true t =
+        let none : length payload ≡ 0 = eqb-true _ _ t in
+        let short : take 0 payload ≡ payload = take-all 0 payload (omega arith) in
+        goes-empty win whole none g ∙ sym (store-nothing flash (placeOf address)) ∙ ap (store flash (placeOf address)) short
+    by false t =
+        let some : length payload ≡ 0 → ⊥ = eqb-false _ _ t in
+        let w = within address (length payload) win (omega arith) in
+        goes-some (w .0) (w .1) (omega arith) whole g
+
+-- ---- the clean write
+
+module _ (config : Config) (address : ℕ) (payload : List ℕ) (n : ℕ) (room : 39 ≤ n) (few : length payload ≤ 8192) where
+  -- each acknowledgement brings the next block, until there is none
+  all-heard : (m i : ℕ) (b : Budget) (t : Tally) (work flash : List ℕ) → length work ≡ n → i * 32 < length payload → length payload ≤ (i + m) * 32
+      → run payload (replicate m acknowledged) (worldAt config address payload n phase.Waiting i b t work flash) .call .phase ≡ phase.Ended answer.Done
+  unfolding run phaseAfter if_then_else_
+  all-heard zero i b t work flash long h l = absurd (omega arith)
+  all-heard (suc m) i b t work flash long h l =
+      ap (λ (w : World). run payload (replicate m acknowledged) w .call .phase) (step-acknowledged config address payload n i b t work long room flash (omega arith))
+      ∙ (by (leb (blocksOf (length payload)) (suc i)) refl
+      (λ k. all-heard m (suc i) (record { left = config .«max_bus_retries» }) t (over (frameOf config address payload n i) work) (stored (frameOf config address payload n i) flash)
+      (laid-long config address payload n i b t work long room) (omega arith) (omega arith)))
+    where
+      next : Phase → World
+      next p = worldAt config address payload n p (suc i) (record { left = config .«max_bus_retries» }) t (over (frameOf config address payload n i) work) (stored (frameOf config address payload n i) flash)
+
+      by : (z : Bool) → leb (blocksOf (length payload)) (suc i) ≡ z
+          → (suc i < blocksOf (length payload) → run payload (replicate m acknowledged) (next phase.Waiting) .call .phase ≡ phase.Ended answer.Done)
+          → run payload (replicate m acknowledged) (next (if z then phase.Ended answer.Done else phase.Waiting)) .call .phase ≡ phase.Ended answer.Done
+      by true z more =
+          ap (λ (w : World). w .call .phase) (run-ended config address payload n (replicate m acknowledged) answer.Done (suc i) _ t _ _)
+      by false z more = more (leb-false _ _ z)
+
+-- and that is what a write leaves whose every transfer is acknowledged
+pub unbroken : (config : Config) (address : ℕ) (payload work flash : List ℕ) → Accepted address payload work flash
+    → (n : ℕ) → length payload ≤ n * 32
+    → (run payload (replicate n acknowledged) (began config address payload work flash) .call .phase ≡ phase.Ended answer.Done)
+    × (run payload (replicate n acknowledged) (began config address payload work flash) .flash ≡ clean address payload flash)
+unfolding if_then_else_
+unbroken config address payload work flash a n l =
+    let e = ended (eqb (length payload) 0) refl in
+    (e, resumed address payload flash (run payload (replicate n acknowledged) (began config address payload work flash) .flash) (a .window) (a .whole) (ended-well config work (replicate n acknowledged) (a .room) e))
+  where
+    ended : (t : Bool) → eqb (length payload) 0 ≡ t → run payload (replicate n acknowledged) (began config address payload work flash) .call .phase ≡ phase.Ended answer.Done
+    ended true t = ap (λ (w : World). w .call .phase) (run-empty config address payload work flash a (eqb-true _ _ t) (replicate n acknowledged))
+    ended false t =
+        let some : length payload ≡ 0 → ⊥ = eqb-false _ _ t in
+        let w = within address (length payload) (a .window) (omega arith) in
+        rw (began-is config address payload work flash a false t)
+        (all-heard config address payload (length work) (a .room) (omega arith) n 0 _ nothing work flash refl (omega arith) (omega arith))
+
+-- DEMAND 3, whole
+pub demand3 : Demand3
+demand3 =
+    record {
+      stopped = stopped;
+      resumed = resumed;
+      unbroken = unbroken;
+      agree = λ k at payload flash fits i now. (in-bytes k at payload flash fits i now, from-bytes k at payload flash fits i now);
+    }

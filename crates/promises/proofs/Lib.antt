@@ -1,0 +1,12 @@
+pub mod Demand1
+pub mod Demand2
+pub mod Store
+pub mod Overlay
+pub mod Window
+pub mod Frames
+pub mod Machine
+pub mod Demand3
+pub mod Courses
+pub mod Replies
+pub mod Reading
+pub mod ReadsTrue

@@ -1,0 +1,132 @@
+-- What one event does to a data-flash write that waits: the frame of the block that is due goes out, and the call is where its outcome leads.
+-- Assumes nothing.
+use Prim.Native.Nat.{ℕ, suc, _+_, _*_, _≤_, _<_, min}
+use mathlib.Core.Path.{_≡_, refl, sym, ap, _∙_}
+use mathlib.Core.Bool.{Bool, true, false}
+use mathlib.Core.List.{List, [], _∷_, _++_}
+use native.Mathlib.Omega.{arith}
+use native.Mathlib.Numerals.{add-one}
+use lib.Dec.{eqb, ltb}
+use lib.ListN.{length, take, drop, length-append, length-take}
+use borrow.Author.Tests.{eq-eqb, lt-ltb}
+use Rattle.protocol.specs.Pick.{if_then_else_}
+use Rattle.protocol.specs.Bytes.{over, sendOf, blocksOf}
+use Rattle.protocol.specs.Frame.{sealed, pairOf, macBytes, laidOf, workLaid}
+use Rattle.protocol.specs.declared.common.Config.{Config}
+use Rattle.protocol.specs.declared.error.Answer.{Answer}
+use Rattle.protocol.specs.declared.error.Answer.the-variants as answer
+use Rattle.protocol.proofs.Laws.{take-over, length-over}
+use Rattle.engine.specs.Pick.{case_waiting_ended_, case_acknowledged_error_timeout_, case_retry_spent_}
+use Rattle.engine.specs.Bus.{writeOf, phaseAfter, fitsOf}
+use Rattle.engine.specs.Budget.{moreOf}
+use Rattle.engine.specs.declared.budget.Budget.{Budget}
+use Rattle.engine.specs.declared.budget.Tally.{Tally}
+use Rattle.engine.specs.declared.bus.Outcome.{Outcome}
+use Rattle.engine.specs.declared.bus.Outcome.the-variants as outcome
+use Rattle.engine.specs.declared.bus.Phase.{Phase}
+use Rattle.engine.specs.declared.bus.Phase.the-variants as phase
+use Rattle.engine.specs.declared.bus.Transfer.the-variants as transfer
+use Rattle.writing.specs.Frames.{isPlain, countOf, blockBytes, bytesAt}
+use Rattle.writing.specs.Writing.{planOf, startOf, ownBytes, dueBytes, shownOf, workShown, nextOf, workAfter, partOf, advanceOf, failOf, settleOf, repliedOf, reportOf}
+use Rattle.writing.specs.declared.call.WriteCall.{WriteCall}
+use Rattle.writing.specs.declared.call.WriteTask.{WriteTask}
+use Rattle.writing.specs.declared.call.WriteReported.the-variants as reported
+use Rattle.r5.specs.Plans.{flashWrite}
+use Rattle.courses.specs.Pick.{case_write_read_none_}
+use Rattle.courses.specs.WriteRun.{takenOf, reportedOf}
+use Rattle.courses.proofs.Cases.{at-write}
+use Rattle.promises.specs.Demand3.{Cause, busError, timedOut, Event, acknowledged, failed, unheard, causeOf, outcomeOf, flashAfter, ackedAfter, World, sent, idle, step}
+
+-- a failed transfer, with the answer that it would end the call with
+abbrev pub whyOf : Cause → Answer
+whyOf (busError code) = answer.I2c code
+whyOf timedOut = answer.Timeout
+
+sealed-short : (pec : Bool) (f : List ℕ) → length f ≤ 36 → length (sealed pec f) ≤ 37
+unfolding sealed if_then_else_
+sealed-short true f h = simp length-append (omega arith)
+sealed-short false f h = omega arith
+
+module _ (config : Config) (address : ℕ) (payload : List ℕ) (n : ℕ) where
+  abbrev pub taskOf : WriteTask
+  taskOf = record { plan = flashWrite config address; lent = record { length = length payload; work = n } }
+
+  -- the call with i blocks acknowledged
+  abbrev pub callAt : Phase → ℕ → Budget → Tally → WriteCall
+  callAt p i b t = record { task = taskOf; phase = p; sent = i; budget = b; tally = t }
+
+  abbrev pub worldAt : Phase → ℕ → Budget → Tally → List ℕ → List ℕ → World
+  worldAt p i b t work flash = record { call = callAt p i b t; work = work; flash = flash; acked = i }
+
+  -- the frame of block i
+  abbrev pub frameOf : ℕ → List ℕ
+  frameOf i = sealed (config .«pec_write») (blockBytes address i payload)
+
+  block-short : (i : ℕ) → length (blockBytes address i payload) ≤ 36
+  unfolding blockBytes macBytes pairOf
+  block-short i = omega (arith, length-take 32 (drop (i * 32) payload))
+
+  frame-short : (i : ℕ) → length (frameOf i) ≤ 37
+  frame-short i = sealed-short (config .«pec_write») (blockBytes address i payload) (block-short i)
+
+  module _ (i : ℕ) (b : Budget) (t : Tally) (work : List ℕ) (long : length work ≡ n) (room : 39 ≤ n) where
+    -- the machine shows the frame of the block that is due
+    pub shows : nextOf (callAt phase.Waiting i b t) payload (length work) ≡ transfer.Write (length (frameOf i))
+    unfolding nextOf case_waiting_ended_ fitsOf ownBytes isPlain planOf flashWrite shownOf dueBytes bytesAt laidOf writeOf if_then_else_
+    shows =
+        rw (eq-eqb (length payload) (length payload) refl, eq-eqb (length work) n long, lt-ltb (length (blockBytes address i payload)) (length work) (omega (arith, block-short i)))
+
+    pub lays : workAfter (callAt phase.Waiting i b t) payload work ≡ over (frameOf i) work
+    unfolding workAfter case_waiting_ended_ fitsOf ownBytes isPlain planOf flashWrite workShown dueBytes bytesAt workLaid if_then_else_
+    lays =
+        rw (eq-eqb (length payload) (length payload) refl, eq-eqb (length work) n long, lt-ltb (length (blockBytes address i payload)) (length work) (omega (arith, block-short i)))
+
+    -- and hands it out
+    pub hands-out : partOf (callAt phase.Waiting i b t) payload (over (frameOf i) work) (length (frameOf i)) ≡ frameOf i
+    unfolding partOf ownBytes isPlain planOf flashWrite sendOf if_then_else_
+    hands-out = take-over (frameOf i) work
+
+    pub laid-long : length (over (frameOf i) work) ≡ n
+    laid-long = length-over (frameOf i) work (omega (arith, frame-short i)) ∙ long
+
+    pub step-sent : (e : Event) (flash : List ℕ)
+        → step payload e (worldAt phase.Waiting i b t work flash)
+        ≡ record { call = reportedOf (callAt phase.Waiting i b t) (outcomeOf e) (length payload) n; work = over (frameOf i) work; flash = flashAfter e (frameOf i) flash; acked = ackedAfter e i }
+    unfolding step sent
+    step-sent e flash =
+        sym (at-write _ _ _ _ _ _ _ refl shows (rw lays sent-is))
+      where
+        sent-is : record { call = reportedOf (callAt phase.Waiting i b t) (outcomeOf e) (length payload) n; work = over (frameOf i) work; flash = flashAfter e (frameOf i) flash; acked = ackedAfter e i }
+            ≡ sent payload e (over (frameOf i) work) (length (frameOf i)) (worldAt phase.Waiting i b t work flash)
+        sent-is = rw (hands-out, laid-long)
+
+    -- acknowledged: the next block is due, with a budget of its own, or the call is done
+    pub step-acknowledged : (flash : List ℕ) → i < 4294967295
+        → step payload (acknowledged) (worldAt phase.Waiting i b t work flash)
+        ≡ worldAt (phaseAfter (blocksOf (length payload)) (suc i)) (suc i) (record { left = config .«max_bus_retries» }) t (over (frameOf i) work) (flashAfter (acknowledged) (frameOf i) flash)
+    unfolding reportedOf takenOf reportOf repliedOf settleOf advanceOf countOf case_waiting_ended_ case_acknowledged_error_timeout_ fitsOf planOf flashWrite if_then_else_
+    step-acknowledged flash h =
+        let more : min (i + 1) 4294967295 ≡ suc i = omega arith in
+        step-sent (acknowledged) flash ∙ rw (eq-eqb (length payload) (length payload) refl, eq-eqb n n refl, more)
+
+    reported-failed : (c : Cause) → reportedOf (callAt phase.Waiting i b t) (causeOf c) (length payload) n ≡ failOf (callAt phase.Waiting i b t) (whyOf c)
+    unfolding reportedOf takenOf reportOf repliedOf settleOf case_waiting_ended_ case_acknowledged_error_timeout_ fitsOf if_then_else_
+    reported-failed (busError code) = rw (eq-eqb (length payload) (length payload) refl, eq-eqb n n refl)
+    reported-failed timedOut = rw (eq-eqb (length payload) (length payload) refl, eq-eqb n n refl)
+
+    -- failed, whether or not the block has landed
+    pub step-failed : (c : Cause) (flash : List ℕ)
+        → step payload (failed c) (worldAt phase.Waiting i b t work flash)
+        ≡ record { call = failOf (callAt phase.Waiting i b t) (whyOf c); work = over (frameOf i) work; flash = flash; acked = i }
+    step-failed c flash = step-sent (failed c) flash ∙ rw reported-failed
+
+    pub step-unheard : (c : Cause) (flash : List ℕ)
+        → step payload (unheard c) (worldAt phase.Waiting i b t work flash)
+        ≡ record { call = failOf (callAt phase.Waiting i b t) (whyOf c); work = over (frameOf i) work; flash = flashAfter (unheard c) (frameOf i) flash; acked = i }
+    step-unheard c flash = step-sent (unheard c) flash ∙ rw reported-failed
+
+  -- an ended call stays as it is
+  pub step-ended : (e : Event) (a : Answer) (i : ℕ) (b : Budget) (t : Tally) (work flash : List ℕ)
+      → step payload e (worldAt (phase.Ended a) i b t work flash) ≡ worldAt (phase.Ended a) i b t work flash
+  unfolding step idle nextOf workAfter case_waiting_ended_ case_write_read_none_
+  step-ended e a i b t work flash = refl

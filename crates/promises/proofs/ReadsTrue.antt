@@ -1,0 +1,284 @@
+-- A read over the model's courses that ends well returns the flash's bytes; what was written over heard transfers is read back over heard transfers.
+-- Assumes nothing.
+use Prim.Native.Nat.{ℕ, zero, suc, _+_, _*_, _-_, _/_, _≤_, _<_, min}
+use mathlib.Core.Path.{_≡_, refl, sym, ap, _∙_}
+use mathlib.Core.Bool.{Bool, true, false, false≢true}
+use mathlib.Core.List.{List, [], _∷_, _++_}
+use native.Mathlib.Omega.{arith}
+use lib.Dec.{eqb, leb}
+use lib.ListN.{length, take, drop, replicate, length-take, length-drop}
+use lib.Seq.{take-all, take-append-seam, drop-append-seam, length-take-le, take-at, drop-at}
+use mathlib.Core.List.{append-assoc}
+use borrow.Author.Tests.{eq-eqb, ne-eqb, eqb-true, eqb-false, leb-false, le-ltb, lt-leb}
+use Rattle.protocol.specs.Pick.{if_then_else_}
+use Rattle.protocol.specs.Bytes.{over, blocksOf}
+use Rattle.protocol.specs.declared.common.Config.{Config}
+use Rattle.protocol.specs.declared.error.Answer.{Answer}
+use Rattle.protocol.specs.declared.error.Answer.the-variants as answer
+use Rattle.engine.specs.Pick.{case_waiting_ended_}
+use Rattle.engine.specs.Budget.{nothing}
+use Rattle.engine.specs.Bus.{phaseAfter, fitsOf}
+use Rattle.engine.specs.Limit.{windowed, measured, admitted}
+use Rattle.engine.specs.declared.budget.Budget.{Budget}
+use Rattle.engine.specs.declared.budget.Tally.{Tally}
+use Rattle.engine.specs.declared.bus.Phase.{Phase}
+use Rattle.engine.specs.declared.bus.Phase.the-variants as phase
+use Rattle.reading.specs.Parts.{hasHead}
+use Rattle.reading.specs.Reading.{startOf}
+use Rattle.r5.specs.Plans.{flashRead}
+use Rattle.model_gauge.specs.declared.gauge.Event.{Event}
+use Rattle.model_gauge.specs.declared.gauge.Event.the-variants as event
+use Rattle.model_gauge.specs.declared.gauge.Gauge.{Gauge}
+use Rattle.courses.specs.Pick.{case_refused_admitted_}
+use Rattle.courses.specs.Course.{eventOf, eventsOf, soundOf, admitOf, endOf}
+use Rattle.courses.specs.WriteRun as writing
+use Rattle.courses.specs.ReadRun.{World, Left, world, stepOf, driveOf, endedOf, leftOf, runOf}
+use Rattle.courses.specs.declared.course.End.{End}
+use Rattle.courses.specs.declared.course.End.the-variants as end
+use Rattle.promises.specs.Flash.{store}
+use Rattle.promises.specs.Demand3 as demand
+use Rattle.promises.specs.Demand3.{acknowledged, began, run, placeOf, clean, Accepted}
+use Rattle.promises.specs.Courses.{eventsIn, beside}
+use Rattle.promises.specs.Reading.{flashBytes, readBegan, ReadsTrue}
+use Rattle.promises.proofs.Store.{store-length, store-nothing}
+use Rattle.promises.proofs.Window.{within}
+use Rattle.promises.proofs.Demand3.{stopped, unbroken}
+use Rattle.promises.proofs.Courses.{run-same}
+use Rattle.promises.proofs.Reading.{readAt, readWorld, headOf, head-long, step-head, step-read, buffer-long, head-sent, Kept, blockAfter, read-heard, block-after, Reading, reading-run, ended-stays, all-received}
+
+cut-not-done : end.Cut ≡ end.Answered answer.Done → ⊥
+cut-not-done e = let z : _≡_ {A = ℕ} 0 1 = cc in omega arith
+
+same-answer : (a : Answer) → end.Answered a ≡ end.Answered answer.Done → a ≡ answer.Done
+same-answer a e = cc
+
+-- an accepted read waits with its head due, or is done where nothing is to be read
+began-is : (gauge : Gauge) (config : Config) (address : ℕ) (buffer work flash : List ℕ) → Accepted address buffer work flash → (t : Bool) → eqb (length buffer) 0 ≡ t
+    → readBegan gauge config address buffer work flash
+    ≡ readWorld config address (length buffer) (length work) (if t then phase.Ended answer.Done else phase.Waiting) true 0 (record { left = config .«max_bus_retries» }) nothing gauge buffer work flash
+unfolding readBegan startOf admitted measured windowed flashRead hasHead if_then_else_
+began-is gauge config address buffer work flash a t e = rw (le-ltb (length work) 39 (a .room), a .window, e)
+
+-- how a run says that it ended
+ended-at : (config : Config) (address size n : ℕ) (p : Phase) (h : Bool) (i : ℕ) (b : Budget) (t : Tally) (g : Gauge) (buffer work flash : List ℕ)
+    → length buffer ≡ size → length work ≡ n
+    → leftOf (readWorld config address size n p h i b t g buffer work flash) .run .end ≡ end.Answered answer.Done → p ≡ phase.Ended answer.Done
+unfolding leftOf endedOf endOf case_waiting_ended_ fitsOf if_then_else_
+ended-at config address size n phase.Waiting h i b t g buffer work flash fits long e =
+    absurd (cut-not-done (rw (eq-eqb (length buffer) size fits, eq-eqb (length work) n long) at e))
+ended-at config address size n (phase.Ended a) h i b t g buffer work flash fits long e = ap phase.Ended (same-answer a e)
+
+module _ (config : Config) (address : ℕ) (buffer work flash : List ℕ) (a : Accepted address buffer work flash) (gauge : Gauge) where
+  run-is : (course : List ℕ) → soundOf course ≡ true
+      → runOf course (readBegan gauge config address buffer work flash) ≡ leftOf (driveOf (eventsOf course) (readBegan gauge config address buffer work flash))
+  unfolding runOf admitOf case_refused_admitted_ if_then_else_ readBegan
+  run-is course sound = rw (eq-eqb (length flash) 8192 (a .whole), sound)
+
+  done-received : (low : 0x4000 ≤ address) (high : address + length buffer ≤ 0x6000) (p : Phase) (h : Bool) (i : ℕ) (g : Gauge) → p ≡ phase.Ended answer.Done
+      → Kept config address (length work) buffer flash (a .room) (a .whole) low high p h i g → length buffer ≤ i * 32
+  done-received low high p h i g e k = (rw e at k) refl
+
+  -- what the invariant says of a run that ended well
+  kept-true : (low : 0x4000 ≤ address) (high : address + length buffer ≤ 0x6000) (p : Phase) (h : Bool) (i : ℕ) (b : Budget) (t : Tally) (g : Gauge) (now work′ : List ℕ)
+      → length work′ ≡ length work → now ≡ over (take (i * 32) (flashBytes address (length buffer) flash)) buffer
+      → Kept config address (length work) buffer flash (a .room) (a .whole) low high p h i g
+      → (leftOf (readWorld config address (length buffer) (length work) p h i b t g now work′ flash) .flash ≡ flash)
+      × (leftOf (readWorld config address (length buffer) (length work) p h i b t g now work′ flash) .run .end ≡ end.Answered answer.Done
+      → leftOf (readWorld config address (length buffer) (length work) p h i b t g now work′ flash) .buffer ≡ flashBytes address (length buffer) flash)
+  unfolding leftOf
+  kept-true low high p h i b t g now work′ long f k = (
+    refl,
+    λ e. all-received config address (length work) buffer flash (a .room) (a .whole) low high i now
+        (done-received low high p h i g (ended-at config address (length buffer) (length work) p h i b t g now work′ flash (buffer-long config address (length work) buffer flash (a .room) (a .whole) low high i now f) long e) k) f,
+  )
+
+  -- nothing is to be read
+  drive-empty : (es : List Event) → length buffer ≡ 0
+      → driveOf es (readBegan gauge config address buffer work flash)
+      ≡ readWorld config address (length buffer) (length work) (phase.Ended answer.Done) true 0 (record { left = config .«max_bus_retries» }) nothing gauge buffer work flash
+  unfolding if_then_else_
+  drive-empty es empty =
+      ap (driveOf es) (began-is gauge config address buffer work flash a true (eq-eqb (length buffer) 0 empty))
+      ∙ ended-stays config address (length buffer) (length work) es answer.Done true 0 _ nothing gauge buffer work flash
+
+  -- something is to be read
+  reading : 0 < length buffer → (low : 0x4000 ≤ address) (high : address + length buffer ≤ 0x6000) (es : List Event)
+      → Reading config address (length work) buffer flash (a .room) (a .whole) low high (driveOf es (readBegan gauge config address buffer work flash))
+  unfolding if_then_else_ over
+  reading some low high es =
+      let t : eqb (length buffer) 0 ≡ false = ne-eqb (length buffer) 0 (λ e. omega arith) in
+      reading-run config address (length work) buffer flash (a .room) (a .whole) low high es (readBegan gauge config address buffer work flash)
+      (record {
+        at = phase.Waiting;
+        head = true;
+        i = 0;
+        b = record { left = config .«max_bus_retries» };
+        t = nothing;
+        gauge = gauge;
+        buffer = buffer;
+        work = work;
+        is = began-is gauge config address buffer work flash a false t;
+        long = refl;
+        front = refl;
+        kept = (omega arith, λ e. absurd (false≢true (sym e)));
+      })
+
+  reads-empty : (course : List ℕ) → length buffer ≡ 0
+      → (leftOf (driveOf (eventsOf course) (readBegan gauge config address buffer work flash)) .flash ≡ flash)
+      × (leftOf (driveOf (eventsOf course) (readBegan gauge config address buffer work flash)) .run .end ≡ end.Answered answer.Done
+      → leftOf (driveOf (eventsOf course) (readBegan gauge config address buffer work flash)) .buffer ≡ flashBytes address (length buffer) flash)
+  unfolding leftOf
+  reads-empty course empty =
+      let short : take 0 buffer ≡ buffer = take-all 0 buffer (omega arith) in
+      rw (drive-empty (eventsOf course) empty) (refl, λ e. sym short ∙ rw empty)
+
+  reads-some : (course : List ℕ) → 0 < length buffer
+      → (leftOf (driveOf (eventsOf course) (readBegan gauge config address buffer work flash)) .flash ≡ flash)
+      × (leftOf (driveOf (eventsOf course) (readBegan gauge config address buffer work flash)) .run .end ≡ end.Answered answer.Done
+      → leftOf (driveOf (eventsOf course) (readBegan gauge config address buffer work flash)) .buffer ≡ flashBytes address (length buffer) flash)
+  reads-some course some =
+      let w = within address (length buffer) (a .window) some in
+      let r = reading some (w .0) (w .1) (eventsOf course) in
+      rw (r .is) (kept-true (w .0) (w .1) (r .at) (r .head) (r .i) (r .b) (r .t) (r .gauge) (r .buffer) (r .work) (r .long) (r .front) (r .kept))
+
+  pub reads : (course : List ℕ) → soundOf course ≡ true
+      → (runOf course (readBegan gauge config address buffer work flash) .flash ≡ flash)
+      × (runOf course (readBegan gauge config address buffer work flash) .run .end ≡ end.Answered answer.Done
+      → runOf course (readBegan gauge config address buffer work flash) .buffer ≡ flashBytes address (length buffer) flash)
+  reads course sound = rw (run-is course sound) (by (eqb (length buffer) 0) refl)
+    where
+      by : (t : Bool) → eqb (length buffer) 0 ≡ t
+          → (leftOf (driveOf (eventsOf course) (readBegan gauge config address buffer work flash)) .flash ≡ flash)
+          × (leftOf (driveOf (eventsOf course) (readBegan gauge config address buffer work flash)) .run .end ≡ end.Answered answer.Done
+          → leftOf (driveOf (eventsOf course) (readBegan gauge config address buffer work flash)) .buffer ≡ flashBytes address (length buffer) flash)
+      by true t = reads-empty course (eqb-true _ _ t)
+      by false t =
+          let some : length buffer ≡ 0 → ⊥ = eqb-false _ _ t in
+          reads-some course (omega arith)
+
+-- ---- every transfer is heard
+
+heard-events : (n : ℕ) → eventsOf (replicate n 0) ≡ replicate n event.Heard
+unfolding eventsOf eventOf if_then_else_
+heard-events zero = refl
+heard-events (suc n) = ap (λ (es : List Event). event.Heard ∷ es) (heard-events n)
+
+heard-sound : (n : ℕ) → soundOf (replicate n 0) ≡ true
+unfolding soundOf if_then_else_
+heard-sound zero = refl
+heard-sound (suc n) = heard-sound n
+
+heard-in : (n : ℕ) → eventsIn (replicate n event.Heard) ≡ replicate n acknowledged
+heard-in zero = refl
+heard-in (suc n) = ap (λ (es : List demand.Event). acknowledged ∷ es) (heard-in n)
+
+module _ (config : Config) (address n : ℕ) (old flash : List ℕ) (room : 39 ≤ n) (whole : length flash ≡ 8192)
+    (low : 0x4000 ≤ address) (high : address + length old ≤ 0x6000) where
+  -- each reply brings the next block, until there is none
+  reads-on : (m i : ℕ) (b : Budget) (t : Tally) (g : Gauge) (buffer work : List ℕ) → length work ≡ n → i * 32 < length old → blocksOf (length old) ≤ i + m
+      → g .pointer ≡ address + i * 32 → buffer ≡ over (take (i * 32) (flashBytes address (length old) flash)) old
+      → driveOf (replicate m event.Heard) (readWorld config address (length old) n phase.Waiting false i b t g buffer work flash) .reader .call .phase ≡ phase.Ended answer.Done
+  unfolding driveOf phaseAfter if_then_else_
+  reads-on zero i b t g buffer work long l k q f = absurd (omega arith)
+  reads-on (suc m) i b t g buffer work long l k q f =
+      ap (λ (w : World). driveOf (replicate m event.Heard) w .reader .call .phase)
+      (step-read config address (length old) n i b t g buffer work flash (buffer-long config address n old flash room whole low high i buffer f) long room event.Heard
+      ∙ read-heard config address n old flash room whole low high i b t g buffer work long l f)
+      ∙ by (leb (blocksOf (length old)) (suc i)) refl
+      (λ z. reads-on m (suc i) b t (record { pointer = min (g .pointer + 32) 0x6000 }) (blockAfter config address n old flash room whole low high i g buffer) work long (omega arith) (omega arith) (omega arith) (block-after config address n old flash room whole low high i g buffer l q f))
+    where
+      next : Phase → World
+      next p = readWorld config address (length old) n p false (suc i) b t (record { pointer = min (g .pointer + 32) 0x6000 }) (blockAfter config address n old flash room whole low high i g buffer) work flash
+
+      by : (z : Bool) → leb (blocksOf (length old)) (suc i) ≡ z
+          → (suc i < blocksOf (length old) → driveOf (replicate m event.Heard) (next phase.Waiting) .reader .call .phase ≡ phase.Ended answer.Done)
+          → driveOf (replicate m event.Heard) (next (if z then phase.Ended answer.Done else phase.Waiting)) .reader .call .phase ≡ phase.Ended answer.Done
+      by true z more = ap (λ (w : World). w .reader .call .phase) (ended-stays config address (length old) n (replicate m event.Heard) answer.Done false (suc i) b t _ _ work flash)
+      by false z more = more (leb-false _ _ z)
+
+  -- the head first
+  reads-all : (m : ℕ) (b : Budget) (t : Tally) (g : Gauge) (work : List ℕ) → length work ≡ n → 0 < length old → blocksOf (length old) < m
+      → driveOf (replicate m event.Heard) (readWorld config address (length old) n phase.Waiting true 0 b t g old work flash) .reader .call .phase ≡ phase.Ended answer.Done
+  unfolding driveOf phaseAfter if_then_else_ over
+  reads-all zero b t g work long some k = absurd (omega arith)
+  reads-all (suc m) b t g work long some k =
+      let more : leb (blocksOf (length old)) 0 ≡ false = lt-leb (blocksOf (length old)) 0 (omega arith) in
+      ap (λ (w : World). driveOf (replicate m event.Heard) w .reader .call .phase)
+      (step-head config address (length old) n 0 b t g old work flash refl long room event.Heard
+      ∙ head-sent config address n old flash room whole low high 0 b t g old work long (omega arith) refl
+      ∙ rw more)
+      ∙ reads-on m 0 b t (record { pointer = address + 0 * 32 }) old (over (headOf config address (length old) n 0) work)
+      (head-long config address (length old) n 0 b t g old work flash refl long room) (omega arith) (omega arith) refl refl
+
+module _ (config : Config) (address : ℕ) (buffer work flash : List ℕ) (a : Accepted address buffer work flash) (gauge : Gauge) where
+  -- a read over heard transfers ends well
+  heard-ends : (m : ℕ) → blocksOf (length buffer) < m
+      → runOf (replicate m 0) (readBegan gauge config address buffer work flash) .run .end ≡ end.Answered answer.Done
+  unfolding leftOf endedOf endOf case_waiting_ended_ if_then_else_
+  heard-ends m k =
+      ap (λ (l : Left). l .run .end) (run-is config address buffer work flash a gauge (replicate m 0) (heard-sound m))
+      ∙ rw (heard-events m, by (eqb (length buffer) 0) refl)
+    where
+      by : (t : Bool) → eqb (length buffer) 0 ≡ t → driveOf (replicate m event.Heard) (readBegan gauge config address buffer work flash) .reader .call .phase ≡ phase.Ended answer.Done
+      by true t = ap (λ (w : World). w .reader .call .phase) (drive-empty config address buffer work flash a gauge (replicate m event.Heard) (eqb-true _ _ t))
+      by false t =
+          let some : length buffer ≡ 0 → ⊥ = eqb-false _ _ t in
+          let w = within address (length buffer) (a .window) (omega arith) in
+          rw (began-is gauge config address buffer work flash a false t)
+          (reads-all config address (length work) buffer flash (a .room) (a .whole) (w .0) (w .1) m _ nothing gauge work refl (omega arith) k)
+
+-- what a clean write left is the payload
+clean-bytes : (address : ℕ) (payload flash : List ℕ) → placeOf address + length payload ≤ length flash → flashBytes address (length payload) (clean address payload flash) ≡ payload
+unfolding store
+clean-bytes address payload flash fits =
+    let front : length (take (placeOf address) flash) ≡ placeOf address = length-take-le (placeOf address) flash (omega arith) in
+    rw (append-assoc, drop-at (take (placeOf address) flash) _ (placeOf address) front) (take-append-seam payload _)
+
+written : (config : Config) (address : ℕ) (payload work flash : List ℕ) → Accepted address payload work flash → (gauge : Gauge) (n : ℕ)
+    → writing.runOf payload (replicate n 0) (beside gauge (began config address payload work flash)) .flash
+    ≡ run payload (replicate n acknowledged) (began config address payload work flash) .flash
+unfolding writing.leftOf
+written config address payload work flash a gauge n =
+    ap (λ (l : writing.Left). l .flash) (run-same config address payload work flash a gauge (replicate n 0) (heard-sound n))
+    ∙ ap (λ (es : List demand.Event). run payload es (began config address payload work flash) .flash) (ap eventsIn (heard-events n) ∙ heard-in n)
+
+pub reads-back : (config config′ : Config) (address : ℕ) (payload work flash buffer work′ : List ℕ) → Accepted address payload work flash
+    → length buffer ≡ length payload → 39 ≤ length work′
+    → (gauge gauge′ : Gauge) (n m : ℕ) → blocksOf (length payload) ≤ n → blocksOf (length payload) < m
+    → (runOf (replicate m 0) (readBegan gauge′ config′ address buffer work′
+    (writing.runOf payload (replicate n 0) (beside gauge (began config address payload work flash)) .flash)) .run .end
+    ≡ end.Answered answer.Done)
+    × (runOf (replicate m 0) (readBegan gauge′ config′ address buffer work′
+    (writing.runOf payload (replicate n 0) (beside gauge (began config address payload work flash)) .flash)) .buffer
+    ≡ payload)
+reads-back config config′ address payload work flash buffer work′ a same room gauge gauge′ n m blocks more =
+    rw (written config address payload work flash a gauge n)
+    (let now : List ℕ = run payload (replicate n acknowledged) (began config address payload work flash) .flash in
+    let c : Accepted address buffer work′ now =
+    record { window = rw same (a .window); room = room; whole = stopped config address payload work flash a (replicate n acknowledged) .bytes .size ∙ a .whole } in
+    let well : runOf (replicate m 0) (readBegan gauge′ config′ address buffer work′ now) .run .end ≡ end.Answered answer.Done =
+    heard-ends config′ address buffer work′ now c gauge′ m (rw same more) in
+    let clean-now : now ≡ clean address payload flash = unbroken config address payload work flash a n (omega arith) .1 in (
+      well,
+      reads config′ address buffer work′ now c gauge′ (replicate m 0) (heard-sound m) .1 well
+          ∙ rw (same, clean-now) (by (eqb (length payload) 0) refl),
+    ))
+  where
+    by : (t : Bool) → eqb (length payload) 0 ≡ t → flashBytes address (length payload) (clean address payload flash) ≡ payload
+    by true t =
+        let empty : length payload ≡ 0 = eqb-true _ _ t in
+        let short : take 0 payload ≡ payload = take-all 0 payload (omega arith) in
+        rw empty short
+    by false t =
+        let some : length payload ≡ 0 → ⊥ = eqb-false _ _ t in
+        let w = within address (length payload) (a .window) (omega arith) in
+        let whole : length flash ≡ 8192 = a .whole in
+        clean-bytes address payload flash (omega arith)
+
+-- reads are true
+pub reads-true : ReadsTrue
+reads-true =
+    record {
+      reads = λ config address buffer work flash a gauge course sound. reads config address buffer work flash a gauge course sound;
+      reads-back = reads-back;
+    }

@@ -1,0 +1,173 @@
+-- Demand 3: stop a data-flash write anywhere and know every byte; go on from the count, and the flash is as one clean write leaves it.
+--
+-- The gauge reads the frames that the step machine shows, byte by byte with the model's frame reader. What is supposed of it: it has stored whole
+-- every block that it acknowledged, and a failed transfer did nothing or its full work unheard. Nothing else is supposed, of bus, retries or PEC.
+-- Assumes nothing.
+use Prim.Native.Nat.{ℕ, suc, _+_, _*_, _-_, _≤_, _<_}
+use mathlib.Core.Path.{_≡_}
+use mathlib.Core.Bool.{true}
+use mathlib.Core.Logic.{_⊎_}
+use mathlib.Core.List.{List, [], _∷_}
+use lib.ListN.{length, drop, replicate}
+use lib.Dec.{eqb}
+use Rattle.protocol.specs.Pick.{if_then_else_}
+use Rattle.protocol.specs.Answer.{numberOf, detailOf}
+use Rattle.protocol.specs.Window.{inWindow}
+use Rattle.protocol.specs.declared.common.Config.{Config}
+use Rattle.protocol.specs.declared.error.Answer.{Answer}
+use Rattle.protocol.specs.declared.error.Answer.the-variants as answer
+use Rattle.engine.specs.declared.bus.Outcome.{Outcome}
+use Rattle.engine.specs.declared.bus.Outcome.the-variants as outcome
+use Rattle.engine.specs.declared.bus.Phase.{Phase}
+use Rattle.engine.specs.declared.bus.Phase.the-variants as phase
+use Rattle.writing.specs.Writing.{startOf, nextOf, workAfter, partOf}
+use Rattle.writing.specs.declared.call.WriteCall.{WriteCall}
+use Rattle.r5.specs.Plans.{flashWrite}
+use Rattle.model_gauge.specs.Gauge.{stored}
+use Rattle.courses.specs.Pick.{case_write_read_none_}
+use Rattle.courses.specs.WriteRun.{reportedOf}
+use Rattle.promises.specs.Flash.{store, Overlaid, Stands}
+
+-- ---- what becomes of a transfer
+
+-- why it failed
+pub data Cause : Type 0 where
+  busError : ℕ → Cause
+  timedOut : Cause
+
+-- acknowledged, with its full work done; failed with nothing done; failed with its full work done unheard
+pub data Event : Type 0 where
+  acknowledged : Event
+  failed unheard : Cause → Event
+
+abbrev pub causeOf : Cause → Outcome
+causeOf (busError code) = outcome.BusError code
+causeOf timedOut = outcome.Timeout
+
+-- what the host hears
+abbrev pub outcomeOf : Event → Outcome
+outcomeOf acknowledged = outcome.Acknowledged
+outcomeOf (failed c) = causeOf c
+outcomeOf (unheard c) = causeOf c
+
+-- what a frame does to the flash: the one place where that is supposed
+abbrev pub flashAfter : Event → List ℕ → List ℕ → List ℕ
+flashAfter acknowledged frame flash = stored frame flash
+flashAfter (failed c) frame flash = flash
+flashAfter (unheard c) frame flash = stored frame flash
+
+-- one more, where it was acknowledged
+abbrev pub ackedAfter : Event → ℕ → ℕ
+ackedAfter acknowledged i = suc i
+ackedAfter (failed c) i = i
+ackedAfter (unheard c) i = i
+
+-- ---- a write over a list of events
+
+-- the call and its work buffer; the flash; how many blocks were acknowledged
+pub record World : Type 0 where
+  pub call : WriteCall
+  pub work : List ℕ
+  pub flash : List ℕ
+  pub acked : ℕ
+
+-- a data-flash write starts
+unfoldable pub began : Config → ℕ → List ℕ → List ℕ → List ℕ → World
+began config address payload work flash =
+    record { call = startOf (flashWrite config address) (length payload) (length work); work = work; flash = flash; acked = 0 }
+
+-- the n bytes that the machine hands out go to the gauge, and it hears what came of them
+unfoldable pub sent : List ℕ → Event → List ℕ → ℕ → World → World
+sent payload e work n w = record {
+  call = reportedOf (w .call) (outcomeOf e) (length payload) (length work);
+  work = work;
+  flash = flashAfter e (partOf (w .call) payload work n) (w .flash);
+  acked = ackedAfter e (w .acked);
+}
+
+-- nothing is shown: an ended call stays as it is
+unfoldable pub idle : List ℕ → World → World
+idle work w = record { call = w .call; work = work; flash = w .flash; acked = w .acked }
+
+-- one transfer, as the machine shows it
+unfoldable pub step : List ℕ → Event → World → World
+step payload e w =
+    case nextOf (w .call) payload (length (w .work))
+    write (λ n. sent payload e (workAfter (w .call) payload (w .work)) n w)
+    read (λ command count. idle (workAfter (w .call) payload (w .work)) w)
+    none idle (workAfter (w .call) payload (w .work)) w
+
+-- a transfer for each event. Every point of stopping is the end of some list
+unfoldable pub run : List ℕ → List Event → World → World
+run payload [] w = w
+run payload (e ∷ es) w = run payload es (step payload e w)
+
+-- ---- what is promised
+
+-- where an address lies in the flash
+abbrev pub placeOf : ℕ → ℕ
+placeOf address = address - 0x4000
+
+-- what one clean write leaves
+abbrev pub clean : ℕ → List ℕ → List ℕ → List ℕ
+clean address payload flash = store flash (placeOf address) payload
+
+-- what an answer says of i acknowledged blocks of k bytes, of n bytes in all: 0, all are; 6, its count is theirs, a nonzero multiple of k below n;
+-- 1 or 2, no count is given and there is none
+pub data Answered (k n i : ℕ) (a : Answer) : Type 0 where
+  all-acked : numberOf a ≡ 0 → n ≤ i * k → Answered k n i a
+  some-acked : numberOf a ≡ 6 → detailOf a ≡ i * k → 0 < i → i * k < n → Answered k n i a
+  none-acked : (numberOf a ≡ 1) ⊎ (numberOf a ≡ 2) → i ≡ 0 → Answered k n i a
+
+-- a call that waits has a block to send
+abbrev pub Told : ℕ → ℕ → ℕ → Phase → Type 0
+Told k n i phase.Waiting = i * k < n
+Told k n i (phase.Ended a) = Answered k n i a
+
+-- at every point of stopping: the flash as an overlay, the same byte by byte, and what the call says
+pub record Promised (address : ℕ) (payload flash : List ℕ) (w : World) : Type 0 where
+  pub overlay : Overlaid 32 (placeOf address) payload flash (w .acked) (w .flash)
+  pub bytes : Stands 32 (placeOf address) payload flash (w .acked) (w .flash)
+  pub told : Told 32 (length payload) (w .acked) (w .call .phase)
+
+-- the count that an answer gives; none given means zero
+abbrev pub countOf : Answer → ℕ
+countOf a = if eqb (numberOf a) 6 then detailOf a else 0
+
+-- goes one after the other, each with settings, a work buffer and events of its own: from a flash to what the last go leaves, which ended well.
+-- After an error the next go sends only the bytes past the count; after a stop in the middle it sends all of them again
+pub data Goes : ℕ → List ℕ → List ℕ → List ℕ → Type 0 where
+  ended-well : {address : ℕ} {payload flash : List ℕ} (config : Config) (work : List ℕ) (es : List Event) → 39 ≤ length work
+      → run payload es (began config address payload work flash) .call .phase ≡ phase.Ended answer.Done
+      → Goes address payload flash (run payload es (began config address payload work flash) .flash)
+  went-on : {address : ℕ} {payload flash after : List ℕ} (config : Config) (work : List ℕ) (es : List Event) (a : Answer) → 39 ≤ length work
+      → run payload es (began config address payload work flash) .call .phase ≡ phase.Ended a
+      → Goes (address + countOf a) (drop (countOf a) payload) (run payload es (began config address payload work flash) .flash) after
+      → Goes address payload flash after
+  started-over : {address : ℕ} {payload flash after : List ℕ} (config : Config) (work : List ℕ) (es : List Event) → 39 ≤ length work
+      → run payload es (began config address payload work flash) .call .phase ≡ phase.Waiting
+      → Goes address payload (run payload es (began config address payload work flash) .flash) after
+      → Goes address payload flash after
+
+-- an accepted write: inside the window, with room for every frame, on a flash of 8,192 bytes
+pub record Accepted (address : ℕ) (payload work flash : List ℕ) : Type 0 where
+  pub window : inWindow address (length payload) ≡ true
+  pub room : 39 ≤ length work
+  pub whole : length flash ≡ 8192
+
+-- DEMAND 3
+pub record Demand3 : Type 0 where
+  -- stop anywhere and know every byte, and what the count says
+  pub stopped : (config : Config) (address : ℕ) (payload work flash : List ℕ) → Accepted address payload work flash → (es : List Event)
+      → Promised address payload flash (run payload es (began config address payload work flash))
+  -- go on, any number of times
+  pub resumed : (address : ℕ) (payload flash after : List ℕ) → inWindow address (length payload) ≡ true → length flash ≡ 8192
+      → Goes address payload flash after → after ≡ clean address payload flash
+  -- and that is what a write leaves whose every transfer is acknowledged: it ends well
+  pub unbroken : (config : Config) (address : ℕ) (payload work flash : List ℕ) → Accepted address payload work flash
+      → (n : ℕ) → length payload ≤ n * 32
+      → (run payload (replicate n acknowledged) (began config address payload work flash) .call .phase ≡ phase.Ended answer.Done)
+      × (run payload (replicate n acknowledged) (began config address payload work flash) .flash ≡ clean address payload flash)
+  -- the overlay and the bytes say the same, for blocks of any length
+  pub agree : (k at : ℕ) (payload flash : List ℕ) → at + length payload ≤ length flash → (i : ℕ) (now : List ℕ)
+      → (Overlaid k at payload flash i now → Stands k at payload flash i now) × (Stands k at payload flash i now → Overlaid k at payload flash i now)

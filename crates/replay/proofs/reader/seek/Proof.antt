@@ -1,0 +1,54 @@
+-- `replay::reader::seek` meets its contract: nothing has to hold from turn to turn, and the measure is the number of turns that are left.
+-- Assumes nothing.
+use native.Mathlib.Omega.{arith}
+use Rattle.replay.proofs.reader.seek.Statement.{statement}
+use Rattle.replay.proofs.reader.seek.Tie as tie
+
+abbrev Inv-loop : tie.InvT-loop
+Inv-loop wanted piece₀ held₀ now₀ turns₀ piece held now turns = Unit {0}
+
+abbrev μ-loop : tie.MeasureT-loop
+μ-loop wanted piece₀ held₀ now₀ turns₀ piece held now turns = turns
+
+next-requires : tie.Need-next-requires Inv-loop μ-loop
+next-requires c κs = tt
+
+loop-holds : tie.Need-loop-holds Inv-loop μ-loop
+loop-holds c = tt
+
+stops-requires : tie.Need-stops-requires Inv-loop μ-loop
+stops-requires c κs = tt
+
+next-requires-2 : tie.Need-next-requires-2 Inv-loop μ-loop
+next-requires-2 c κs = tt
+
+sub-turns : tie.Need-sub-turns Inv-loop μ-loop
+sub-turns c = omega arith
+
+loop-less : tie.Need-loop-less Inv-loop μ-loop
+loop-less c = omega arith
+
+loop-again : tie.Need-loop-again Inv-loop μ-loop
+loop-again c = tt
+
+returns : tie.Need-returns Inv-loop μ-loop
+returns c = tt
+
+returns-2 : tie.Need-returns-2 Inv-loop μ-loop
+returns-2 c = tt
+
+pub seek-spec : {M : Type 1} → statement M
+seek-spec =
+    tie.close
+    (tie.spec
+    Inv-loop
+    μ-loop
+    next-requires
+    loop-holds
+    stops-requires
+    next-requires-2
+    sub-turns
+    loop-less
+    loop-again
+    returns
+    returns-2)

@@ -1,0 +1,330 @@
+// Replays a list of answers on the ported code: how many cases it ran, how many differ, and the first that does. The list, in the form
+// of docs/BENCH.md, is the file that the first argument names. It is read twice at the same time, once for what goes in and once for
+// what must come out, so that a case may have any number of lines.
+mod reader;
+
+use crate::reader::Reader;
+use bench_lines::Said;
+use bench_stage::Run;
+use bench_stage::Stage;
+use libc::STDOUT_FILENO;
+use protocol::bytes;
+use requests::fields;
+
+// A case that runs: the call, whether it is over, and whether all that was printed is what the list has.
+struct Case {
+    run: Run,
+    over: bool,
+    same: bool,
+}
+
+// A case that was run: where both readers stand, and whether all was as the list has it.
+struct Ran {
+    input: Reader,
+    expected: Reader,
+    same: bool,
+}
+
+// How many cases were run, how many differ, the number of the first of these and how many bytes its words have.
+struct Tally {
+    cases: u64,
+    differ: u64,
+    first: u64,
+    words: usize,
+}
+
+// Where the program stands.
+struct Session {
+    input: Reader,
+    expected: Reader,
+    tally: Tally,
+    on: bool,
+}
+
+// A case with no line read yet.
+fn fresh() -> Case {
+    let stage = bench_stage::start();
+    let run = stage.run;
+    Case {
+        run,
+        over: false,
+        same: true,
+    }
+}
+
+// Where a line of a case leads: an input line, one that lacks its line feed, or the end of the case.
+fn stage_of(
+    run: Run,
+    input: Reader,
+    line: &[u8],
+    request: &mut [u8],
+    reply: &mut [u8],
+    buffer: &mut [u8],
+) -> Stage {
+    let text = fields::rest(bytes::front(line, input.len), 2);
+    if input.tag == b'I' {
+        bench_stage::feed(run, text, request, reply, buffer)
+    } else if input.tag == b'U' {
+        bench_stage::close(run, text.len())
+    } else {
+        bench_stage::close(run, 0)
+    }
+}
+
+// Whether a line of the list is the n bytes that were printed, but for their line feed.
+fn matches(expected: Reader, line: &[u8], out: &[u8], n: usize) -> bool {
+    if expected.tag == b'O' {
+        let printed = bytes::front(out, n);
+        let text = fields::rest(bytes::front(line, expected.len), 2);
+        if printed.len() == 0 {
+            false
+        } else {
+            check::same(text, bytes::front(printed, printed.len() - 1))
+        }
+    } else {
+        false
+    }
+}
+
+// A line goes in, and what is printed is held against a line of the list.
+fn step(
+    case: Case,
+    input: Reader,
+    put: &[u8],
+    expected: Reader,
+    wanted: &[u8],
+    request: &mut [u8],
+    reply: &mut [u8],
+    buffer: &mut [u8],
+    out: &mut [u8],
+) -> Case {
+    let before = case.run;
+    let stage = stage_of(before, input, put, request, reply, buffer);
+    let run = stage.run;
+    match bench_lines::say(stage, request, buffer, out) {
+        Said::Asked(n) => judged(run, false, matches(expected, wanted, out, n)),
+        Said::Last(n) => judged(run, true, matches(expected, wanted, out, n)),
+    }
+}
+
+// A case after a line. It is over at the first line that differs.
+fn judged(run: Run, last: bool, same: bool) -> Case {
+    if same {
+        Case {
+            run,
+            over: last,
+            same: true,
+        }
+    } else {
+        Case {
+            run,
+            over: true,
+            same: false,
+        }
+    }
+}
+
+// Runs a case whose words were read.
+fn run_case(
+    input: Reader,
+    expected: Reader,
+    put_piece: &mut [u8; 65536],
+    put: &mut [u8; 65536],
+    wanted_piece: &mut [u8; 65536],
+    wanted: &mut [u8; 65536],
+    request: &mut [u8; 8202],
+    reply: &mut [u8; 8193],
+    buffer: &mut [u8; 8192],
+    out: &mut [u8; 16401],
+) -> Ran {
+    let mut a = input;
+    let mut b = expected;
+    let mut case = fresh();
+    let mut turns = u64::MAX;
+    while turns > 0 && !case.over {
+        a = reader::seek(a, b'I', put_piece, put);
+        b = reader::seek(b, b'O', wanted_piece, wanted);
+        case = step(case, a, put, b, wanted, request, reply, buffer, out);
+        turns -= 1;
+    }
+    Ran {
+        input: a,
+        expected: b,
+        same: case.same,
+    }
+}
+
+// A case that was run, and nothing more was to come out.
+fn ended(ran: Ran, wanted_piece: &mut [u8; 65536], wanted: &mut [u8; 65536]) -> Ran {
+    if ran.same {
+        let input = ran.input;
+        let expected = reader::seek(ran.expected, b'O', wanted_piece, wanted);
+        Ran {
+            input,
+            expected,
+            same: expected.tag != b'O',
+        }
+    } else {
+        ran
+    }
+}
+
+// One more, up to the largest count.
+fn more(n: u64) -> u64 {
+    if n < u64::MAX { n + 1 } else { n }
+}
+
+// One case more.
+fn counted(tally: Tally, same: bool, words: usize) -> Tally {
+    let cases = more(tally.cases);
+    if same {
+        Tally {
+            cases,
+            differ: tally.differ,
+            first: tally.first,
+            words: tally.words,
+        }
+    } else if tally.differ == 0 {
+        Tally {
+            cases,
+            differ: 1,
+            first: cases,
+            words,
+        }
+    } else {
+        Tally {
+            cases,
+            differ: more(tally.differ),
+            first: tally.first,
+            words: tally.words,
+        }
+    }
+}
+
+// The next case, or the end of the list. The words of each case are kept until one differs.
+fn next_case(
+    session: Session,
+    put_piece: &mut [u8; 65536],
+    put: &mut [u8; 65536],
+    wanted_piece: &mut [u8; 65536],
+    wanted: &mut [u8; 65536],
+    request: &mut [u8; 8202],
+    reply: &mut [u8; 8193],
+    buffer: &mut [u8; 8192],
+    out: &mut [u8; 16401],
+    words: &mut [u8; 4096],
+) -> Session {
+    let tally = session.tally;
+    let input = reader::seek(session.input, b'#', put_piece, put);
+    let expected = reader::seek(session.expected, b'#', wanted_piece, wanted);
+    let len = input.len;
+    if input.tag == reader::END {
+        return Session {
+            input,
+            expected,
+            tally,
+            on: false,
+        };
+    }
+    if tally.differ == 0 {
+        bytes::copy_block(words, bytes::front(put, len), 4096);
+    }
+    let ran = ended(
+        run_case(
+            input,
+            expected,
+            put_piece,
+            put,
+            wanted_piece,
+            wanted,
+            request,
+            reply,
+            buffer,
+            out,
+        ),
+        wanted_piece,
+        wanted,
+    );
+    let a = ran.input;
+    let b = ran.expected;
+    Session {
+        input: a,
+        expected: b,
+        tally: counted(tally, ran.same, len),
+        on: true,
+    }
+}
+
+// Prints the counts, and the first case that differs.
+fn print(tally: Tally, words: &[u8; 4096]) {
+    io::print_decimal(STDOUT_FILENO, tally.cases);
+    io::write_all(STDOUT_FILENO, b" cases, ");
+    io::print_decimal(STDOUT_FILENO, tally.differ);
+    io::write_all(STDOUT_FILENO, b" differ\n");
+    if 0 < tally.differ {
+        io::write_all(STDOUT_FILENO, b"the first is case ");
+        io::print_decimal(STDOUT_FILENO, tally.first);
+        io::write_all(STDOUT_FILENO, b": ");
+        io::write_all(STDOUT_FILENO, bytes::front(words, tally.words));
+        io::write_all(STDOUT_FILENO, b"\n");
+    }
+}
+
+// Replays the list that two descriptors are open on.
+fn replay(first: i32, second: i32) {
+    let mut put_piece = io::large_buffer();
+    let mut put = io::large_buffer();
+    let mut wanted_piece = io::large_buffer();
+    let mut wanted = io::large_buffer();
+    let mut request = [0u8; 8202];
+    let mut reply = [0u8; 8193];
+    let mut buffer = [0u8; 8192];
+    let mut out = [0u8; 16401];
+    let mut words = io::buffer();
+    let mut session = Session {
+        input: reader::open(first),
+        expected: reader::open(second),
+        tally: Tally {
+            cases: 0,
+            differ: 0,
+            first: 0,
+            words: 0,
+        },
+        on: true,
+    };
+    let mut turns = u64::MAX;
+    while turns > 0 && session.on {
+        session = next_case(
+            session,
+            &mut put_piece,
+            &mut put,
+            &mut wanted_piece,
+            &mut wanted,
+            &mut request,
+            &mut reply,
+            &mut buffer,
+            &mut out,
+            &mut words,
+        );
+        turns -= 1;
+    }
+    print(session.tally, &words);
+}
+
+fn main() {
+    let mut path = io::buffer();
+    let length = os::arg(1, &mut path);
+    if os::errno() != 0 {
+        os::fail(b"list");
+        return;
+    }
+    let first = os::open_read(&path[..length]);
+    let second = os::open_read(&path[..length]);
+    if first < 0 || second < 0 {
+        os::fail(&path[..length]);
+        return;
+    }
+    replay(first, second);
+    libc::close(first);
+    libc::close(second);
+}

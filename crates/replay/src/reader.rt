@@ -1,0 +1,156 @@
+// A file that is read line by line, in pieces.
+use pieces::Took;
+use protocol::bytes;
+use requests::fields;
+
+// The tags of what is no tagged line: a line that is not whole yet, the end of the file, an empty line.
+pub const PART: u8 = 0;
+
+pub const END: u8 = 1;
+
+pub const EMPTY: u8 = 2;
+
+// What is left of the piece that was read, how much of a line is held, and the length and the tag of the last line.
+pub struct Reader {
+    pub fd: i32,
+    pub at: usize,
+    pub end: usize,
+    pub have: usize,
+    // The first byte of a line that has no room, whose rest is passed over; 0 where there is none.
+    pub long: u8,
+    pub len: usize,
+    pub tag: u8,
+}
+
+// A reader between lines.
+pub fn open(fd: i32) -> Reader {
+    part(fd, 0, 0, 0, 0)
+}
+
+// A reader inside a line.
+fn part(fd: i32, at: usize, end: usize, have: usize, long: u8) -> Reader {
+    Reader {
+        fd,
+        at,
+        end,
+        have,
+        long,
+        len: 0,
+        tag: PART,
+    }
+}
+
+// A reader with a line of so many bytes.
+fn line(r: Reader, next: usize, len: usize, tag: u8) -> Reader {
+    Reader {
+        fd: r.fd,
+        at: next,
+        end: r.end,
+        have: 0,
+        long: 0,
+        len,
+        tag,
+    }
+}
+
+// A line is whole. One that had no room counts as one digit behind its tag, which is as bad.
+fn whole(r: Reader, next: usize, len: usize, first: u8) -> Reader {
+    if 0 < r.long {
+        line(r, next, 3, r.long)
+    } else if len == 0 {
+        line(r, next, 0, EMPTY)
+    } else if first < 3 {
+        line(r, next, len, b'?')
+    } else {
+        line(r, next, len, first)
+    }
+}
+
+// A line has no room: its first byte is kept, and what is held is forgotten.
+fn forget(r: Reader, first: u8) -> Reader {
+    if 0 < r.long {
+        part(r.fd, r.at, r.end, 0, r.long)
+    } else if first < 3 {
+        part(r.fd, r.at, r.end, 0, b'?')
+    } else {
+        part(r.fd, r.at, r.end, 0, first)
+    }
+}
+
+// The piece is used up, with so many bytes of a line held.
+fn more(r: Reader, have: usize) -> Reader {
+    if 0 < r.long {
+        part(r.fd, r.end, r.end, 0, r.long)
+    } else {
+        part(r.fd, r.end, r.end, have, 0)
+    }
+}
+
+// What is left of a piece, up to the end of a line.
+fn take(r: Reader, piece: &[u8], held: &mut [u8]) -> Reader {
+    match pieces::take(piece, r.at, held, r.have) {
+        Took::Line { len, next } => whole(r, next, len, fields::byte(held, 0)),
+        Took::More(have) => more(r, have),
+        Took::Long => forget(r, fields::byte(held, 0)),
+    }
+}
+
+// The next piece; at the end of the file, what is held is the last line.
+fn refill(r: Reader, piece: &mut [u8], held: &[u8]) -> Reader {
+    let got = libc::read(r.fd, piece);
+    let n = io::count(got, piece);
+    if 0 < n {
+        part(r.fd, 0, n, r.have, r.long)
+    } else if 0 < r.have {
+        whole(r, r.at, r.have, fields::byte(held, 0))
+    } else {
+        line(r, r.at, 0, END)
+    }
+}
+
+// One turn: a line of the piece, or a new piece.
+fn turn(r: Reader, piece: &mut [u8; 65536], held: &mut [u8; 65536]) -> Reader {
+    if r.at < r.end {
+        let end = r.end;
+        take(r, bytes::front(piece, end), held)
+    } else {
+        refill(r, piece, held)
+    }
+}
+
+// The next line.
+fn next(r: Reader, piece: &mut [u8; 65536], held: &mut [u8; 65536]) -> Reader {
+    let mut now = part(r.fd, r.at, r.end, 0, 0);
+    let mut turns = u64::MAX;
+    while turns > 0 && now.tag == PART {
+        now = turn(now, piece, held);
+        turns -= 1;
+    }
+    now
+}
+
+// Whether a search for a tag stops at a line: at that tag, at the end of the file and, inside a case, at its end. U counts as I.
+fn stops(tag: u8, wanted: u8) -> bool {
+    if tag == wanted {
+        true
+    } else if tag == END {
+        true
+    } else if tag == EMPTY {
+        wanted != b'#'
+    } else if tag == b'U' {
+        wanted == b'I'
+    } else {
+        false
+    }
+}
+
+// The next line with a tag, or what ends the search for it.
+pub fn seek(r: Reader, wanted: u8, piece: &mut [u8; 65536], held: &mut [u8; 65536]) -> Reader {
+    let mut now = next(r, piece, held);
+    let mut turns = u64::MAX;
+    while turns > 0 && !stops(now.tag, wanted) {
+        now = next(now, piece, held);
+        turns -= 1;
+    }
+    now
+}
