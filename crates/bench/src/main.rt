@@ -17,21 +17,20 @@ struct Session {
 }
 
 // Prints the line of a stage; whether the run goes on.
-fn print(stage: Stage, request: &[u8], buffer: &[u8]) -> bool {
-    let mut out = [0u8; 16401];
-    match bench_lines::say(stage, request, buffer, &mut out) {
-        Said::Asked(n) => io::write_all(STDOUT_FILENO, bytes::front(&out, n)),
+fn print(stage: Stage, request: &[u8], buffer: &[u8], out: &mut [u8]) -> bool {
+    match bench_lines::say(stage, request, buffer, out) {
+        Said::Asked(n) => io::write_all(STDOUT_FILENO, bytes::front(out, n)),
         Said::Last(n) => {
-            io::write_all(STDOUT_FILENO, bytes::front(&out, n));
+            io::write_all(STDOUT_FILENO, bytes::front(out, n));
             false
         }
     }
 }
 
 // The last line, where the input ends or a line is too long.
-fn close(session: Session, left: usize, request: &[u8], buffer: &[u8]) -> Session {
+fn close(session: Session, left: usize, request: &[u8], buffer: &[u8], out: &mut [u8]) -> Session {
     let run = session.run;
-    print(bench_stage::close(run, left), request, buffer);
+    print(bench_stage::close(run, left), request, buffer, out);
     Session {
         run,
         have: 0,
@@ -49,6 +48,7 @@ fn line(
     request: &mut [u8],
     reply: &mut [u8],
     buffer: &mut [u8],
+    out: &mut [u8],
 ) -> Session {
     let before = session.run;
     let stage = bench_stage::feed(before, text, request, reply, buffer);
@@ -58,7 +58,7 @@ fn line(
         have: 0,
         at: next,
         end: session.end,
-        on: print(stage, request, buffer),
+        on: print(stage, request, buffer, out),
     }
 }
 
@@ -70,6 +70,7 @@ fn take(
     request: &mut [u8],
     reply: &mut [u8],
     buffer: &mut [u8],
+    out: &mut [u8],
 ) -> Session {
     match pieces::take(piece, session.at, held, session.have) {
         Took::Line { len, next } => {
@@ -80,10 +81,11 @@ fn take(
                 request,
                 reply,
                 buffer,
+                out,
             )
         }
         Took::More(have) => more(session, have),
-        Took::Long => close(session, 1, request, buffer),
+        Took::Long => close(session, 1, request, buffer, out),
     }
 }
 
@@ -100,12 +102,18 @@ fn more(session: Session, have: usize) -> Session {
 }
 
 // The next piece.
-fn read(session: Session, piece: &mut [u8], request: &[u8], buffer: &[u8]) -> Session {
+fn read(
+    session: Session,
+    piece: &mut [u8],
+    request: &[u8],
+    buffer: &[u8],
+    out: &mut [u8],
+) -> Session {
     let run = session.run;
     let got = libc::read(STDIN_FILENO, piece);
     let n = io::count(got, piece);
     if n == 0 {
-        return close(session, session.have, request, buffer);
+        return close(session, session.have, request, buffer, out);
     }
     Session {
         run,
@@ -124,6 +132,7 @@ fn turn(
     request: &mut [u8; 8202],
     reply: &mut [u8; 8193],
     buffer: &mut [u8; 8192],
+    out: &mut [u8; 16401],
 ) -> Session {
     if session.at < session.end {
         let end = session.end;
@@ -134,9 +143,10 @@ fn turn(
             request,
             reply,
             buffer,
+            out,
         )
     } else {
-        read(session, piece, request, buffer)
+        read(session, piece, request, buffer, out)
     }
 }
 
@@ -146,6 +156,7 @@ fn main() {
     let mut request = [0u8; 8202];
     let mut reply = [0u8; 8193];
     let mut buffer = [0u8; 8192];
+    let mut out = [0u8; 16401];
     let started = bench_stage::start();
     let run = started.run;
     let mut session = Session {
@@ -164,6 +175,7 @@ fn main() {
             &mut request,
             &mut reply,
             &mut buffer,
+            &mut out,
         );
         turns -= 1;
     }

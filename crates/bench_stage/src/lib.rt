@@ -39,7 +39,7 @@ pub enum Run {
 pub enum End {
     // It does, as far as its call does.
     Open,
-    // The run was ended with this answer, and not by its call.
+    // An outcome line ended it, with 9 or 11.
     Stopped(Answer),
     // No outcomes are left.
     Cut,

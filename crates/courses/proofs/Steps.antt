@@ -1,7 +1,7 @@
 -- A step of a reading call, put together from what the call showed and what the gauge made of it.
 -- Assumes nothing.
 use Prim.Native.Nat.{ℕ}
-use mathlib.Core.Path.{_≡_, refl}
+use mathlib.Core.Path.{_≡_}
 use mathlib.Core.List.{List}
 use lib.ListN.{length, take}
 use Rattle.engine.specs.declared.bus.Transfer.{Transfer}

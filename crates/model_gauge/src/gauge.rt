@@ -4,6 +4,8 @@ use crate::frame::Form;
 use engine::bus::Outcome;
 use protocol::bytes;
 use protocol::consts::BQ_ADDR;
+use protocol::consts::DF_FIRST_ADDRESS;
+use protocol::consts::DF_SIZE_BYTES;
 use protocol::consts::LARGEST_DF_BLOCK_SIZE_BYTES;
 use protocol::consts::MAC_CMD;
 use protocol::window;
@@ -12,7 +14,7 @@ ghost use Prim.Native.Nat.{_+_, _-_, min};
 ghost use Rattle.model_gauge.specs.Gauge.{newGauge, offsetOf, stored, takes, pointed, flashAfter, actedOf, gaugeAfter, heardOf, outcomeOf, blockAt, replyOf, repliesTo, movedOf, repliedOf, readAfter, readOutcome};
 
 // The data flash has a byte for each address from 4000 to 5FFF hex.
-pub const FLASH_BYTES: usize = 8192;
+pub const FLASH_BYTES: usize = DF_SIZE_BYTES;
 
 // A whole reply: the length, two address bytes, 32 bytes of data, the PEC.
 pub const REPLY_BYTES: usize = 36;
@@ -47,10 +49,10 @@ fn onward(address: u16) -> u16
 fn offset(address: u16) -> usize
     ensures { λ r. ⌜ r ≡ offsetOf address ⌝ }
 {
-    if address < 0x4000 {
+    if address < DF_FIRST_ADDRESS {
         0
     } else {
-        address as usize - 0x4000
+        (address - DF_FIRST_ADDRESS) as usize
     }
 }
 
@@ -150,7 +152,9 @@ impl Gauge {
     pub fn new() -> Gauge
         ensures { λ r. ⌜ r ≡ newGauge ⌝ }
     {
-        Gauge { pointer: 0x4000 }
+        Gauge {
+            pointer: DF_FIRST_ADDRESS,
+        }
     }
 
     // What a frame does to the pointer: an address in the window sets it; any other frame leaves it.

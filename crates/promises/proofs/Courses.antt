@@ -6,10 +6,9 @@ use mathlib.Core.Bool.{Bool, true, false}
 use mathlib.Core.List.{List, [], _∷_, _++_}
 use native.Mathlib.Omega.{arith}
 use lib.Dec.{eqb, ltb}
-use lib.ListN.{length, take, drop, length-take, length-drop}
+use lib.ListN.{length, drop, length-take, length-drop}
 use borrow.Author.Tests.{eq-eqb, eqb-true, eqb-false}
 use Rattle.protocol.specs.Pick.{if_then_else_}
-use Rattle.protocol.specs.Bytes.{over}
 use Rattle.protocol.specs.declared.common.Config.{Config}
 use Rattle.protocol.specs.declared.error.Answer.{Answer}
 use Rattle.protocol.specs.declared.error.Answer.the-variants as answer
@@ -27,7 +26,7 @@ use Rattle.model_gauge.specs.declared.gauge.Event.the-variants as model
 use Rattle.model_gauge.specs.declared.gauge.Gauge.{Gauge}
 use Rattle.courses.specs.Pick.{case_write_read_none_, case_refused_admitted_}
 use Rattle.courses.specs.Course.{eventOf, eventsOf, soundOf, admitOf, endOf}
-use Rattle.courses.specs.WriteRun.{World as ModelWorld, Left, world, reportedOf, sentOf, sentFlash, stepOf, driveOf, endedOf, leftOf, runOf}
+use Rattle.courses.specs.WriteRun.{World as ModelWorld, Left, sentOf, sentFlash, stepOf, driveOf, endedOf, leftOf, runOf}
 use Rattle.courses.proofs.Cases.{at-write}
 use Rattle.promises.specs.Flash.{blockOf}
 use Rattle.promises.specs.Demand3 as demand
@@ -35,8 +34,8 @@ use Rattle.promises.specs.Demand3.{World, began, step, run, Accepted}
 use Rattle.promises.specs.Courses.{eventIn, eventsIn, beside, endIn, left-over, OnCourses}
 use Rattle.promises.proofs.Window.{within}
 use Rattle.promises.proofs.Frames.{takes-block, block-points}
-use Rattle.promises.proofs.Machine.{worldAt, callAt, frameOf, shows, lays, hands-out, laid-long, step-sent, step-ended}
-use Rattle.promises.proofs.Demand3.{Going, going-step, going, run-ended, run-empty, stopped}
+use Rattle.promises.proofs.Machine.{worldAt, frameOf, shows, lays, hands-out, laid-long, step-sent, step-ended}
+use Rattle.promises.proofs.Demand3.{Going, going-step, going, run-empty, stopped}
 
 -- what the gauge does to the flash is what the demand supposes
 same-flash : (e : ModelEvent) (frame flash : List ℕ) → flashAfter e frame flash ≡ demand.flashAfter (eventIn e) frame flash

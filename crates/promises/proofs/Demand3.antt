@@ -1,20 +1,19 @@
 -- Demand 3: what every event keeps, a write keeps, over every list of events; and so on over any number of goes.
 -- Assumes nothing.
-use Prim.Native.Nat.{ℕ, zero, suc, _+_, _*_, _-_, _/_, _≤_, _<_, min}
+use Prim.Native.Nat.{ℕ, zero, suc, _+_, _*_, _-_, _≤_, _<_, min}
 use mathlib.Core.Path.{_≡_, refl, sym, ap, _∙_}
 use mathlib.Core.Bool.{Bool, true, false}
 use mathlib.Core.Logic.{_⊎_, inl, inr}
 use mathlib.Core.List.{List, [], _∷_}
 use native.Mathlib.Omega.{arith}
 use native.Mathlib.Nat.{add-zero}
-use lib.Dec.{eqb, leb, ltb}
+use lib.Dec.{eqb, leb}
 use lib.Seq.{take-all}
 use lib.ListN.{length, take, drop, length-take, length-drop, replicate}
 use borrow.Author.Tests.{eqb-true, eqb-false, leb-true, leb-false, ne-eqb, eq-eqb, le-ltb}
 use Rattle.protocol.specs.Pick.{if_then_else_}
 use Rattle.protocol.specs.Bytes.{over, blocksOf}
-use Rattle.protocol.specs.Answer.{numberOf, detailOf}
-use Rattle.protocol.specs.Frame.{sealed, pairOf, macBytes}
+use Rattle.protocol.specs.Answer.{numberOf}
 use Rattle.protocol.specs.Window.{inWindow}
 use Rattle.protocol.specs.declared.common.Config.{Config}
 use Rattle.protocol.specs.declared.error.Answer.{Answer}
@@ -31,8 +30,8 @@ use Rattle.writing.specs.Frames.{isFlash, blockBytes}
 use Rattle.writing.specs.Writing.{planOf, startOf, gaveUp, retryOf, endOf, failOf}
 use Rattle.r5.specs.Plans.{flashWrite}
 use Rattle.model_gauge.specs.Gauge.{stored}
-use Rattle.promises.specs.Flash.{store, blockOf, upto, Overlaid, Stands}
-use Rattle.promises.specs.Demand3.{Cause, busError, timedOut, Event, acknowledged, failed, unheard, flashAfter, World, began, step, run, placeOf, clean, Answered, all-acked, some-acked, none-acked, Told, Promised, countOf, Goes, ended-well, went-on, started-over, Accepted, Demand3}
+use Rattle.promises.specs.Flash.{store, blockOf, upto, Overlaid}
+use Rattle.promises.specs.Demand3.{Cause, busError, timedOut, Event, acknowledged, failed, unheard, World, began, step, run, placeOf, clean, Answered, all-acked, some-acked, none-acked, Told, Promised, countOf, Goes, ended-well, went-on, started-over, Accepted, Demand3}
 use Rattle.promises.proofs.Overlay.{overlaid-long, overlaid-none, landed, overlaid-all, overlaid-rest, in-bytes, from-bytes}
 use Rattle.promises.proofs.Store.{store-nothing}
 use Rattle.promises.proofs.Window.{inside, within}

@@ -1,23 +1,20 @@
 -- The frame of a block, read back byte by byte: the frame reader finds the block's own address and its bytes, with a PEC or without.
 -- Assumes nothing.
-use Prim.Native.Nat.{ℕ, suc, _+_, _-_, _*_, _/_, _%_, _≤_, _<_, min}
+use Prim.Native.Nat.{ℕ, _+_, _-_, _*_, _/_, _%_, _≤_, _<_}
 use mathlib.Core.Path.{_≡_, refl, sym, ap, _∙_}
 use mathlib.Core.Bool.{Bool, true, false}
 use mathlib.Core.List.{List, [], _∷_, _++_, append-assoc}
 use native.Mathlib.Omega.{arith}
-use lib.Dec.{eqb}
-use lib.ListN.{length, take, drop, getD, length-append, length-take, length-drop}
+use lib.ListN.{length, take, drop, getD, length-append}
 use lib.Seq.{take-append-seam, getD-append-seam, take-length, drop-drop}
 use borrow.Author.Tests.{eq-eqb}
 use Rattle.smbus_pec.specs.Pec.{pecOf}
 use Rattle.protocol.specs.Pick.{if_then_else_}
-use Rattle.protocol.specs.Bytes.{over, storedAt}
+use Rattle.protocol.specs.Bytes.{over}
 use Rattle.protocol.specs.Frame.{sealed, pairOf, macBytes}
-use Rattle.protocol.specs.Window.{inWindow}
 use Rattle.protocol.proofs.Cases.{not-lt, yes-eq, not-eq, is-true}
 use Rattle.model_gauge.specs.Frame.{wholeOf, formOf, readFrame}
 use Rattle.model_gauge.specs.Gauge.{storedForm, stored, takesForm, takes, pointedForm, pointed}
-use Rattle.model_gauge.specs.declared.frame.Form.{Form}
 use Rattle.model_gauge.specs.declared.frame.Form.the-variants as form
 use Rattle.model_gauge.specs.declared.gauge.Gauge.{Gauge}
 use Rattle.model_gauge.proofs.Laws.{stored-whole}

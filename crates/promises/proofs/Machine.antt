@@ -1,13 +1,11 @@
 -- What one event does to a data-flash write that waits: the frame of the block that is due goes out, and the call is where its outcome leads.
 -- Assumes nothing.
 use Prim.Native.Nat.{ℕ, suc, _+_, _*_, _≤_, _<_, min}
-use mathlib.Core.Path.{_≡_, refl, sym, ap, _∙_}
+use mathlib.Core.Path.{_≡_, refl, sym, _∙_}
 use mathlib.Core.Bool.{Bool, true, false}
-use mathlib.Core.List.{List, [], _∷_, _++_}
+use mathlib.Core.List.{List}
 use native.Mathlib.Omega.{arith}
-use native.Mathlib.Numerals.{add-one}
-use lib.Dec.{eqb, ltb}
-use lib.ListN.{length, take, drop, length-append, length-take}
+use lib.ListN.{length, drop, length-append, length-take}
 use borrow.Author.Tests.{eq-eqb, lt-ltb}
 use Rattle.protocol.specs.Pick.{if_then_else_}
 use Rattle.protocol.specs.Bytes.{over, sendOf, blocksOf}
@@ -16,21 +14,17 @@ use Rattle.protocol.specs.declared.common.Config.{Config}
 use Rattle.protocol.specs.declared.error.Answer.{Answer}
 use Rattle.protocol.specs.declared.error.Answer.the-variants as answer
 use Rattle.protocol.proofs.Laws.{take-over, length-over}
-use Rattle.engine.specs.Pick.{case_waiting_ended_, case_acknowledged_error_timeout_, case_retry_spent_}
+use Rattle.engine.specs.Pick.{case_waiting_ended_, case_acknowledged_error_timeout_}
 use Rattle.engine.specs.Bus.{writeOf, phaseAfter, fitsOf}
-use Rattle.engine.specs.Budget.{moreOf}
 use Rattle.engine.specs.declared.budget.Budget.{Budget}
 use Rattle.engine.specs.declared.budget.Tally.{Tally}
-use Rattle.engine.specs.declared.bus.Outcome.{Outcome}
-use Rattle.engine.specs.declared.bus.Outcome.the-variants as outcome
 use Rattle.engine.specs.declared.bus.Phase.{Phase}
 use Rattle.engine.specs.declared.bus.Phase.the-variants as phase
 use Rattle.engine.specs.declared.bus.Transfer.the-variants as transfer
 use Rattle.writing.specs.Frames.{isPlain, countOf, blockBytes, bytesAt}
-use Rattle.writing.specs.Writing.{planOf, startOf, ownBytes, dueBytes, shownOf, workShown, nextOf, workAfter, partOf, advanceOf, failOf, settleOf, repliedOf, reportOf}
+use Rattle.writing.specs.Writing.{planOf, ownBytes, dueBytes, shownOf, workShown, nextOf, workAfter, partOf, advanceOf, failOf, settleOf, repliedOf, reportOf}
 use Rattle.writing.specs.declared.call.WriteCall.{WriteCall}
 use Rattle.writing.specs.declared.call.WriteTask.{WriteTask}
-use Rattle.writing.specs.declared.call.WriteReported.the-variants as reported
 use Rattle.r5.specs.Plans.{flashWrite}
 use Rattle.courses.specs.Pick.{case_write_read_none_}
 use Rattle.courses.specs.WriteRun.{takenOf, reportedOf}

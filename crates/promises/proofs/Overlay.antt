@@ -1,14 +1,14 @@
 -- What blocks of any length do to a flash: a block stored where it is due, an overlay said in bytes, and the rest of a payload stored over a part.
 -- Assumes nothing.
 use Prim.Native.Nat.{ℕ, suc, _+_, _*_, _-_, _≤_, _<_, min}
-use mathlib.Core.Path.{_≡_, refl, sym, ap, _∙_}
+use mathlib.Core.Path.{_≡_, refl, sym, _∙_}
 use mathlib.Core.Bool.{Bool, true, false}
 use mathlib.Core.Logic.{_⊎_, inl, inr}
 use mathlib.Core.List.{List}
 use native.Mathlib.Omega.{arith}
 use native.Mathlib.Nat.{suc-mul, zero-mul}
 use lib.Dec.{ltb}
-use lib.ListN.{length, take, drop, getD, length-take, length-drop}
+use lib.ListN.{length, take, drop, getD, length-take}
 use lib.Seq.{take-all, getD-take, ext-getD}
 use borrow.Author.Tests.{ltb-true, ltb-false}
 use Rattle.promises.specs.Flash.{store, blockOf, upto, Overlaid, Stands}

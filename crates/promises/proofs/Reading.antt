@@ -1,15 +1,15 @@
 -- A data-flash read over the model's courses: what every event keeps, and what is so of a read that ends well.
 -- Assumes nothing.
-use Prim.Native.Nat.{ℕ, zero, suc, _+_, _*_, _-_, _/_, _≤_, _<_, min}
+use Prim.Native.Nat.{ℕ, zero, suc, _+_, _*_, _-_, _≤_, _<_, min}
 use mathlib.Core.Path.{_≡_, refl, sym, ap, _∙_}
 use mathlib.Core.Bool.{Bool, true, false, false≢true}
-use mathlib.Core.List.{List, [], _∷_, _++_, append-nil}
+use mathlib.Core.List.{List, [], _∷_, append-nil}
 use native.Mathlib.Omega.{arith}
-use native.Mathlib.Nat.{zero-sub, sub-zero, suc-sub-suc, suc-mul}
-use lib.Dec.{eqb, leb, ltb}
-use lib.ListN.{length, take, drop, replicate, length-append, length-take, length-drop}
+use native.Mathlib.Nat.{zero-sub, sub-zero, suc-sub-suc}
+use lib.Dec.{eqb, leb}
+use lib.ListN.{length, take, drop, length-take, length-drop}
 use lib.Seq.{take-all, take-add, drop-drop, take-nil, length-take-le, drop-length}
-use borrow.Author.Tests.{eq-eqb, ne-eqb, eqb-true, eqb-false, le-leb, leb-true, leb-false, lt-ltb, le-ltb}
+use borrow.Author.Tests.{eq-eqb, le-leb, leb-true, leb-false, lt-ltb}
 use Rattle.protocol.specs.Pick.{if_then_else_}
 use Rattle.protocol.specs.Bytes.{over, blockIn, storedAt, blocksOf}
 use Rattle.protocol.specs.Frame.{sealed, pairOf, macBytes, laidOf, workLaid}
@@ -20,12 +20,10 @@ use Rattle.protocol.specs.declared.error.Answer.the-variants as answer
 use Rattle.protocol.specs.declared.reply.Heard.the-variants as heard
 use Rattle.protocol.proofs.Laws.{take-over, length-over, take-min, laid-more}
 use Rattle.engine.specs.Pick.{case_waiting_ended_, case_acknowledged_error_timeout_, case_retry_spent_}
-use Rattle.engine.specs.Budget.{failed, nothing, waited}
+use Rattle.engine.specs.Budget.{failed, waited}
 use Rattle.engine.specs.Bus.{writeOf, phaseAfter, fitsOf}
-use Rattle.engine.specs.Limit.{windowed, measured, admitted}
 use Rattle.engine.specs.declared.budget.Budget.{Budget}
 use Rattle.engine.specs.declared.budget.Tally.{Tally}
-use Rattle.engine.specs.declared.bus.Outcome.{Outcome}
 use Rattle.engine.specs.declared.bus.Outcome.the-variants as outcome
 use Rattle.engine.specs.declared.bus.Phase.{Phase}
 use Rattle.engine.specs.declared.bus.Phase.the-variants as phase
@@ -33,12 +31,12 @@ use Rattle.engine.specs.declared.bus.Transfer.the-variants as transfer
 use Rattle.reading.specs.Pick.{case_refused_fault_headed_block_}
 use Rattle.reading.specs.Parts.{hasHead, headBytes, blockAsk, askOf, mostOf}
 use Rattle.reading.specs.Parts as parts
-use Rattle.reading.specs.Reading.{startOf, dueAsk, shownHead, workHead, shownOf, workShown, nextOf, workAfter, headedOf, advanceOf, retryOf, endOf, failOf, heardHead, verdictOf, heardBlock, acknowledgedOf, outcomeOf, judgeOf, storedOf, reportOf, bufferAfter}
+use Rattle.reading.specs.Reading.{dueAsk, shownHead, workHead, shownOf, workShown, nextOf, workAfter, headedOf, advanceOf, retryOf, endOf, failOf, heardHead, verdictOf, heardBlock, acknowledgedOf, outcomeOf, judgeOf, storedOf, reportOf, bufferAfter}
 use Rattle.reading.specs.declared.call.ReadCall.{ReadCall}
 use Rattle.reading.specs.declared.call.ReadTask.{ReadTask}
 use Rattle.r5.specs.Plans.{flashRead}
 use Rattle.model_gauge.specs.Gauge as gauge
-use Rattle.model_gauge.specs.Gauge.{offsetOf, stored, storedForm, pointed, pointedForm, takes, takesForm, flashAfter, actedOf, gaugeAfter, repliesTo, replyOf, movedOf, repliedOf, readAfter, readOutcome}
+use Rattle.model_gauge.specs.Gauge.{offsetOf, stored, storedForm, pointed, pointedForm, takes, takesForm, flashAfter, actedOf, gaugeAfter, repliesTo, movedOf, repliedOf, readAfter, readOutcome}
 use Rattle.model_gauge.specs.declared.gauge.Event.{Event}
 use Rattle.model_gauge.specs.declared.gauge.Event.the-variants as event
 use Rattle.model_gauge.specs.declared.gauge.Gauge.{Gauge}
@@ -46,9 +44,9 @@ use Rattle.courses.specs.Pick.{case_write_read_none_}
 use Rattle.courses.specs.ReadRun.{World, world, takenOf, reportedOf, sentOf, sentBuffer, askedOf, askedBuffer, stepOf, driveOf}
 use Rattle.courses.proofs.Cases.{at-write, at-read}
 use Rattle.promises.specs.Flash.{blockOf}
-use Rattle.promises.specs.Demand3.{placeOf, Accepted}
-use Rattle.promises.specs.Reading.{flashBytes, readBegan}
-use Rattle.promises.proofs.Window.{inside, within}
+use Rattle.promises.specs.Demand3.{placeOf}
+use Rattle.promises.specs.Reading.{flashBytes}
+use Rattle.promises.proofs.Window.{inside}
 use Rattle.promises.proofs.Frames.{reads-address}
 use Rattle.promises.proofs.Replies.{cutReply, count-of, reply-good, reply-data}
 

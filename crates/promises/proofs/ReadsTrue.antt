@@ -1,13 +1,13 @@
 -- A read over the model's courses that ends well returns the flash's bytes; what was written over heard transfers is read back over heard transfers.
 -- Assumes nothing.
-use Prim.Native.Nat.{ℕ, zero, suc, _+_, _*_, _-_, _/_, _≤_, _<_, min}
+use Prim.Native.Nat.{ℕ, zero, suc, _+_, _*_, _-_, _≤_, _<_, min}
 use mathlib.Core.Path.{_≡_, refl, sym, ap, _∙_}
 use mathlib.Core.Bool.{Bool, true, false, false≢true}
-use mathlib.Core.List.{List, [], _∷_, _++_}
+use mathlib.Core.List.{List, _∷_}
 use native.Mathlib.Omega.{arith}
 use lib.Dec.{eqb, leb}
-use lib.ListN.{length, take, drop, replicate, length-take, length-drop}
-use lib.Seq.{take-all, take-append-seam, drop-append-seam, length-take-le, take-at, drop-at}
+use lib.ListN.{length, take, replicate}
+use lib.Seq.{take-all, take-append-seam, length-take-le, drop-at}
 use mathlib.Core.List.{append-assoc}
 use borrow.Author.Tests.{eq-eqb, ne-eqb, eqb-true, eqb-false, leb-false, le-ltb, lt-leb}
 use Rattle.protocol.specs.Pick.{if_then_else_}
@@ -32,19 +32,17 @@ use Rattle.model_gauge.specs.declared.gauge.Gauge.{Gauge}
 use Rattle.courses.specs.Pick.{case_refused_admitted_}
 use Rattle.courses.specs.Course.{eventOf, eventsOf, soundOf, admitOf, endOf}
 use Rattle.courses.specs.WriteRun as writing
-use Rattle.courses.specs.ReadRun.{World, Left, world, stepOf, driveOf, endedOf, leftOf, runOf}
-use Rattle.courses.specs.declared.course.End.{End}
+use Rattle.courses.specs.ReadRun.{World, Left, driveOf, endedOf, leftOf, runOf}
 use Rattle.courses.specs.declared.course.End.the-variants as end
 use Rattle.promises.specs.Flash.{store}
 use Rattle.promises.specs.Demand3 as demand
 use Rattle.promises.specs.Demand3.{acknowledged, began, run, placeOf, clean, Accepted}
 use Rattle.promises.specs.Courses.{eventsIn, beside}
 use Rattle.promises.specs.Reading.{flashBytes, readBegan, ReadsTrue}
-use Rattle.promises.proofs.Store.{store-length, store-nothing}
 use Rattle.promises.proofs.Window.{within}
 use Rattle.promises.proofs.Demand3.{stopped, unbroken}
 use Rattle.promises.proofs.Courses.{run-same}
-use Rattle.promises.proofs.Reading.{readAt, readWorld, headOf, head-long, step-head, step-read, buffer-long, head-sent, Kept, blockAfter, read-heard, block-after, Reading, reading-run, ended-stays, all-received}
+use Rattle.promises.proofs.Reading.{readWorld, headOf, head-long, step-head, step-read, buffer-long, head-sent, Kept, blockAfter, read-heard, block-after, Reading, reading-run, ended-stays, all-received}
 
 cut-not-done : end.Cut ≡ end.Answered answer.Done → ⊥
 cut-not-done e = let z : _≡_ {A = ℕ} 0 1 = cc in omega arith

@@ -1,12 +1,11 @@
 -- The gauge's reply, as the reading call hears it: of the number asked, believed with a PEC or without, and its data is the flash's.
 -- Assumes nothing.
-use Prim.Native.Nat.{ℕ, suc, _+_, _*_, _-_, _/_, _%_, _≤_, _<_, min}
+use Prim.Native.Nat.{ℕ, suc, _+_, _-_, _/_, _%_, _≤_, min}
 use mathlib.Core.Path.{_≡_, refl, sym, ap, _∙_}
 use mathlib.Core.Bool.{Bool, true, false}
-use mathlib.Core.List.{List, [], _∷_, _++_, append-nil}
+use mathlib.Core.List.{List, [], _∷_, _++_}
 use native.Mathlib.Omega.{arith}
-use lib.Dec.{eqb}
-use lib.ListN.{length, take, drop, getD, replicate, length-append, length-take, length-drop}
+use lib.ListN.{length, take, drop, getD, length-append, length-take, length-drop}
 use lib.Seq.{take-all, take-take, take-append-le, take-append-seam, getD-append-seam, length-take-le, take-at}
 use borrow.Author.Tests.{eq-eqb}
 use Rattle.smbus_pec.specs.Pec.{pecOf}
@@ -14,8 +13,7 @@ use Rattle.protocol.specs.Pick.{if_then_else_}
 use Rattle.protocol.specs.Bytes.{over}
 use Rattle.protocol.specs.Reply.{macAsk, leadOf, aroundOf, countOf, checkedOf, heardOf, dataOf}
 use Rattle.protocol.specs.declared.reply.Heard.the-variants as heard
-use Rattle.protocol.proofs.Cases.{yes-eq, not-eq, is-true}
-use Rattle.protocol.proofs.Laws.{take-min}
+use Rattle.protocol.proofs.Cases.{not-eq}
 use Rattle.reading.specs.Parts.{blockAsk}
 use Rattle.model_gauge.specs.Gauge.{offsetOf, blockAt, replyFront, replyOf}
 use Rattle.model_gauge.specs.declared.gauge.Gauge.{Gauge}

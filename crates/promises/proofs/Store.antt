@@ -1,10 +1,10 @@
 -- Stores into a flash: what is over what, and what stands where.
 -- Assumes nothing.
-use Prim.Native.Nat.{ℕ, zero, suc, _+_, _-_, _*_, _≤_, _<_, min, max}
-use mathlib.Core.Path.{_≡_, refl, sym, ap, _∙_}
+use Prim.Native.Nat.{ℕ, zero, suc, _+_, _-_, _≤_, _<_, max}
+use mathlib.Core.Path.{_≡_, sym, ap, _∙_}
 use mathlib.Core.List.{List, [], _∷_, _++_, append-assoc, append-nil}
 use native.Mathlib.Omega.{arith}
-use native.Mathlib.Nat.{zero-sub, sub-zero, suc-sub-suc, zero-min, min-zero, suc-min-suc, max-zero, zero-max, suc-max-suc, max-eq-right}
+use native.Mathlib.Nat.{zero-sub, sub-zero, suc-sub-suc, max-zero, zero-max, suc-max-suc, max-eq-right}
 use lib.ListN.{length, take, drop, getD, length-append, length-take, length-drop, List·getD-append}
 use lib.Seq.{take-at, drop-append-add, drop-drop, length-take-le, take-add, getD-append-add, getD-take, getD-drop, paste-zero, take-all, take-nil, drop-nil}
 use Rattle.promises.specs.Flash.{store}

@@ -1,6 +1,6 @@
 -- Demand 3 on the model's courses: each byte of a course is one of the events that the demand speaks of, so every run over every course keeps it.
 -- Assumes nothing.
-use Prim.Native.Nat.{ℕ, _+_, _*_, _≤_}
+use Prim.Native.Nat.{ℕ, _+_}
 use mathlib.Core.Path.{_≡_}
 use mathlib.Core.Bool.{true}
 use mathlib.Core.List.{List, [], _∷_, _++_}

@@ -1,6 +1,6 @@
 -- Beside demand 3, for the reader, on the model's courses: a read that ends well returns the flash's bytes, and what was written is read back.
 -- Assumes nothing.
-use Prim.Native.Nat.{ℕ, _+_, _*_, _≤_, _<_}
+use Prim.Native.Nat.{ℕ, _≤_, _<_}
 use mathlib.Core.Path.{_≡_}
 use mathlib.Core.Bool.{true}
 use mathlib.Core.List.{List}
