@@ -163,7 +163,7 @@ asked-line line R h =
     (decoded-line line R)
 
 -- a run from its request on
-begin-on : (q : Request) (l R Y B : List ℕ) (lines : List (List ℕ)) (rest : List ℕ) → Small q → ((at : ℕ) → take (length (drop at l)) (drop at R) ≡ drop at l)
+begin-on : (q : Request) (l R Y B : List ℕ) (lines : List (List ℕ)) (rest : List ℕ) → Small (length l) q → ((at : ℕ) → take (length (drop at l)) (drop at R) ≡ drop at l)
     → 8193 ≤ length Y → 8192 ≤ length B → onward (stage.beginBy q l (length B)) R Y (stage.fillBy q B) lines rest ≡ requestThen q l lines rest
 unfolding onward stage.beginBy stage.fillBy stage.fresh stage.beginWrite stage.beginRead stage.writeStage stage.readStage sayOf sayWrite sayRead thenSay requestThen writeRun readRun
 begin-on (request.Write kind at) l R Y B lines rest small payload y b =

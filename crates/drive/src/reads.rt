@@ -136,8 +136,8 @@ fn all_of(name: &[u8], call: ReadCall, command: u8, n: usize) {
     }
 }
 
-// The calls with this PEC setting.
-fn with(pec: bool) {
+// Registers and buffers.
+fn registers(pec: bool) {
     let work = [0u8; 39];
     let room = [0u8; 40];
     let c = config(pec);
@@ -159,6 +159,13 @@ fn with(pec: bool) {
         0x12,
         0,
     );
+}
+
+// Commands.
+fn commands(pec: bool) {
+    let work = [0u8; 39];
+    let room = [0u8; 40];
+    let c = config(pec);
     all_of(
         b"dispatch_command 443500, 2",
         interface::dispatch_command(c, 0x443500, b"", &room[..2], &work),
@@ -177,6 +184,13 @@ fn with(pec: bool) {
         0x44,
         1,
     );
+}
+
+// Keys and the override.
+fn keys(pec: bool) {
+    let work = [0u8; 39];
+    let room = [0u8; 40];
+    let c = config(pec);
     all_of(
         b"read_security_keys",
         r5::read_security_keys(c, &room[..28], &work),
@@ -195,6 +209,13 @@ fn with(pec: bool) {
         0x44,
         10,
     );
+}
+
+// Manufacturer info and data flash.
+fn infos_and_flash(pec: bool) {
+    let work = [0u8; 39];
+    let room = [0u8; 40];
+    let c = config(pec);
     all_of(
         b"read_mfg_info_c",
         r5::read_mfg_info_c(c, &room[..2], &work),
@@ -215,6 +236,14 @@ fn with(pec: bool) {
     );
 }
 
+// The calls with this PEC setting.
+fn with(pec: bool) {
+    registers(pec);
+    commands(pec);
+    keys(pec);
+    infos_and_flash(pec);
+}
+
 // A call that is refused, or done, at its start.
 fn refused(name: &[u8], call: ReadCall) {
     say::words(name);
@@ -223,11 +252,10 @@ fn refused(name: &[u8], call: ReadCall) {
     say::words(b"\n");
 }
 
-// The refusals of a start, on each side of a limit.
-fn starts() {
+// Registers and buffers at their limits.
+fn register_starts() {
     let work = [0u8; 39];
     let s = [0u8; 40];
-    let t = [0u8; 33];
     let c = config(true);
     refused(
         b"read_register 32",
@@ -242,6 +270,14 @@ fn starts() {
         interface::read_register(c, 1, &s[..33], &work[..38]),
     );
     refused(b"read_buffer 40", interface::read_buffer(c, 1, &s, &work));
+}
+
+// Commands with too much, or with input.
+fn command_starts() {
+    let work = [0u8; 39];
+    let s = [0u8; 40];
+    let t = [0u8; 33];
+    let c = config(true);
     refused(
         b"dispatch_command input 33",
         interface::dispatch_command(c, 1, &t, &s[..1], &work),
@@ -258,6 +294,13 @@ fn starts() {
         b"dispatch_command input 1, output 33",
         interface::dispatch_command(c, 1, b"!", &s[..33], &work),
     );
+}
+
+// Keys of other lengths, and info C.
+fn key_starts() {
+    let work = [0u8; 39];
+    let s = [0u8; 40];
+    let c = config(true);
     refused(
         b"read_security_keys 29",
         r5::read_security_keys(c, &s[..29], &work),
@@ -274,6 +317,13 @@ fn starts() {
         b"read_mfg_info_c 32",
         r5::read_mfg_info_c(c, &s[..32], &work),
     );
+}
+
+// Manufacturer info, and the window.
+fn info_starts() {
+    let work = [0u8; 39];
+    let s = [0u8; 40];
+    let c = config(true);
     refused(
         b"read_mfg_info_c 33",
         r5::read_mfg_info_c(c, &s[..33], &work),
@@ -284,6 +334,13 @@ fn starts() {
         b"read_dataflash 3FFF 1",
         r5::read_dataflash(c, 0x3FFF, &s[..1], &work),
     );
+}
+
+// The window.
+fn flash_starts() {
+    let work = [0u8; 39];
+    let s = [0u8; 40];
+    let c = config(true);
     refused(
         b"read_dataflash 5FFF 1",
         r5::read_dataflash(c, 0x5FFF, &s[..1], &work),
@@ -296,6 +353,15 @@ fn starts() {
         b"read_dataflash FFFF 0",
         r5::read_dataflash(c, 0xFFFF, b"", &work),
     );
+}
+
+// The refusals of a start, on each side of a limit.
+fn starts() {
+    register_starts();
+    command_starts();
+    key_starts();
+    info_starts();
+    flash_starts();
 }
 
 // Everything.

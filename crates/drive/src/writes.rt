@@ -80,13 +80,11 @@ fn all_of(name: &[u8], call: WriteCall, payload: &[u8]) {
     run(call, payload, &mut work, b"rsa");
 }
 
-// The calls with this PEC setting.
-fn with(pec: bool) {
+// Plain, register and buffer writes.
+fn plain(pec: bool) {
     let work = [0u8; 39];
     let two = b"\xAA\xBB";
     let c = config(pec);
-    let long = [0xCCu8; 33];
-    let keys = [0xDDu8; 28];
     all_of(
         b"write_with_retries",
         interface::write_with_retries(c, two, &work),
@@ -102,6 +100,14 @@ fn with(pec: bool) {
         interface::write_buffer(c, 0x23, two, &work),
         two,
     );
+}
+
+// The unchecked write, and keys.
+fn unchecked_and_keys(pec: bool) {
+    let work = [0u8; 39];
+    let two = b"\xAA\xBB";
+    let c = config(pec);
+    let keys = [0xDDu8; 28];
     all_of(
         b"write_register_unchecked",
         r5::write_register_unchecked(c, 0x12, two, &work),
@@ -117,6 +123,13 @@ fn with(pec: bool) {
         r5::write_authentication_key(c, &keys[..16], &work),
         &keys[..16],
     );
+}
+
+// The override, and access keys.
+fn keys_and_access(pec: bool) {
+    let work = [0u8; 39];
+    let c = config(pec);
+    let keys = [0xDDu8; 28];
     all_of(
         b"write_charging_voltage_override",
         r5::write_charging_voltage_override(c, &keys[..10], &work),
@@ -128,6 +141,14 @@ fn with(pec: bool) {
         b"",
     );
     all_of(b"unseal_fg", r5::unseal_fg(c, 0x1234, 0x5678, &work), b"");
+}
+
+// Manufacturer info, and data flash.
+fn infos_and_flash(pec: bool) {
+    let work = [0u8; 39];
+    let two = b"\xAA\xBB";
+    let c = config(pec);
+    let long = [0xCCu8; 33];
     all_of(
         b"write_mfg_info_c",
         r5::write_mfg_info_c(c, 0x1234, 0x5678, two, &work),
@@ -141,6 +162,14 @@ fn with(pec: bool) {
     );
 }
 
+// The calls with this PEC setting.
+fn with(pec: bool) {
+    plain(pec);
+    unchecked_and_keys(pec);
+    keys_and_access(pec);
+    infos_and_flash(pec);
+}
+
 // A call that is refused, or done, at its start.
 fn refused(name: &[u8], call: WriteCall) {
     say::words(name);
@@ -149,8 +178,8 @@ fn refused(name: &[u8], call: WriteCall) {
     say::words(b"\n");
 }
 
-// The refusals of a start, on each side of a limit.
-fn starts() {
+// Plain and register writes at their limits.
+fn plain_starts() {
     let work = [0u8; 39];
     let s = [0u8; 40];
     let c = config(true);
@@ -171,6 +200,13 @@ fn starts() {
         b"write_register 32",
         interface::write_register(c, 1, &s[..32], &work),
     );
+}
+
+// A short work buffer, buffer writes and the unchecked write.
+fn buffer_starts() {
+    let work = [0u8; 39];
+    let s = [0u8; 40];
+    let c = config(true);
     refused(
         b"write_register 33",
         interface::write_register(c, 1, &s[..33], &work),
@@ -187,6 +223,13 @@ fn starts() {
         b"write_buffer 34",
         interface::write_buffer(c, 1, &s[..34], &work),
     );
+}
+
+// Keys of other lengths.
+fn key_starts() {
+    let work = [0u8; 39];
+    let s = [0u8; 40];
+    let c = config(true);
     refused(
         b"write_register_unchecked 33",
         r5::write_register_unchecked(c, 1, &s[..33], &work),
@@ -203,6 +246,13 @@ fn starts() {
         b"write_charging_voltage_override 9",
         r5::write_charging_voltage_override(c, &s[..9], &work),
     );
+}
+
+// Manufacturer info at its limits, and the window.
+fn info_starts() {
+    let work = [0u8; 39];
+    let s = [0u8; 40];
+    let c = config(true);
     refused(
         b"send_access_key, work 38",
         r5::send_access_key(c, 1, 2, &work[..38]),
@@ -216,6 +266,13 @@ fn starts() {
         b"write_dataflash 3FFF 1",
         r5::write_dataflash(c, 0x3FFF, &s[..1], &work),
     );
+}
+
+// The window.
+fn flash_starts() {
+    let work = [0u8; 39];
+    let s = [0u8; 40];
+    let c = config(true);
     refused(
         b"write_dataflash 5FFF 1",
         r5::write_dataflash(c, 0x5FFF, &s[..1], &work),
@@ -232,6 +289,15 @@ fn starts() {
         b"write_dataflash FFFF 2",
         r5::write_dataflash(c, 0xFFFF, &s[..2], &work),
     );
+}
+
+// The refusals of a start, on each side of a limit.
+fn starts() {
+    plain_starts();
+    buffer_starts();
+    key_starts();
+    info_starts();
+    flash_starts();
 }
 
 // Everything.
