@@ -145,7 +145,12 @@ fn stops(tag: u8, wanted: u8) -> bool {
 }
 
 // The next line with a tag, or what ends the search for it.
-pub(crate) fn seek(r: Reader, wanted: u8, piece: &mut [u8; 65536], held: &mut [u8; 65536]) -> Reader {
+pub(crate) fn seek(
+    r: Reader,
+    wanted: u8,
+    piece: &mut [u8; 65536],
+    held: &mut [u8; 65536],
+) -> Reader {
     let mut now = next(r, piece, held);
     let mut turns = u64::MAX;
     while turns > 0 && !stops(now.tag, wanted) {
