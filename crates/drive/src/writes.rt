@@ -1,5 +1,4 @@
 // The writing calls.
-use crate::say;
 use engine::bus::Outcome;
 use engine::bus::Transfer;
 use protocol::common::Config;
@@ -15,22 +14,13 @@ fn config(pec: bool) -> Config {
     }
 }
 
-// The outcome that a digit of a script stands for: e is bus error 5, t a timeout, all others are acknowledged.
-pub(crate) fn outcome(mark: u8) -> Outcome {
-    match mark {
-        b'e' => Outcome::BusError(5),
-        b't' => Outcome::Timeout,
-        _ => Outcome::Acknowledged,
-    }
-}
-
 // Shows the transfer that is due.
 fn show(call: WriteCall, payload: &[u8], work: &mut [u8]) {
     match call.next(payload, work) {
-        Transfer::Write(n) => say::write(call.to_send(payload, work, n)),
-        Transfer::Read(command, count) => say::read(command, count),
-        Transfer::Refused(a) => say::refusal(a),
-        Transfer::Ended(_) => say::words(b" -"),
+        Transfer::Write(n) => saying::write(call.to_send(payload, work, n)),
+        Transfer::Read(command, count) => saying::read(command, count),
+        Transfer::Refused(a) => saying::refusal(a),
+        Transfer::Ended(_) => saying::words(b" -"),
     }
 }
 
@@ -39,7 +29,7 @@ fn report(call: WriteCall, mark: u8, payload: &[u8], work: &[u8]) -> WriteReport
     match mark {
         b'r' => call.report(Outcome::Acknowledged, b"!", payload, work),
         b's' => call.report(Outcome::Acknowledged, b"", payload, b"short"),
-        _ => call.report(outcome(mark), b"", payload, work),
+        _ => call.report(saying::outcome(mark), b"", payload, work),
     }
 }
 
@@ -48,7 +38,7 @@ fn step(call: WriteCall, mark: u8, payload: &[u8], work: &mut [u8]) -> WriteCall
     show(call, payload, work);
     match report(call, mark, payload, work) {
         WriteReported::Refused(a, same) => {
-            say::refusal(a);
+            saying::refusal(a);
             same
         }
         WriteReported::Taken(next) => next,
@@ -58,20 +48,20 @@ fn step(call: WriteCall, mark: u8, payload: &[u8], work: &mut [u8]) -> WriteCall
 // A call over a script, on a line.
 fn run(start: WriteCall, payload: &[u8], work: &mut [u8], script: &[u8]) {
     let mut call = start;
-    say::words(script);
+    saying::words(script);
     for i in 0..script.len() {
         call = step(call, script[i], payload, work);
     }
     let phase = call.phase;
-    say::end(phase, call.tally.waits);
-    say::words(b"\n");
+    saying::end(phase, call.tally.waits);
+    saying::words(b"\n");
 }
 
 // A call through success, retries, both failures and the refusals of a step.
 fn all_of(name: &[u8], call: WriteCall, payload: &[u8]) {
     let mut work = [0u8; 39];
-    say::words(name);
-    say::words(b"\n");
+    saying::words(name);
+    saying::words(b"\n");
     run(call, payload, &mut work, b"");
     run(call, payload, &mut work, b"aaa");
     run(call, payload, &mut work, b"eataea");
@@ -172,10 +162,10 @@ fn with(pec: bool) {
 
 // A call that is refused, or done, at its start.
 fn refused(name: &[u8], call: WriteCall) {
-    say::words(name);
+    saying::words(name);
     let phase = call.phase;
-    say::end(phase, call.tally.waits);
-    say::words(b"\n");
+    saying::end(phase, call.tally.waits);
+    saying::words(b"\n");
 }
 
 // Plain and register writes at their limits.

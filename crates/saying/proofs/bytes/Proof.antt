@@ -1,23 +1,26 @@
--- `drive::reads::clear` meets its contract: the index stays below the length, which no store changes.
+-- `saying::bytes` meets its contract: the index stays below the length.
 -- Assumes nothing.
 use Prim.Native.Nat.{_-_, _≤_}
 use mathlib.Core.Path.{_≡_}
 use lib.ListN.{length}
 use borrow.Author.Needs.{needs}
-use Rattle.drive.proofs.reads.clear.Statement.{statement}
-use Rattle.drive.proofs.reads.clear.Tie as tie
+use Rattle.saying.proofs.bytes.Statement.{statement}
+use Rattle.saying.proofs.bytes.Tie as tie
 
 abbrev Inv-loop : tie.InvT-loop
-Inv-loop buffer₀ i₀ i-end buffer i = (i ≤ i-end) × ((i-end ≡ length buffer₀) × (length buffer ≡ length buffer₀))
+Inv-loop s i₀ i-end i = (i ≤ i-end) × (i-end ≡ length s)
 
 abbrev μ-loop : tie.MeasureT-loop
-μ-loop buffer₀ i₀ i-end buffer i = i-end - i
+μ-loop s i₀ i-end i = i-end - i
 
 loop-holds : tie.Need-loop-holds Inv-loop μ-loop
 loop-holds c = search needs
 
-slice-write-buffer : tie.Need-slice-write-buffer Inv-loop μ-loop
-slice-write-buffer c = search needs
+shared-slice-read-byte : tie.Need-shared-slice-read-byte Inv-loop μ-loop
+shared-slice-read-byte c = search needs
+
+byte-requires : tie.Need-byte-requires Inv-loop μ-loop
+byte-requires c κs = search needs
 
 add-i : tie.Need-add-i Inv-loop μ-loop
 add-i c = search needs
@@ -28,22 +31,19 @@ loop-less c = search needs
 loop-again : tie.Need-loop-again Inv-loop μ-loop
 loop-again c = search needs
 
-same-length : tie.Need-same-length Inv-loop μ-loop
-same-length c = search needs
-
 returns : tie.Need-returns Inv-loop μ-loop
 returns c = search needs
 
-pub clear-spec : {M : Type 1} → statement M
-clear-spec =
+pub bytes-spec : {M : Type 1} → statement M
+bytes-spec =
     tie.close
     (tie.spec
     Inv-loop
     μ-loop
     loop-holds
-    slice-write-buffer
+    shared-slice-read-byte
+    byte-requires
     add-i
     loop-less
     loop-again
-    same-length
     returns)
