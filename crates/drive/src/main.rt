@@ -1,7 +1,12 @@
-// Drives each of the writing calls by hand: through success, retries, each failure and each refusal. A line has the transfers in order, then the
+// Drives each of the 21 calls by hand: through success, retries, each failure and each refusal. A line has the transfers in order, then the
 // answer's number, its detail and the waits; a report that is refused is shown as its number in brackets.
+mod figures;
+mod reads;
+mod say;
 mod writes;
 
 fn main() {
     writes::all();
+    reads::all();
+    figures::all();
 }

@@ -1,4 +1,5 @@
 // The writing calls.
+use crate::say;
 use engine::bus::Outcome;
 use engine::bus::Transfer;
 use protocol::common::Config;
@@ -14,13 +15,22 @@ fn config(pec: bool) -> Config {
     }
 }
 
+// The outcome that a digit of a script stands for: e is bus error 5, t a timeout, all others are acknowledged.
+pub(crate) fn outcome(mark: u8) -> Outcome {
+    match mark {
+        b'e' => Outcome::BusError(5),
+        b't' => Outcome::Timeout,
+        _ => Outcome::Acknowledged,
+    }
+}
+
 // Shows the transfer that is due.
 fn show(call: WriteCall, payload: &[u8], work: &mut [u8]) {
     match call.next(payload, work) {
-        Transfer::Write(n) => saying::write(call.to_send(payload, work, n)),
-        Transfer::Read(command, count) => saying::read(command, count),
-        Transfer::Refused(a) => saying::refusal(a),
-        Transfer::Ended(_) => saying::words(b" -"),
+        Transfer::Write(n) => say::write(call.to_send(payload, work, n)),
+        Transfer::Read(command, count) => say::read(command, count),
+        Transfer::Refused(a) => say::refusal(a),
+        Transfer::Ended(_) => say::words(b" -"),
     }
 }
 
@@ -29,7 +39,7 @@ fn report(call: WriteCall, mark: u8, payload: &[u8], work: &[u8]) -> WriteReport
     match mark {
         b'r' => call.report(Outcome::Acknowledged, b"!", payload, work),
         b's' => call.report(Outcome::Acknowledged, b"", payload, b"short"),
-        _ => call.report(saying::outcome(mark), b"", payload, work),
+        _ => call.report(outcome(mark), b"", payload, work),
     }
 }
 
@@ -38,7 +48,7 @@ fn step(call: WriteCall, mark: u8, payload: &[u8], work: &mut [u8]) -> WriteCall
     show(call, payload, work);
     match report(call, mark, payload, work) {
         WriteReported::Refused(a, same) => {
-            saying::refusal(a);
+            say::refusal(a);
             same
         }
         WriteReported::Taken(next) => next,
@@ -48,20 +58,20 @@ fn step(call: WriteCall, mark: u8, payload: &[u8], work: &mut [u8]) -> WriteCall
 // A call over a script, on a line.
 fn run(start: WriteCall, payload: &[u8], work: &mut [u8], script: &[u8]) {
     let mut call = start;
-    saying::words(script);
+    say::words(script);
     for i in 0..script.len() {
         call = step(call, script[i], payload, work);
     }
     let phase = call.phase;
-    saying::end(phase, call.tally.waits);
-    saying::words(b"\n");
+    say::end(phase, call.tally.waits);
+    say::words(b"\n");
 }
 
 // A call through success, retries, both failures and the refusals of a step.
 fn all_of(name: &[u8], call: WriteCall, payload: &[u8]) {
     let mut work = [0u8; 39];
-    saying::words(name);
-    saying::words(b"\n");
+    say::words(name);
+    say::words(b"\n");
     run(call, payload, &mut work, b"");
     run(call, payload, &mut work, b"aaa");
     run(call, payload, &mut work, b"eataea");
@@ -162,10 +172,10 @@ fn with(pec: bool) {
 
 // A call that is refused, or done, at its start.
 fn refused(name: &[u8], call: WriteCall) {
-    saying::words(name);
+    say::words(name);
     let phase = call.phase;
-    saying::end(phase, call.tally.waits);
-    saying::words(b"\n");
+    say::end(phase, call.tally.waits);
+    say::words(b"\n");
 }
 
 // Plain and register writes at their limits.

@@ -1,10 +1,10 @@
--- `drive_reads::reads::scripts` meets its contract: every part is within what it is of.
+-- `drive::reads::scripts` meets its contract: every part is within what it is of.
 -- Assumes nothing.
 use Prim.Native.Nat.{_-_}
 use mathlib.Core.Path.{_∙_}
 use borrow.Author.Needs.{needs}
-use Rattle.drive_reads.proofs.reads.scripts.Statement.{statement}
-use Rattle.drive_reads.proofs.reads.scripts.Tie as tie
+use Rattle.drive.proofs.reads.scripts.Statement.{statement}
+use Rattle.drive.proofs.reads.scripts.Tie as tie
 
 slice-aggregate-run : tie.Need-slice-aggregate-run
 slice-aggregate-run c = search needs

@@ -1,31 +1,32 @@
 // The figures of the charging voltage override.
+use crate::say;
 use protocol::voltage::ChargingVoltageOverride;
 
 // A figure, of those that are looked at.
 fn figure(millivolts: i16) {
     if millivolts == -1 {
-        saying::words(b" -1");
+        say::words(b" -1");
     } else if millivolts == -32768 {
-        saying::words(b" -32768");
+        say::words(b" -32768");
     } else if millivolts == 32767 {
-        saying::words(b" 32767");
+        say::words(b" 32767");
     } else if millivolts == 256 {
-        saying::words(b" 256");
+        say::words(b" 256");
     } else {
-        saying::words(b" other");
+        say::words(b" other");
     }
 }
 
 // Ten bytes, their five figures, and the bytes of those.
 pub(crate) fn all() {
     let v = ChargingVoltageOverride::from_bytes(b"\xFF\xFF\x00\x80\xFF\x7F\x00\x01\x01\x00");
-    saying::words(b"ffff0080ff7f00010100 :");
+    say::words(b"ffff0080ff7f00010100 :");
     figure(v.low_temp_chrg_mv);
     figure(v.std_low_temp_chrg_mv);
     figure(v.std_hi_temp_chrg_mv);
     figure(v.hi_temp_chrg_mv);
     figure(v.recommended_temp_chrg_mv);
     let back = v.to_bytes();
-    saying::write(&back);
-    saying::words(b"\n");
+    say::write(&back);
+    say::words(b"\n");
 }

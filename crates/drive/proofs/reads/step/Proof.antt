@@ -1,9 +1,9 @@
--- `drive_reads::reads::step` meets its contract: every part is within what it is of.
+-- `drive::reads::step` meets its contract: every part is within what it is of.
 -- Assumes nothing.
 use Prim.Native.Nat.{_-_}
 use borrow.Author.Needs.{needs}
-use Rattle.drive_reads.proofs.reads.step.Statement.{statement}
-use Rattle.drive_reads.proofs.reads.step.Tie as tie
+use Rattle.drive.proofs.reads.step.Statement.{statement}
+use Rattle.drive.proofs.reads.step.Tie as tie
 
 show-requires : tie.Need-show-requires
 show-requires c κs = search needs

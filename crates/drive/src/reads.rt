@@ -1,4 +1,6 @@
 // The reading calls.
+use crate::say;
+use crate::writes;
 use engine::bus::Outcome;
 use engine::bus::Transfer;
 use protocol::bytes;
@@ -40,19 +42,19 @@ fn fill(reply: &mut [u8], n: usize, command: u8) {
 fn show(call: ReadCall, buffer: &[u8], work: &mut [u8]) -> usize {
     match call.next(buffer, work) {
         Transfer::Write(n) => {
-            saying::write(call.to_send(work, n));
+            say::write(call.to_send(work, n));
             0
         }
         Transfer::Read(command, count) => {
-            saying::read(command, count);
+            say::read(command, count);
             count
         }
         Transfer::Refused(a) => {
-            saying::refusal(a);
+            say::refusal(a);
             0
         }
         Transfer::Ended(_) => {
-            saying::words(b" -");
+            say::words(b" -");
             0
         }
     }
@@ -68,7 +70,7 @@ fn report(call: ReadCall, mark: u8, reply: &[u8], buffer: &mut [u8], work: &[u8]
             work,
         ),
         b's' => call.report(Outcome::Acknowledged, reply, buffer, b"short"),
-        _ => call.report(saying::outcome(mark), reply, buffer, work),
+        _ => call.report(writes::outcome(mark), reply, buffer, work),
     }
 }
 
@@ -84,7 +86,7 @@ fn step(call: ReadCall, mark: u8, command: u8, buffer: &mut [u8], work: &mut [u8
     fill(&mut reply, count, covered(mark, command));
     match report(call, mark, bytes::front(&reply, count), buffer, work) {
         ReadReported::Refused(a, same) => {
-            saying::refusal(a);
+            say::refusal(a);
             same
         }
         ReadReported::Taken(next) => next,
@@ -102,14 +104,14 @@ fn clear(buffer: &mut [u8]) {
 fn run(start: ReadCall, command: u8, buffer: &mut [u8], work: &mut [u8], script: &[u8]) {
     let mut call = start;
     clear(buffer);
-    saying::words(script);
+    say::words(script);
     for i in 0..script.len() {
         call = step(call, script[i], command, buffer, work);
     }
     let phase = call.phase;
-    saying::end(phase, call.tally.waits);
-    saying::write(buffer);
-    saying::words(b"\n");
+    say::end(phase, call.tally.waits);
+    say::write(buffer);
+    say::words(b"\n");
 }
 
 // A call through success, retries, each failure and the refusals of a step, with this buffer.
@@ -127,8 +129,8 @@ fn scripts(call: ReadCall, command: u8, buffer: &mut [u8]) {
 // A call by name with a buffer of n bytes.
 fn all_of(name: &[u8], call: ReadCall, command: u8, n: usize) {
     let mut room = [0u8; 64];
-    saying::words(name);
-    saying::words(b"\n");
+    say::words(name);
+    say::words(b"\n");
     if n <= 64 {
         scripts(call, command, &mut room[..n]);
     }
@@ -244,10 +246,10 @@ fn with(pec: bool) {
 
 // A call that is refused, or done, at its start.
 fn refused(name: &[u8], call: ReadCall) {
-    saying::words(name);
+    say::words(name);
     let phase = call.phase;
-    saying::end(phase, call.tally.waits);
-    saying::words(b"\n");
+    say::end(phase, call.tally.waits);
+    say::words(b"\n");
 }
 
 // Registers and buffers at their limits.

@@ -1,12 +1,12 @@
--- `drive_reads::reads::run` meets its contract: the index stays below the length.
+-- `drive::reads::run` meets its contract: the index stays below the length.
 -- Assumes nothing.
 use Prim.Native.Nat.{_-_, _≤_}
 use mathlib.Core.Path.{_≡_}
 use lib.ListN.{length}
 use native.Mathlib.Omega.{arith}
 use borrow.Author.Needs.{needs}
-use Rattle.drive_reads.proofs.reads.run.Statement.{statement}
-use Rattle.drive_reads.proofs.reads.run.Tie as tie
+use Rattle.drive.proofs.reads.run.Statement.{statement}
+use Rattle.drive.proofs.reads.run.Tie as tie
 
 abbrev Inv-loop : tie.InvT-loop
 Inv-loop command buffer₀ work₀ script call₀ i₀ t9 i-end buffer work call i = (i ≤ i-end) × ((i-end ≡ length script) × ((length work ≡ length work₀) × (length buffer ≡ length buffer₀)))

@@ -1,11 +1,10 @@
-// What the driving programs print. No contract can say what is written, so these are proved safe and no more.
-use engine::bus::Outcome;
+// What is printed.
 use engine::bus::Phase;
 use libc::STDOUT_FILENO;
 use protocol::error::Answer;
 
 // Words as they stand.
-pub fn words(s: &[u8]) {
+pub(crate) fn words(s: &[u8]) {
     io::write_all(STDOUT_FILENO, s);
 }
 
@@ -15,20 +14,20 @@ fn byte(b: u8) {
 }
 
 // Bytes as digits.
-pub fn bytes(s: &[u8]) {
+pub(crate) fn bytes(s: &[u8]) {
     for i in 0..s.len() {
         byte(s[i]);
     }
 }
 
 // A write, or the frame of it.
-pub fn write(frame: &[u8]) {
+pub(crate) fn write(frame: &[u8]) {
     words(b" ");
     bytes(frame);
 }
 
 // A read: its command and the number of bytes asked.
-pub fn read(command: u8, count: usize) {
+pub(crate) fn read(command: u8, count: usize) {
     words(b" ");
     byte(command);
     words(b"?");
@@ -36,14 +35,14 @@ pub fn read(command: u8, count: usize) {
 }
 
 // A refusal of a step.
-pub fn refusal(a: Answer) {
+pub(crate) fn refusal(a: Answer) {
     words(b" (");
     io::print_decimal(STDOUT_FILENO, a.number() as u64);
     words(b")");
 }
 
 // How a call stands: its answer with the detail, or that it waits; and its waits.
-pub fn end(phase: Phase, waits: u32) {
+pub(crate) fn end(phase: Phase, waits: u32) {
     match phase {
         Phase::Waiting => words(b" : waits"),
         Phase::Ended(a) => {
@@ -55,13 +54,4 @@ pub fn end(phase: Phase, waits: u32) {
     }
     words(b" ");
     io::print_decimal(STDOUT_FILENO, waits as u64);
-}
-
-// The outcome that a digit of a script stands for: e is bus error 5, t a timeout, all others are acknowledged.
-pub fn outcome(mark: u8) -> Outcome {
-    match mark {
-        b'e' => Outcome::BusError(5),
-        b't' => Outcome::Timeout,
-        _ => Outcome::Acknowledged,
-    }
 }

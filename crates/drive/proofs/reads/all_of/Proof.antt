@@ -1,11 +1,11 @@
--- `drive_reads::reads::all_of` meets its contract: every part is within what it is of.
+-- `drive::reads::all_of` meets its contract: every part is within what it is of.
 -- Assumes nothing.
 use Prim.Native.Nat.{_-_}
 use mathlib.Core.Path.{sym}
 use borrow.Author.Needs.{needs}
 use lib.Seq.{length-take-le}
-use Rattle.drive_reads.proofs.reads.all_of.Statement.{statement}
-use Rattle.drive_reads.proofs.reads.all_of.Tie as tie
+use Rattle.drive.proofs.reads.all_of.Statement.{statement}
+use Rattle.drive.proofs.reads.all_of.Tie as tie
 
 words-requires : tie.Need-words-requires
 words-requires c κs = search needs
