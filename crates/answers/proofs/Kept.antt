@@ -171,9 +171,10 @@ Front count start call buffer =
     (call .phase ≡ phase.Ended answer.Done)
     ⊎ ((drop (call .received * 32) buffer ≡ drop (call .received * 32) start) × ((call .received ≡ 0) ⊎ (call .received < count)))
 
-record Sound (count : ℕ) (start : List ℕ) (r : Reader) : Type 0 where
+pub record Sound (count : ℕ) (start : List ℕ) (r : Reader) : Type 0 where
   counts : parts.countOf (r .call .task .plan .reads) (r .call .task .lent .length) ≡ count
-  due : r .call .phase ≡ phase.Waiting → r .call .heading ≡ false → r .call .received < count
+  pub due : r .call .phase ≡ phase.Waiting → r .call .heading ≡ false → r .call .received < count
+  pub more : r .call .phase ≡ phase.Waiting → 0 < count → r .call .received < count
   bare : r .call .phase ≡ phase.Waiting → parts.hasHead (r .call .task .plan .head) ≡ false → r .call .received < count
   some : r .call .received ≤ 256
   waits : r .call .tally .waits + r .call .budget .left ≤ 65535
@@ -234,6 +235,7 @@ module _ (count : ℕ) (start : List ℕ) (few : count ≤ 256) where
   keeps call after buffer left (opens e) s = record {
     counts = s .counts;
     due = λ w h. rw (s .counts) at (not-done _ _ w);
+    more = λ w h. rw (s .counts) at (not-done _ _ w);
     bare = λ w h. rw (s .counts) at (not-done _ _ w);
     some = s .some;
     waits = s .waits;
@@ -244,6 +246,7 @@ module _ (count : ℕ) (start : List ℕ) (few : count ≤ 256) where
       let below = s .due e h in record {
         counts = s .counts;
         due = λ w x. rw (s .counts) at (not-done _ _ w);
+        more = λ w x. rw (s .counts) at (not-done _ _ w);
         bare = λ w x. rw (s .counts) at (not-done _ _ w);
         some = omega (arith, s .some);
         waits = s .waits;
@@ -253,6 +256,7 @@ module _ (count : ℕ) (start : List ℕ) (few : count ≤ 256) where
   keeps call after buffer left (again budget e less) s = record {
     counts = s .counts;
     due = λ w h. s .bare e h;
+    more = λ w h. s .more e h;
     bare = λ w h. s .bare e h;
     some = s .some;
     waits = omega (arith, s .waits);
@@ -262,6 +266,7 @@ module _ (count : ℕ) (start : List ℕ) (few : count ≤ 256) where
   keeps call after buffer left (ends why e) s = record {
     counts = s .counts;
     due = λ w h. s .due e h;
+    more = λ w h. s .more e h;
     bare = λ w h. s .bare e h;
     some = s .some;
     waits = s .waits;
@@ -277,16 +282,17 @@ module _ (count : ℕ) (start : List ℕ) (few : count ≤ 256) where
 
 module _ (plan : ReadPlan) (w : ℕ) (buffer : List ℕ) (r : plan .retries ≤ 65535) (bare : parts.hasHead (plan .head) ≡ false → 0 < parts.countOf (plan .reads) (length buffer))
     (few : parts.countOf (plan .reads) (length buffer) ≤ 256) (es : List ReadReport) where
-  abbrev after : Reader
+  abbrev pub after : Reader
   after = feedR (record { call = startOf plan (length buffer) w; buffer = buffer }) es
 
-  sound : Sound (parts.countOf (plan .reads) (length buffer)) buffer after
+  pub sound : Sound (parts.countOf (plan .reads) (length buffer)) buffer after
   unfolding startOf nothing
   sound =
       fed (parts.countOf (plan .reads) (length buffer)) buffer few es (record { call = startOf plan (length buffer) w; buffer = buffer })
       (record {
         counts = refl;
         due = λ e h. bare h;
+        more = λ e h. h;
         bare = λ e h. bare h;
         some = omega arith;
         waits = omega arith;
@@ -315,3 +321,26 @@ module _ (plan : ReadPlan) (w : ℕ) (buffer : List ℕ) (r : plan .retries ≤ 
       by (inl d) = absurd (undone d)
       by (inr (same, inl none)) = rw none at same
       by (inr (same, inr less)) = let none : after .call .received ≡ 0 = omega arith in rw none at same
+
+-- no report changes what a call was started for
+step-task : (call after : ReadCall) (buffer left : List ℕ) → Step call buffer after left → after .task ≡ call .task
+unfolding headedOf advanceOf retryOf endOf
+step-task call after buffer left stays = refl
+step-task call after buffer left (opens e) = refl
+step-task call after buffer left (goes-on bytes e h) = refl
+step-task call after buffer left (again budget e less) = refl
+step-task call after buffer left (ends why e) = refl
+
+pub same-task : (es : List ReadReport) (r : Reader) → feedR r es .call .task ≡ r .call .task
+unfolding feedR
+same-task [] r = refl
+same-task (e ∷ es) r =
+    same-task es (reportedR r e)
+    ∙ step-task (r .call) (reportedR r e .call) (r .buffer) (reportedR r e .buffer) (steps (r .call) (e .outcome) (e .reply) (r .buffer) (e .work))
+
+-- a call that has ended, or was refused at its start, stays as it is, and so does the buffer
+pub over-stays : (es : List ReadReport) (r : Reader) (a : Answer) → r .call .phase ≡ phase.Ended a → feedR r es ≡ r
+unfolding feedR reportOf bufferAfter judgeOf case_refused_fault_headed_block_ case_waiting_ended_
+over-stays [] r a e = refl
+over-stays (x ∷ es) r a e =
+    let q : reportedR r x ≡ r = rw e in ap (λ (s : Reader). feedR s es) q ∙ over-stays es r a e

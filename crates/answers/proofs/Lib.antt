@@ -6,3 +6,4 @@ pub mod Sorts
 pub mod Calls
 pub mod Runs
 pub mod Kept
+pub mod Within

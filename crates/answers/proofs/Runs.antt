@@ -66,10 +66,10 @@ module _ (call : WriteCall) where
           subst (Step call) (sym q) (settles o e)
 
 -- what stays true: a waiting call has frames left, and each frame so far had at most 65,535 waits
-record Sound (count : ℕ) (call : WriteCall) : Type 0 where
+pub record Sound (count : ℕ) (call : WriteCall) : Type 0 where
   counts : frames.countOf (call .task .plan .frames) (call .task .lent .length) ≡ count
   retries : call .task .plan .retries ≤ 65535
-  due : call .phase ≡ phase.Waiting → call .sent < count
+  pub due : call .phase ≡ phase.Waiting → call .sent < count
   sent : call .sent ≤ 256
   spare : call .budget .left ≤ 65535
   waits : call .tally .waits + call .budget .left ≤ 65535 * (call .sent + 1)
@@ -122,15 +122,32 @@ module _ (count : ℕ) (few : count ≤ 256) where
   fed [] call s = s
   fed (e ∷ es) call s = fed es (reportedW call e) (keeps call (reportedW call e) (steps call (e .outcome) (e .reply) (e .payload) (e .work)) s)
 
--- a call with at most 256 frames, if it waits at its start, never gets near the end of a counter
-pub tame : (plan : WritePlan) (n w : ℕ) → plan .retries ≤ 65535
+-- a call with at most 256 frames, if it waits at its start, keeps this
+pub sound : (plan : WritePlan) (n w : ℕ) → plan .retries ≤ 65535
     → (startOf plan n w .phase ≡ phase.Waiting → 0 < frames.countOf (plan .frames) n) → frames.countOf (plan .frames) n ≤ 256
-    → (es : List WriteReport) → TameW (feedW (startOf plan n w) es)
+    → (es : List WriteReport) → Sound (frames.countOf (plan .frames) n) (feedW (startOf plan n w) es)
 unfolding startOf nothing
-tame plan n w r some few es =
-    let s = fed (frames.countOf (plan .frames) n) few es (startOf plan n w)
-    (record { counts = refl; retries = r; due = some; sent = omega arith; spare = r; waits = omega arith }) in
-    record { frames = s .sent; waits = omega (arith, s .waits, s .sent) }
+sound plan n w r some few es =
+    fed (frames.countOf (plan .frames) n) few es (startOf plan n w)
+    (record { counts = refl; retries = r; due = some; sent = omega arith; spare = r; waits = omega arith })
+
+-- so it never gets near the end of a counter
+pub tame : (count : ℕ) (call : WriteCall) → Sound count call → TameW call
+tame count call s = record { frames = s .sent; waits = omega (arith, s .waits, s .sent) }
+
+-- and no report changes what a call was started for
+step-task : (call after : WriteCall) → Step call after → after .task ≡ call .task
+unfolding advanceOf retryOf endOf
+step-task call after stays = refl
+step-task call after (goes-on e) = refl
+step-task call after (again left e less) = refl
+step-task call after (ends why e) = refl
+
+pub same-task : (es : List WriteReport) (call : WriteCall) → feedW call es .task ≡ call .task
+unfolding feedW
+same-task [] call = refl
+same-task (e ∷ es) call =
+    same-task es (reportedW call e) ∙ step-task call (reportedW call e) (steps call (e .outcome) (e .reply) (e .payload) (e .work))
 
 -- a call that has ended, or was refused at its start, stays as it is
 pub over-stays : (es : List WriteReport) (call : WriteCall) (a : Answer) → call .phase ≡ phase.Ended a → feedW call es ≡ call

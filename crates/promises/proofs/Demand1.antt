@@ -5,6 +5,7 @@ use Rattle.answers.proofs.Writing.{writes}
 use Rattle.answers.proofs.Reading.{reads}
 use Rattle.answers.proofs.Sorts.{sort-w, sort-r, shows-w, shows-r}
 use Rattle.answers.proofs.Calls.{starts-as, limits}
+use Rattle.answers.proofs.Within.{within}
 use Rattle.promises.specs.Demand1.{Demand1}
 
 pub demand1 : Demand1
@@ -18,4 +19,5 @@ demand1 = record {
   refused-r = sort-r;
   shown-w = shows-w;
   shown-r = shows-r;
+  within = within;
 }

@@ -18,6 +18,7 @@ use Rattle.reading.specs.Reading as reading
 use Rattle.reading.specs.declared.call.ReadCall.{ReadCall}
 use Rattle.answers.specs.Rows.{Starts, saidW, saidR, Writes, Reads, SortW, SortR, Shown}
 use Rattle.answers.specs.Calls.{Admitted, Limits}
+use Rattle.answers.specs.Within.{Within}
 
 pub record Demand1 : Type 0 where
   -- at the start, for every limit; and which limit each call has
@@ -37,3 +38,5 @@ pub record Demand1 : Type 0 where
       → Shown (call .phase) (call .task .lent) (length payload) (length work) work (writing.workAfter call payload work) (writing.nextOf call payload (length work))
   pub shown-r : (call : ReadCall) (n : ℕ) (work : List ℕ)
       → Shown (call .phase) (call .task .lent) n (length work) work (reading.workAfter call n work) (reading.nextOf call n (length work))
+  -- each call by name, however it is fed: it has a next transfer until it ends, no counter saturates, and an ending other than 0 leaves the buffer past whole blocks as it was
+  pub within : Within

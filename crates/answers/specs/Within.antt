@@ -1,0 +1,94 @@
+-- A started call stays within its bounds: for each call by name and any list of reports no counter saturates, every frame has room, every block lies in
+-- the window and in the buffer, and what a call that has not ended well leaves in the caller's buffer is known.
+-- Assumes nothing.
+use Prim.Native.Nat.{ℕ, _+_, _*_, _≤_, _<_}
+use mathlib.Core.Path.{_≡_}
+use mathlib.Core.Bool.{true, false}
+use mathlib.Core.List.{List}
+use lib.ListN.{length, drop}
+use Rattle.protocol.specs.Common.{noPec}
+use Rattle.protocol.specs.declared.common.Config.{Config}
+use Rattle.protocol.specs.declared.error.Answer.the-variants as answer
+use Rattle.protocol.specs.declared.frame.MacCommand.the-variants as mac
+use Rattle.engine.specs.declared.bus.Phase.the-variants as phase
+use Rattle.engine.specs.declared.bus.Transfer.the-variants as transfer
+use Rattle.engine.specs.declared.limit.Limit.{Limit}
+use Rattle.engine.specs.declared.limit.Limit.the-variants as limit
+use Rattle.writing.specs.Frames as frames
+use Rattle.writing.specs.Writing as writing
+use Rattle.writing.specs.declared.call.WritePlan.{WritePlan}
+use Rattle.writing.specs.declared.call.WriteCall.{WriteCall}
+use Rattle.reading.specs.Parts as parts
+use Rattle.reading.specs.Reading as reading
+use Rattle.reading.specs.declared.call.ReadPlan.{ReadPlan}
+use Rattle.reading.specs.declared.call.ReadCall.{ReadCall}
+use Rattle.interface.specs.Plans.{writeWithRetries, writeRegister, readRegister, dispatchCommand, readBuffer, writeBuffer}
+use Rattle.r5.specs.Plans.{macRead, macWrite, infoCRead, infoRead, infoWrite, accessKey, infoCWrite, flashRead, flashWrite}
+use Rattle.answers.specs.Runs.{WriteReport, feedW, TameW, ReadReport, Reader, feedR, TameR}
+
+-- block i of a data-flash transfer starts in the window
+abbrev pub Inside : Limit → ℕ → Type 0
+Inside limit.Free i = Unit {0}
+Inside (limit.AtMost most) i = Unit {0}
+Inside (limit.Exactly size) i = Unit {0}
+Inside (limit.Window start) i = (0x4000 ≤ start + i * 32) × (start + i * 32 ≤ 0x5FFF)
+Inside (limit.Command input) i = Unit {0}
+
+-- ---- the writing calls
+
+pub data WritesBy (config : Config) : WritePlan → Type 0 where
+  write-with-retries : WritesBy config (writeWithRetries config)
+  write-register : (address : ℕ) → WritesBy config (writeRegister config address)
+  write-register-unchecked : (address : ℕ) → WritesBy config (writeRegister (noPec config) address)
+  write-buffer : (address : ℕ) → WritesBy config (writeBuffer config address)
+  write-security-keys : WritesBy config (macWrite config mac.SecurityKeys 28)
+  write-authentication-key : WritesBy config (macWrite config mac.AuthenticationKey 16)
+  write-charging-voltage-override : WritesBy config (macWrite config mac.ChargingVoltageOverride 10)
+  send-access-key : (lower upper : ℕ) → WritesBy config (accessKey config lower upper)
+  write-mfg-info-c : (lower upper : ℕ) → WritesBy config (infoCWrite config lower upper)
+  write-mfg-info : WritesBy config (infoWrite config)
+  write-dataflash : (start : ℕ) → WritesBy config (flashWrite config start)
+
+-- a call that waits has a frame left, at an address of the window, and shows it where the lengths of the start are lent
+pub record WritesOn (plan : WritePlan) (payload : List ℕ) (w : ℕ) (call : WriteCall) : Type 0 where
+  pub due : call .sent < frames.countOf (plan .frames) (length payload)
+  pub inside : Inside (plan .limit) (call .sent)
+  pub shows : (n : ℕ) × (writing.nextOf call payload w ≡ transfer.Write n)
+
+pub record WritesWithin (plan : WritePlan) (payload : List ℕ) (w : ℕ) (call : WriteCall) : Type 0 where
+  pub counters : TameW call
+  pub goes-on : call .phase ≡ phase.Waiting → WritesOn plan payload w call
+
+-- ---- the reading calls, with a buffer of n bytes
+
+pub data ReadsBy (config : Config) (n : ℕ) : ReadPlan → Type 0 where
+  read-register : (address : ℕ) → ReadsBy config n (readRegister config address n)
+  read-buffer : (address : ℕ) → ReadsBy config n (readBuffer config address n)  -- and read_register_unchecked
+  dispatch-command : (address input : ℕ) → ReadsBy config n (dispatchCommand config address input n)
+  read-security-keys : ReadsBy config n (macRead config mac.SecurityKeys 28)
+  read-authentication-key : ReadsBy config n (macRead config mac.AuthenticationKey 16)
+  read-charging-voltage-override : ReadsBy config n (macRead config mac.ChargingVoltageOverride 10)
+  read-mfg-info-c : ReadsBy config n (infoCRead config n)
+  read-mfg-info : ReadsBy config n (infoRead config n)
+  read-dataflash : (start : ℕ) → ReadsBy config n (flashRead config start)
+
+pub record ReadsOn (plan : ReadPlan) (n w : ℕ) (call : ReadCall) : Type 0 where
+  pub due : call .heading ≡ false → call .received < parts.countOf (plan .reads) n
+  pub inside : Inside (plan .limit) (call .received)
+  pub shows-head : call .heading ≡ true → (m : ℕ) × (reading.nextOf call n w ≡ transfer.Write m)
+  pub shows-read : call .heading ≡ false → (command m : ℕ) × (reading.nextOf call n w ≡ transfer.Read command m)
+
+-- until it has ended well, the buffer past the whole blocks is as it was; with a single read, all of it
+pub record ReadsWithin (plan : ReadPlan) (buffer : List ℕ) (w : ℕ) (now : Reader) : Type 0 where
+  pub counters : TameR (now .call)
+  pub goes-on : now .call .phase ≡ phase.Waiting → ReadsOn plan (length buffer) w (now .call)
+  pub kept : (now .call .phase ≡ phase.Ended answer.Done → ⊥) → drop (now .call .received * 32) (now .buffer) ≡ drop (now .call .received * 32) buffer
+  pub untouched : parts.countOf (plan .reads) (length buffer) ≤ 1 → (now .call .phase ≡ phase.Ended answer.Done → ⊥) → now .buffer ≡ buffer
+
+-- ---- for each of them, however it is fed
+
+pub record Within : Type 0 where
+  pub writing : (config : Config) → config .«max_bus_retries» ≤ 65535 → (plan : WritePlan) → WritesBy config plan → (payload : List ℕ) (w : ℕ) (es : List WriteReport)
+      → WritesWithin plan payload w (feedW (writing.startOf plan (length payload) w) es)
+  pub reading : (config : Config) → config .«max_bus_retries» ≤ 65535 → (buffer : List ℕ) (plan : ReadPlan) → ReadsBy config (length buffer) plan → (w : ℕ) (es : List ReadReport)
+      → ReadsWithin plan buffer w (feedR (record { call = reading.startOf plan (length buffer) w; buffer = buffer }) es)
