@@ -322,9 +322,10 @@ module _ (plan : ReadPlan) (n w : ℕ) (s : SaneRead plan n) (k : 39 ≤ w) (cal
   shows-its-head : call .heading ≡ true → (m : ℕ) × (reading.nextOf call n w ≡ transfer.Write m)
   unfolding reading.nextOf reading.shownOf reading.shownHead case_waiting_ended_ if_then_else_
   shows-its-head h =
-      let room = length-head (call .task .plan .head) (call .received) in
-      (length (sealed (call .task .plan .«head_pec») (parts.headBytes (call .task .plan .head) (call .received))),
-        rw (e, fits-begun, h) (laid-shown (call .task .plan .«head_pec») (parts.headBytes (call .task .plan .head) (call .received)) w (omega arith)))
+      let room = length-head (call .task .plan .head) (call .received) in (
+        length (sealed (call .task .plan .«head_pec») (parts.headBytes (call .task .plan .head) (call .received))),
+        rw (e, fits-begun, h) (laid-shown (call .task .plan .«head_pec») (parts.headBytes (call .task .plan .head) (call .received)) w (omega arith)),
+      )
 
   shows-its-read : call .heading ≡ false → (command m : ℕ) × (reading.nextOf call n w ≡ transfer.Read command m)
   unfolding reading.nextOf reading.shownOf case_waiting_ended_ if_then_else_

@@ -1,7 +1,6 @@
 // The reading calls.
 use crate::say;
 use crate::writes;
-use engine::bus::Outcome;
 use engine::bus::Transfer;
 use protocol::bytes;
 use protocol::common::Config;
@@ -60,23 +59,25 @@ fn show(call: ReadCall, buffer: &[u8], work: &mut [u8]) -> usize {
     }
 }
 
-// Reports what a mark stands for: a brings a good reply, p one whose PEC differs, r one that is too long, s lends a shorter work buffer.
-fn report(call: ReadCall, mark: u8, reply: &[u8], buffer: &mut [u8], work: &[u8]) -> ReadReported {
-    match mark {
-        b'r' => call.report(
-            Outcome::Acknowledged,
-            b"a reply that is longer than any that was asked for",
-            buffer,
-            work,
-        ),
-        b's' => call.report(Outcome::Acknowledged, reply, buffer, b"short"),
-        _ => call.report(writes::outcome(mark), reply, buffer, work),
-    }
-}
-
 // The command that a reply's PEC is worked out with: for p another one.
 fn covered(mark: u8, command: u8) -> u8 {
     if mark == b'p' { command ^ 1 } else { command }
+}
+
+// How many bytes a mark brings where n were asked for: r too many.
+fn asked(mark: u8, n: usize) -> usize {
+    if mark == b'r' { 50 } else { n }
+}
+
+// The call that a report hands back; a refusal is said.
+fn taken(reported: ReadReported) -> ReadCall {
+    match reported {
+        ReadReported::Refused(a, same) => {
+            say::refusal(a);
+            same
+        }
+        ReadReported::Taken(next) => next,
+    }
 }
 
 // One transfer and its outcome.
@@ -84,13 +85,12 @@ fn step(call: ReadCall, mark: u8, command: u8, buffer: &mut [u8], work: &mut [u8
     let mut reply = [0u8; 64];
     let count = show(call, buffer, work);
     fill(&mut reply, count, covered(mark, command));
-    match report(call, mark, bytes::front(&reply, count), buffer, work) {
-        ReadReported::Refused(a, same) => {
-            say::refusal(a);
-            same
-        }
-        ReadReported::Taken(next) => next,
-    }
+    taken(call.report(
+        writes::outcome(mark),
+        bytes::front(&reply, asked(mark, count)),
+        buffer,
+        writes::lent(mark, work),
+    ))
 }
 
 // The buffer as it is before a call.
@@ -244,129 +244,8 @@ fn with(pec: bool) {
     infos_and_flash(pec);
 }
 
-// A call that is refused, or done, at its start.
-fn refused(name: &[u8], call: ReadCall) {
-    say::words(name);
-    let phase = call.phase;
-    say::end(phase, call.tally.waits);
-    say::words(b"\n");
-}
-
-// Registers and buffers at their limits.
-fn register_starts() {
-    let work = [0u8; 39];
-    let s = [0u8; 40];
-    let c = config(true);
-    refused(
-        b"read_register 32",
-        interface::read_register(c, 1, &s[..32], &work),
-    );
-    refused(
-        b"read_register 33",
-        interface::read_register(c, 1, &s[..33], &work),
-    );
-    refused(
-        b"read_register 33, work 38",
-        interface::read_register(c, 1, &s[..33], &work[..38]),
-    );
-    refused(b"read_buffer 40", interface::read_buffer(c, 1, &s, &work));
-}
-
-// Commands with too much, or with input.
-fn command_starts() {
-    let work = [0u8; 39];
-    let s = [0u8; 40];
-    let t = [0u8; 33];
-    let c = config(true);
-    refused(
-        b"dispatch_command input 33",
-        interface::dispatch_command(c, 1, &t, &s[..1], &work),
-    );
-    refused(
-        b"dispatch_command output 33",
-        interface::dispatch_command(c, 1, b"", &s[..33], &work),
-    );
-    refused(
-        b"dispatch_command input 1",
-        interface::dispatch_command(c, 1, b"!", &s[..1], &work),
-    );
-    refused(
-        b"dispatch_command input 1, output 33",
-        interface::dispatch_command(c, 1, b"!", &s[..33], &work),
-    );
-}
-
-// Keys of other lengths, and info C.
-fn key_starts() {
-    let work = [0u8; 39];
-    let s = [0u8; 40];
-    let c = config(true);
-    refused(
-        b"read_security_keys 29",
-        r5::read_security_keys(c, &s[..29], &work),
-    );
-    refused(
-        b"read_authentication_key 15",
-        r5::read_authentication_key(c, &s[..15], &work),
-    );
-    refused(
-        b"read_charging_voltage_override 11",
-        r5::read_charging_voltage_override(c, &s[..11], &work),
-    );
-    refused(
-        b"read_mfg_info_c 32",
-        r5::read_mfg_info_c(c, &s[..32], &work),
-    );
-}
-
-// Manufacturer info, and the window.
-fn info_starts() {
-    let work = [0u8; 39];
-    let s = [0u8; 40];
-    let c = config(true);
-    refused(
-        b"read_mfg_info_c 33",
-        r5::read_mfg_info_c(c, &s[..33], &work),
-    );
-    refused(b"read_mfg_info 33", r5::read_mfg_info(c, &s[..33], &work));
-    refused(b"read_mfg_info 34", r5::read_mfg_info(c, &s[..34], &work));
-    refused(
-        b"read_dataflash 3FFF 1",
-        r5::read_dataflash(c, 0x3FFF, &s[..1], &work),
-    );
-}
-
-// The window.
-fn flash_starts() {
-    let work = [0u8; 39];
-    let s = [0u8; 40];
-    let c = config(true);
-    refused(
-        b"read_dataflash 5FFF 1",
-        r5::read_dataflash(c, 0x5FFF, &s[..1], &work),
-    );
-    refused(
-        b"read_dataflash 5FFF 2",
-        r5::read_dataflash(c, 0x5FFF, &s[..2], &work),
-    );
-    refused(
-        b"read_dataflash FFFF 0",
-        r5::read_dataflash(c, 0xFFFF, b"", &work),
-    );
-}
-
-// The refusals of a start, on each side of a limit.
-fn starts() {
-    register_starts();
-    command_starts();
-    key_starts();
-    info_starts();
-    flash_starts();
-}
-
 // Everything.
 pub(crate) fn all() {
     with(false);
     with(true);
-    starts();
 }

@@ -2,6 +2,7 @@
 use crate::say;
 use engine::bus::Outcome;
 use engine::bus::Transfer;
+use protocol::bytes;
 use protocol::common::Config;
 use writing::call::WriteCall;
 use writing::call::WriteReported;
@@ -34,25 +35,36 @@ fn show(call: WriteCall, payload: &[u8], work: &mut [u8]) {
     }
 }
 
-// Reports what a mark stands for: r brings a reply that no write has, s lends a shorter work buffer.
-fn report(call: WriteCall, mark: u8, payload: &[u8], work: &[u8]) -> WriteReported {
-    match mark {
-        b'r' => call.report(Outcome::Acknowledged, b"!", payload, work),
-        b's' => call.report(Outcome::Acknowledged, b"", payload, b"short"),
-        _ => call.report(outcome(mark), b"", payload, work),
+// How long a reply a mark brings: r one that no write has.
+fn extra(mark: u8) -> usize {
+    if mark == b'r' { 1 } else { 0 }
+}
+
+// The work buffer that a mark lends: s a shorter one.
+pub(crate) fn lent(mark: u8, work: &[u8]) -> &[u8] {
+    if mark == b's' {
+        bytes::front(work, 5)
+    } else {
+        work
     }
 }
 
-// One transfer and its outcome.
-fn step(call: WriteCall, mark: u8, payload: &[u8], work: &mut [u8]) -> WriteCall {
-    show(call, payload, work);
-    match report(call, mark, payload, work) {
+// The call that a report hands back; a refusal is said.
+fn taken(reported: WriteReported) -> WriteCall {
+    match reported {
         WriteReported::Refused(a, same) => {
             say::refusal(a);
             same
         }
         WriteReported::Taken(next) => next,
     }
+}
+
+// One transfer and its outcome.
+fn step(call: WriteCall, mark: u8, payload: &[u8], work: &mut [u8]) -> WriteCall {
+    show(call, payload, work);
+    let reply = bytes::front(b"!", extra(mark));
+    taken(call.report(outcome(mark), reply, payload, lent(mark, work)))
 }
 
 // A call over a script, on a line.
@@ -170,139 +182,8 @@ fn with(pec: bool) {
     infos_and_flash(pec);
 }
 
-// A call that is refused, or done, at its start.
-fn refused(name: &[u8], call: WriteCall) {
-    say::words(name);
-    let phase = call.phase;
-    say::end(phase, call.tally.waits);
-    say::words(b"\n");
-}
-
-// Plain and register writes at their limits.
-fn plain_starts() {
-    let work = [0u8; 39];
-    let s = [0u8; 40];
-    let c = config(true);
-    let bare = config(false);
-    refused(
-        b"write_with_retries 38",
-        interface::write_with_retries(c, &s[..38], &work),
-    );
-    refused(
-        b"write_with_retries 39",
-        interface::write_with_retries(c, &s[..39], &work),
-    );
-    refused(
-        b"write_with_retries 39 without PEC",
-        interface::write_with_retries(bare, &s[..39], &work),
-    );
-    refused(
-        b"write_register 32",
-        interface::write_register(c, 1, &s[..32], &work),
-    );
-}
-
-// A short work buffer, buffer writes and the unchecked write.
-fn buffer_starts() {
-    let work = [0u8; 39];
-    let s = [0u8; 40];
-    let c = config(true);
-    refused(
-        b"write_register 33",
-        interface::write_register(c, 1, &s[..33], &work),
-    );
-    refused(
-        b"write_register 33, work 38",
-        interface::write_register(c, 1, &s[..33], &work[..38]),
-    );
-    refused(
-        b"write_buffer 33",
-        interface::write_buffer(c, 1, &s[..33], &work),
-    );
-    refused(
-        b"write_buffer 34",
-        interface::write_buffer(c, 1, &s[..34], &work),
-    );
-}
-
-// Keys of other lengths.
-fn key_starts() {
-    let work = [0u8; 39];
-    let s = [0u8; 40];
-    let c = config(true);
-    refused(
-        b"write_register_unchecked 33",
-        r5::write_register_unchecked(c, 1, &s[..33], &work),
-    );
-    refused(
-        b"write_security_keys 27",
-        r5::write_security_keys(c, &s[..27], &work),
-    );
-    refused(
-        b"write_authentication_key 17",
-        r5::write_authentication_key(c, &s[..17], &work),
-    );
-    refused(
-        b"write_charging_voltage_override 9",
-        r5::write_charging_voltage_override(c, &s[..9], &work),
-    );
-}
-
-// Manufacturer info at its limits, and the window.
-fn info_starts() {
-    let work = [0u8; 39];
-    let s = [0u8; 40];
-    let c = config(true);
-    refused(
-        b"send_access_key, work 38",
-        r5::send_access_key(c, 1, 2, &work[..38]),
-    );
-    refused(
-        b"write_mfg_info_c 33",
-        r5::write_mfg_info_c(c, 1, 2, &s[..33], &work),
-    );
-    refused(b"write_mfg_info 33", r5::write_mfg_info(c, &s[..33], &work));
-    refused(
-        b"write_dataflash 3FFF 1",
-        r5::write_dataflash(c, 0x3FFF, &s[..1], &work),
-    );
-}
-
-// The window.
-fn flash_starts() {
-    let work = [0u8; 39];
-    let s = [0u8; 40];
-    let c = config(true);
-    refused(
-        b"write_dataflash 5FFF 1",
-        r5::write_dataflash(c, 0x5FFF, &s[..1], &work),
-    );
-    refused(
-        b"write_dataflash 5FFF 2",
-        r5::write_dataflash(c, 0x5FFF, &s[..2], &work),
-    );
-    refused(
-        b"write_dataflash FFFF 0",
-        r5::write_dataflash(c, 0xFFFF, &s[..0], &work),
-    );
-    refused(
-        b"write_dataflash FFFF 2",
-        r5::write_dataflash(c, 0xFFFF, &s[..2], &work),
-    );
-}
-
-// The refusals of a start, on each side of a limit.
-fn starts() {
-    plain_starts();
-    buffer_starts();
-    key_starts();
-    info_starts();
-    flash_starts();
-}
-
 // Everything.
 pub(crate) fn all() {
     with(false);
     with(true);
-    starts();
 }

@@ -20,13 +20,16 @@ fn figure(millivolts: i16) {
 // Ten bytes, their five figures, and the bytes of those.
 pub(crate) fn all() {
     let v = ChargingVoltageOverride::from_bytes(b"\xFF\xFF\x00\x80\xFF\x7F\x00\x01\x01\x00");
-    say::words(b"ffff0080ff7f00010100 :");
+    say::words(b"FFFF0080FF7F00010100 :");
     figure(v.low_temp_chrg_mv);
     figure(v.std_low_temp_chrg_mv);
     figure(v.std_hi_temp_chrg_mv);
     figure(v.hi_temp_chrg_mv);
     figure(v.recommended_temp_chrg_mv);
     let back = v.to_bytes();
-    say::write(&back);
+    let mut digits = [0u8; 20];
+    hex::encode(&back, &mut digits);
+    say::words(b" ");
+    say::words(&digits);
     say::words(b"\n");
 }
