@@ -86,6 +86,22 @@ fn matches(expected: Reader, line: &[u8], out: &[u8], n: usize) -> bool {
     }
 }
 
+// How many bytes were printed.
+fn size(said: Said) -> usize {
+    match said {
+        Said::Asked(n) => n,
+        Said::Last(n) => n,
+    }
+}
+
+// Whether that was the last line of the run.
+fn is_last(said: Said) -> bool {
+    match said {
+        Said::Asked(_) => false,
+        Said::Last(_) => true,
+    }
+}
+
 // A line goes in, and what is printed is held against a line of the list.
 fn step(
     case: Case,
@@ -101,10 +117,12 @@ fn step(
     let before = case.run;
     let stage = stage_of(before, input, put, request, reply, buffer);
     let run = stage.run;
-    match bench_lines::say(stage, request, buffer, out) {
-        Said::Asked(n) => judged(run, false, matches(expected, wanted, out, n)),
-        Said::Last(n) => judged(run, true, matches(expected, wanted, out, n)),
-    }
+    let said = bench_lines::say(stage, request, buffer, out);
+    judged(
+        run,
+        is_last(said),
+        matches(expected, wanted, out, size(said)),
+    )
 }
 
 // A case after a line. It is over at the first line that differs.
