@@ -177,7 +177,8 @@ pub record Sound (count : ℕ) (start : List ℕ) (r : Reader) : Type 0 where
   pub more : r .call .phase ≡ phase.Waiting → 0 < count → r .call .received < count
   bare : r .call .phase ≡ phase.Waiting → parts.hasHead (r .call .task .plan .head) ≡ false → r .call .received < count
   some : r .call .received ≤ 256
-  waits : r .call .tally .waits + r .call .budget .left ≤ 65535
+  waits : r .call .tally .waits + r .call .budget .left ≡ r .call .task .plan .retries
+  bound : r .call .task .plan .retries ≤ 65535
   size : length (r .buffer) ≡ length start
   front : Front count start (r .call) (r .buffer)
 
@@ -239,6 +240,7 @@ module _ (count : ℕ) (start : List ℕ) (few : count ≤ 256) where
     bare = λ w h. rw (s .counts) at (not-done _ _ w);
     some = s .some;
     waits = s .waits;
+    bound = s .bound;
     size = s .size;
     front = inr (waiting-front count start call buffer e (s .front));
   }
@@ -250,6 +252,7 @@ module _ (count : ℕ) (start : List ℕ) (few : count ≤ 256) where
         bare = λ w x. rw (s .counts) at (not-done _ _ w);
         some = omega (arith, s .some);
         waits = s .waits;
+        bound = s .bound;
         size = stored-length _ _ _ buffer ∙ s .size;
         front = block-front count start call bytes buffer few (s .counts) below (waiting-front count start call buffer e (s .front) .0);
       }
@@ -259,7 +262,8 @@ module _ (count : ℕ) (start : List ℕ) (few : count ≤ 256) where
     more = λ w h. s .more e h;
     bare = λ w h. s .bare e h;
     some = s .some;
-    waits = omega (arith, s .waits);
+    waits = omega (arith, s .waits, s .bound);
+    bound = s .bound;
     size = s .size;
     front = inr (waiting-front count start call buffer e (s .front));
   }
@@ -270,6 +274,7 @@ module _ (count : ℕ) (start : List ℕ) (few : count ≤ 256) where
     bare = λ w h. s .bare e h;
     some = s .some;
     waits = s .waits;
+    bound = s .bound;
     size = s .size;
     front = inr (waiting-front count start call buffer e (s .front));
   }
@@ -296,13 +301,14 @@ module _ (plan : ReadPlan) (w : ℕ) (buffer : List ℕ) (r : plan .retries ≤ 
         bare = λ e h. bare h;
         some = omega arith;
         waits = omega arith;
+        bound = r;
         size = refl;
         front = inr (refl, inl refl);
       })
 
   -- a started reading call never gets near the end of a counter
   pub tame : TameR (after .call)
-  tame = let s = sound in record { blocks = s .some; waits = omega (arith, s .waits) }
+  tame = let s = sound in record { blocks = s .some; budget = s .waits; waits = omega (arith, s .waits, s .bound) }
 
   -- and until it has ended well, the buffer past the whole blocks is as it was
   pub kept : (after .call .phase ≡ phase.Ended answer.Done → ⊥) → drop (after .call .received * 32) (after .buffer) ≡ drop (after .call .received * 32) buffer

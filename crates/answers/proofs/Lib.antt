@@ -6,4 +6,6 @@ pub mod Sorts
 pub mod Calls
 pub mod Runs
 pub mod Kept
+pub mod Fits
 pub mod Within
+pub mod Costs

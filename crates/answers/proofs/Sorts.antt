@@ -8,8 +8,10 @@ use native.Mathlib.Omega.{arith}
 use lib.ListN.{length}
 use lib.Dec.{ltb, leb, eqb}
 use Rattle.protocol.specs.Pick.{if_then_else_}
+use Rattle.protocol.specs.Bytes.{over}
 use Rattle.protocol.specs.Frame.{laidOf, workLaid, sealed}
 use Rattle.protocol.specs.Reply as reply
+use Rattle.protocol.proofs.Laws.{drop-over}
 use Rattle.protocol.specs.declared.error.Answer.{Answer}
 use Rattle.protocol.specs.declared.error.Answer.the-variants as answer
 use Rattle.protocol.specs.declared.frame.Laid.{Laid}
@@ -113,6 +115,9 @@ module _ (call : WriteCall) where
       frame : Laid
       frame = laidOf (call .task .plan .pec) (writing.dueBytes call payload) (length work)
 
+      sent : List ℕ
+      sent = sealed (call .task .plan .pec) (writing.dueBytes call payload)
+
       due : call .phase ≡ phase.Waiting → fitsOf (call .task .lent) (length payload) (length work) ≡ true → writing.ownBytes call ≡ false
           → writing.nextOf call payload (length work) ≡ writeOf frame
       due e f g = rw (g, f, e)
@@ -128,8 +133,9 @@ module _ (call : WriteCall) where
           → At (writing.workAfter call payload work) (writing.nextOf call payload (length work))
       by (phase.Ended a) e t f s g k h = both work (transfer.Ended a) (rw e) (rw e) (e, refl)
       by phase.Waiting e false f s g k h = both work (transfer.Refused answer.WrongBuffer) (rw (e, f)) (rw (e, f)) (e, refl, refl)
-      by phase.Waiting e true f true g k h = both work (transfer.Write (length payload)) (rw (g, f, e)) (rw (g, f, e)) (e, fits-same _ _ _ f)
-      by phase.Waiting e true f false g true h = both _ (transfer.Write _) refl (due e f g ∙ ap writeOf (has-room h)) (e, fits-same _ _ _ f)
+      by phase.Waiting e true f true g k h = both work (transfer.Write (length payload)) (rw (g, f, e)) (rw (g, f, e)) (e, fits-same _ _ _ f, refl)
+      by phase.Waiting e true f false g true h =
+          both (over sent work) (transfer.Write (length sent)) (rw (h, g, f, e)) (due e f g ∙ ap writeOf (has-room h)) (e, fits-same _ _ _ f, drop-over (length sent) sent work (omega arith))
       by phase.Waiting e true f false g false h = both work (transfer.Refused answer.WrongBuffer) (rw (h, g, f, e)) (due e f g ∙ ap writeOf (no-room h)) (e, refl, refl)
 
 -- ---- a reading call
@@ -255,6 +261,9 @@ module _ (call : ReadCall) where
       frame : Laid
       frame = laidOf (call .task .plan .«head_pec») (parts.headBytes (call .task .plan .head) (call .received)) (length work)
 
+      sent : List ℕ
+      sent = sealed (call .task .plan .«head_pec») (parts.headBytes (call .task .plan .head) (call .received))
+
       due : call .phase ≡ phase.Waiting → fitsOf (call .task .lent) n (length work) ≡ true → call .heading ≡ true → reading.nextOf call n (length work) ≡ writeOf frame
       due e f g = rw (g, f, e)
 
@@ -271,5 +280,6 @@ module _ (call : ReadCall) where
       by (phase.Ended a) e t f s g k h = both work (transfer.Ended a) (rw e) (rw e) (e, refl)
       by phase.Waiting e false f s g k h = both work (transfer.Refused answer.WrongBuffer) (rw (f, e)) (rw (f, e)) (e, refl, refl)
       by phase.Waiting e true f false g k h = both work (transfer.Read (reading.dueAsk call .command) (reply.countOf (reading.dueAsk call))) (rw (g, f, e)) (rw (g, f, e)) (e, fits-same _ _ _ f, refl)
-      by phase.Waiting e true f true g true h = both _ (transfer.Write _) refl (due e f g ∙ ap writeOf (has-room h)) (e, fits-same _ _ _ f)
+      by phase.Waiting e true f true g true h =
+          both (over sent work) (transfer.Write (length sent)) (rw (h, g, f, e)) (due e f g ∙ ap writeOf (has-room h)) (e, fits-same _ _ _ f, drop-over (length sent) sent work (omega arith))
       by phase.Waiting e true f true g false h = both work (transfer.Refused answer.WrongBuffer) (rw (h, g, f, e)) (due e f g ∙ ap writeOf (no-room h)) (e, refl, refl)

@@ -2,17 +2,15 @@
 -- Assumes nothing.
 use Prim.Native.Nat.{ℕ, _+_, _-_, _*_, _≤_, _<_}
 use mathlib.Core.Path.{_≡_, refl, sym, ap, subst, _∙_}
-use mathlib.Core.Bool.{Bool, true, false, _&&_, _||_}
+use mathlib.Core.Bool.{Bool, true, false, _&&_}
 use mathlib.Core.Logic.{_⊎_, inl, inr}
 use mathlib.Core.List.{List, []}
 use native.Mathlib.Omega.{arith}
-use lib.Dec.{ltb, leb, eqb}
+use lib.Dec.{ltb, eqb}
 use lib.ListN.{length, take, drop, length-take}
-use borrow.Author.Tests.{ltb-true, ltb-false, leb-true, eqb-true, eqb-false, lt-ltb, eq-eqb}
+use borrow.Author.Tests.{lt-ltb, eq-eqb}
 use Rattle.protocol.specs.Pick.{if_then_else_}
-use Rattle.protocol.specs.Bytes.{blocksOf}
 use Rattle.protocol.specs.Frame.{pairOf, macBytes, fixedPair, commandBytes, registerBytes, infoBytes, sealed, laidOf}
-use Rattle.protocol.specs.Window.{inWindow}
 use Rattle.protocol.specs.Reply as reply
 use Rattle.protocol.specs.declared.common.Config.{Config}
 use Rattle.protocol.specs.declared.error.Answer.{Answer}
@@ -22,7 +20,6 @@ use Rattle.protocol.specs.declared.frame.MacCommand.the-variants as mac
 use Rattle.engine.specs.Pick.{case_waiting_ended_}
 use Rattle.engine.specs.Bus.{writeOf, fitsOf}
 use Rattle.engine.specs.Budget.{nothing}
-use Rattle.engine.specs.Limit.{windowed, commanded, measured, admitted}
 use Rattle.engine.specs.declared.bus.Phase.{Phase}
 use Rattle.engine.specs.declared.bus.Phase.the-variants as phase
 use Rattle.engine.specs.declared.bus.Transfer.the-variants as transfer
@@ -39,72 +36,13 @@ use Rattle.reading.specs.declared.parts.Head.the-variants as head
 use Rattle.reading.specs.declared.call.ReadPlan.{ReadPlan}
 use Rattle.reading.specs.declared.call.ReadCall.{ReadCall}
 use Rattle.interface.specs.Plans.{plainLimit, writeWithRetries, writeRegister, readRegister, commandReads, dispatchCommand, readBuffer, writeBuffer}
-use Rattle.r5.specs.Plans.{macRead, macWrite, infoCRead, infoRead, infoWrite, accessKey, infoCWrite, flashRead, flashWrite}
+use Rattle.r5.specs.Plans.{wholeAsk, macRead, macWrite, infoCRead, infoRead, infoWrite, accessKey, infoCWrite, flashRead, flashWrite}
 use Rattle.answers.specs.Runs.{WriteReport, feedW, TameW, ReadReport, Reader, feedR, TameR}
 use Rattle.answers.specs.Within.{Inside, WritesBy, write-with-retries, write-register, write-register-unchecked, write-buffer, write-security-keys, write-authentication-key, write-charging-voltage-override, send-access-key, write-mfg-info-c, write-mfg-info, write-dataflash, WritesOn, WritesWithin, ReadsBy, read-register, read-buffer, dispatch-command, read-security-keys, read-authentication-key, read-charging-voltage-override, read-mfg-info-c, read-mfg-info, read-dataflash, ReadsOn, ReadsWithin, Within}
 use Rattle.answers.proofs.Calls.{starts-as}
+use Rattle.answers.proofs.Fits.{Fits, admitted-fits, blocks-inside, blocks-few}
 use Rattle.answers.proofs.Runs as runs
 use Rattle.answers.proofs.Kept as kept
-
--- ---- a call that waits at its start
-
--- what its limit has found
-abbrev Fits : Limit → ℕ → Type 0
-Fits limit.Free n = Unit {0}
-Fits (limit.AtMost most) n = n ≤ most
-Fits (limit.Exactly size) n = n ≡ size
-Fits (limit.Window start) n = (0 < n) × (0x4000 ≤ start) × (start + (n - 1) ≤ 0x5FFF)
-Fits (limit.Command input) n = n ≤ 32
-
-window-fits : (start n : ℕ) → windowed start n ≡ phase.Waiting → Fits (limit.Window start) n
-unfolding windowed inWindow if_then_else_
-window-fits start n e = by (eqb n 0) refl (leb 0x4000 start) refl (leb (start + (n - 1)) 0x5FFF) refl
-  where
-    by : (a : Bool) → eqb n 0 ≡ a → (b : Bool) → leb 0x4000 start ≡ b → (c : Bool) → leb (start + (n - 1)) 0x5FFF ≡ c → Fits (limit.Window start) n
-    by true a b p c q = let z : _≡_ {A = ℕ} 0 1 = cc (rw a at e) in absurd (omega arith)
-    by false a false p c q = let z : _≡_ {A = ℕ} 0 1 = cc (rw (a, p) at e) in absurd (omega arith)
-    by false a true p false q = let z : _≡_ {A = ℕ} 0 1 = cc (rw (a, p, q) at e) in absurd (omega arith)
-    by false a true p true q = let h = eqb-false n 0 a in (omega arith, leb-true _ _ p, leb-true _ _ q)
-
-command-fits : (input n : ℕ) → commanded input n ≡ phase.Waiting → n ≤ 32
-unfolding commanded if_then_else_
-command-fits input n e = by (ltb 32 input) refl (ltb 32 n) refl
-  where
-    by : (a : Bool) → ltb 32 input ≡ a → (b : Bool) → ltb 32 n ≡ b → n ≤ 32
-    by true a b p = let z : _≡_ {A = ℕ} 0 1 = cc (rw a at e) in absurd (omega arith)
-    by false a true p = let z : _≡_ {A = ℕ} 0 1 = cc (rw (a, p) at e) in absurd (omega arith)
-    by false a false p = ltb-false _ _ p
-
-fits : (l : Limit) (n : ℕ) → measured l n ≡ phase.Waiting → Fits l n
-unfolding measured if_then_else_
-fits limit.Free n e = tt
-fits (limit.AtMost most) n e = by (ltb most n) refl
-  where
-    by : (t : Bool) → ltb most n ≡ t → n ≤ most
-    by true t = let z : _≡_ {A = ℕ} 0 1 = cc (rw t at e) in absurd (omega arith)
-    by false t = ltb-false _ _ t
-fits (limit.Exactly size) n e = by (eqb n size) refl
-  where
-    by : (t : Bool) → eqb n size ≡ t → n ≡ size
-    by true t = eqb-true _ _ t
-    by false t = let z : _≡_ {A = ℕ} 0 1 = cc (rw t at e) in absurd (omega arith)
-fits (limit.Window start) n e = window-fits start n e
-fits (limit.Command input) n e = command-fits input n e
-
-admitted-fits : (l : Limit) (n w : ℕ) → admitted l n w ≡ phase.Waiting → (39 ≤ w) × Fits l n
-unfolding admitted if_then_else_
-admitted-fits l n w e = by (ltb w 39) refl
-  where
-    by : (t : Bool) → ltb w 39 ≡ t → (39 ≤ w) × Fits l n
-    by true t = let z : _≡_ {A = ℕ} 0 1 = cc (rw t at e) in absurd (omega arith)
-    by false t = (ltb-false _ _ t, fits l n (rw t at e))
-
--- blocks of what lies in the window start in it, and there are at most 256
-blocks-inside : (start n i : ℕ) → Fits (limit.Window start) n → i < blocksOf n → Inside (limit.Window start) i
-blocks-inside start n i (some, low, high) h = (omega arith, omega arith)
-
-blocks-few : (start n : ℕ) → Fits (limit.Window start) n → (0 < blocksOf n) × (blocksOf n ≤ 256)
-blocks-few start n (some, low, high) = (omega arith, omega arith)
 
 -- ---- the writing calls
 
@@ -113,7 +51,7 @@ record Sane (plan : WritePlan) (payload : List ℕ) : Type 0 where
   some : 0 < frames.countOf (plan .frames) (length payload)
   few : frames.countOf (plan .frames) (length payload) ≤ 256
   room : (i : ℕ) → ((frames.isPlain (plan .frames) ≡ true) × (plan .pec ≡ false)) ⊎ (length (frames.bytesAt (plan .frames) i payload) ≤ 38)
-  inside : (i : ℕ) → i < frames.countOf (plan .frames) (length payload) → Inside (plan .limit) i
+  inside : (i : ℕ) → i < frames.countOf (plan .frames) (length payload) → Inside (plan .limit) (length payload) i
 
 length-half : (lower upper i : ℕ) → length (frames.halfBytes lower upper i) ≤ 38
 unfolding frames.halfBytes macBytes pairOf if_then_else_
@@ -145,7 +83,7 @@ length-mac mac.MfgInfoC payload h = omega arith
 module _ (config : Config) (payload : List ℕ) where
   -- one frame that has room
   one-frame : (plan : WritePlan) → frames.countOf (plan .frames) (length payload) ≡ 1 → ((i : ℕ) → length (frames.bytesAt (plan .frames) i payload) ≤ 38)
-      → ((i : ℕ) → Inside (plan .limit) i) → Sane plan payload
+      → ((i : ℕ) → Inside (plan .limit) (length payload) i) → Sane plan payload
   one-frame plan one room at = record { some = omega (arith, one); few = omega (arith, one); room = λ i. inr (room i); inside = λ i h. at i }
 
   plain-sane : (pec : Bool) → config .«pec_write» ≡ pec → Fits (writeWithRetries config .limit) (length payload) → Sane (writeWithRetries config) payload
@@ -153,10 +91,10 @@ module _ (config : Config) (payload : List ℕ) where
   plain-sane true e h =
       let q : writeWithRetries config .limit ≡ limit.AtMost 38 = rw e in
       let k : length payload ≤ 38 = subst (λ (l : Limit). Fits l (length payload)) q h in
-      one-frame (writeWithRetries config) refl (λ i. k) (λ i. subst (λ (l : Limit). Inside l i) (sym q) tt)
+      one-frame (writeWithRetries config) refl (λ i. k) (λ i. subst (λ (l : Limit). Inside l (length payload) i) (sym q) tt)
   plain-sane false e h =
       let q : writeWithRetries config .limit ≡ limit.Free = rw e in
-      record { some = omega arith; few = omega arith; room = λ i. inl (refl, e); inside = λ i h. subst (λ (l : Limit). Inside l i) (sym q) tt }
+      record { some = omega arith; few = omega arith; room = λ i. inl (refl, e); inside = λ i h. subst (λ (l : Limit). Inside l (length payload) i) (sym q) tt }
 
   sane : (plan : WritePlan) → WritesBy config plan → Fits (plan .limit) (length payload) → Sane plan payload
   unfolding writeRegister writeBuffer macWrite accessKey infoCWrite infoWrite flashWrite writing.planOf frames.countOf frames.isPlain frames.bytesAt registerBytes infoBytes
@@ -272,34 +210,46 @@ length-head (head.DataFlash start) i = omega arith
 record SaneRead (plan : ReadPlan) (n : ℕ) : Type 0 where
   few : parts.countOf (plan .reads) n ≤ 256
   bare : parts.hasHead (plan .head) ≡ false → 0 < parts.countOf (plan .reads) n
-  inside : (i : ℕ) → (0 < parts.countOf (plan .reads) n → i < parts.countOf (plan .reads) n) → Inside (plan .limit) i
+  inside : (i : ℕ) → (0 < parts.countOf (plan .reads) n → i < parts.countOf (plan .reads) n) → Inside (plan .limit) n i
+  asks : (i : ℕ) → parts.askOf (plan .reads) n i .wanted ≤ n + 33
 
 module _ (config : Config) (n : ℕ) where
-  one-read : (plan : ReadPlan) → parts.countOf (plan .reads) n ≡ 1 → ((i : ℕ) → Inside (plan .limit) i) → SaneRead plan n
-  one-read plan one at = record { few = omega (arith, one); bare = λ h. omega (arith, one); inside = λ i h. at i }
+  one-read : (plan : ReadPlan) → parts.countOf (plan .reads) n ≡ 1 → ((i : ℕ) → Inside (plan .limit) n i) → ((i : ℕ) → parts.askOf (plan .reads) n i .wanted ≤ n + 33) → SaneRead plan n
+  one-read plan one at asks = record { few = omega (arith, one); bare = λ h. omega (arith, one); inside = λ i h. at i; asks = asks }
+
+  whole-asks : (pec : Bool) (size : ℕ) → size ≤ 33 → wholeAsk pec size n ≤ n + 33
+  unfolding wholeAsk if_then_else_
+  whole-asks true size h = omega arith
+  whole-asks false size h = omega arith
+
+  block-asks : (left : ℕ) (pec : Bool) → parts.blockAsk left pec .wanted ≤ n + 33
+  unfolding parts.blockAsk reply.macAsk if_then_else_
+  block-asks left true = omega arith
+  block-asks left false = omega arith
 
   command-sane : (address input : ℕ) → SaneRead (dispatchCommand config address input n) n
-  unfolding dispatchCommand commandReads parts.countOf parts.hasHead if_then_else_
+  unfolding dispatchCommand commandReads parts.countOf parts.askOf parts.hasHead reply.macAsk if_then_else_
   command-sane address input = by (eqb n 0) refl
     where
       by : (t : Bool) → eqb n 0 ≡ t → SaneRead (dispatchCommand config address input n) n
-      by true t = record { few = rw t (omega arith); bare = λ h. let z : _≡_ {A = ℕ} 0 1 = cc in absurd (omega arith); inside = λ i h. tt }
-      by false t = record { few = rw t (omega arith); bare = λ h. rw t (omega arith); inside = λ i h. tt }
+      by true t = record { few = rw t (omega arith); bare = λ h. let z : _≡_ {A = ℕ} 0 1 = cc in absurd (omega arith); inside = λ i h. tt; asks = λ i. rw t (omega arith) }
+      by false t = record { few = rw t (omega arith); bare = λ h. rw t (omega arith); inside = λ i h. tt; asks = λ i. rw t (omega arith) }
 
   sane-read : (plan : ReadPlan) → ReadsBy config n plan → Fits (plan .limit) n → SaneRead plan n
-  unfolding readRegister readBuffer macRead infoCRead infoRead flashRead reading.plainPlan reading.macPlan parts.countOf parts.hasHead
-  sane-read plan (read-register address) h = one-read plan refl (λ i. tt)
-  sane-read plan (read-buffer address) h = one-read plan refl (λ i. tt)
+  unfolding readRegister readBuffer macRead infoCRead infoRead flashRead reading.plainPlan reading.macPlan parts.countOf parts.askOf parts.hasHead reply.plainAsk reply.macAsk
+  sane-read plan (read-register address) h = one-read plan refl (λ i. tt) (λ i. omega arith)
+  sane-read plan (read-buffer address) h = one-read plan refl (λ i. tt) (λ i. omega arith)
   sane-read plan (dispatch-command address input) h = command-sane address input
-  sane-read plan (read-security-keys) h = one-read plan refl (λ i. tt)
-  sane-read plan (read-authentication-key) h = one-read plan refl (λ i. tt)
-  sane-read plan (read-charging-voltage-override) h = one-read plan refl (λ i. tt)
-  sane-read plan (read-mfg-info-c) h = one-read plan refl (λ i. tt)
-  sane-read plan (read-mfg-info) h = one-read plan refl (λ i. tt)
+  sane-read plan (read-security-keys) h = one-read plan refl (λ i. tt) (λ i. omega arith)
+  sane-read plan (read-authentication-key) h = one-read plan refl (λ i. tt) (λ i. omega arith)
+  sane-read plan (read-charging-voltage-override) h = one-read plan refl (λ i. tt) (λ i. omega arith)
+  sane-read plan (read-mfg-info-c) h = one-read plan refl (λ i. tt) (λ i. whole-asks (config .«pec_read») 32 (omega arith))
+  sane-read plan (read-mfg-info) h = one-read plan refl (λ i. tt) (λ i. whole-asks (config .«pec_read») 33 (omega arith))
   sane-read plan (read-dataflash start) h = record {
     few = blocks-few start n h .1;
     bare = λ e. blocks-few start n h .0;
     inside = λ i k. blocks-inside start n i h (k (blocks-few start n h .0));
+    asks = λ i. block-asks (parts.leftOf n i) (config .«pec_read»);
   }
 
 retries-read : (config : Config) (n : ℕ) (plan : ReadPlan) → ReadsBy config n plan → plan .retries ≡ config .«max_bus_retries»
@@ -327,9 +277,31 @@ module _ (plan : ReadPlan) (n w : ℕ) (s : SaneRead plan n) (k : 39 ≤ w) (cal
         rw (e, fits-begun, h) (laid-shown (call .task .plan .«head_pec») (parts.headBytes (call .task .plan .head) (call .received)) w (omega arith)),
       )
 
-  shows-its-read : call .heading ≡ false → (command m : ℕ) × (reading.nextOf call n w ≡ transfer.Read command m)
+  shows-its-read : call .heading ≡ false → reading.nextOf call n w ≡ transfer.Read (reading.dueAsk call .command) (reply.countOf (reading.dueAsk call))
   unfolding reading.nextOf reading.shownOf case_waiting_ended_ if_then_else_
-  shows-its-read h = (reading.dueAsk call .command, reply.countOf (reading.dueAsk call), rw (e, fits-begun, h))
+  shows-its-read h = rw (h, fits-begun, e)
+
+  around-few : reply.aroundOf (reading.dueAsk call) ≤ 4
+  unfolding reply.aroundOf reply.leadOf if_then_else_
+  around-few = by (reading.dueAsk call .pec) (reading.dueAsk call .headed)
+    where
+      by : (p h : Bool) → (if p then (if h then 3 else 0) + 1 else (if h then 3 else 0)) ≤ 4
+      by true true = omega arith
+      by true false = omega arith
+      by false true = omega arith
+      by false false = omega arith
+
+  asks-whole : n ≤ 9223372036854775807 → reply.countOf (reading.dueAsk call) ≡ reading.dueAsk call .wanted + reply.aroundOf (reading.dueAsk call)
+  unfolding reply.countOf reading.dueAsk reading.startOf
+  asks-whole h =
+      let few : parts.askOf (call .task .plan .reads) (call .task .lent .length) (call .received) .wanted ≤ n + 33 = rw t (s .asks (call .received)) in
+      let around = around-few in
+      omega arith
+
+-- a read is due, or there are reads at all
+due-of : {h : Bool} {i count : ℕ} → (h ≡ false) ⊎ (0 < count) → (h ≡ false → i < count) → (0 < count → i < count) → i < count
+due-of (inl e) f g = f e
+due-of (inr k) f g = g k
 
 -- refused or done at its start, a call stays so
 idle-read : (plan : ReadPlan) (buffer : List ℕ) (w : ℕ) (a : Answer) (r : Reader) → r ≡ record { call = reading.startOf plan (length buffer) w; buffer = buffer }
@@ -338,8 +310,9 @@ unfolding reading.startOf nothing
 idle-read plan buffer w a r q e =
     let none : r .call .received ≡ 0 = rw q in
     let rest : r .call .tally .waits ≡ 0 = rw q in
+    let full : r .call .budget .left ≡ r .call .task .plan .retries = rw q in
     record {
-      counters = record { blocks = omega arith; waits = omega arith };
+      counters = record { blocks = omega arith; budget = omega arith; waits = omega arith };
       goes-on = λ h. let z : _≡_ {A = ℕ} 0 1 = cc in absurd (omega arith);
       kept = λ h. rw q;
       untouched = λ one h. rw q;
@@ -365,10 +338,11 @@ reads-within config r buffer plan name w es = by (reading.startOf plan (length b
         record {
           counters = kept.tame plan w buffer enough (s .bare) (s .few) es;
           goes-on = λ h. record {
-            due = sound .due h;
+            due = λ k. due-of k (sound .due h) (sound .more h);
             inside = s .inside (feedR begun es .call .received) (sound .more h);
             shows-head = shows-its-head plan (length buffer) w s (open-fits .0) (feedR begun es .call) (kept.same-task es begun) h;
             shows-read = shows-its-read plan (length buffer) w s (open-fits .0) (feedR begun es .call) (kept.same-task es begun) h;
+            asks = asks-whole plan (length buffer) w s (open-fits .0) (feedR begun es .call) (kept.same-task es begun) h;
           };
           kept = kept.kept plan w buffer enough (s .bare) (s .few) es;
           untouched = kept.untouched plan w buffer enough (s .bare) (s .few) es;

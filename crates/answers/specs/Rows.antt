@@ -6,12 +6,15 @@ use mathlib.Core.Path.{_≡_}
 use mathlib.Core.Bool.{Bool, true, false}
 use mathlib.Core.List.{List}
 use mathlib.Core.Logic.{_⊎_}
-use lib.ListN.{length}
+use lib.ListN.{length, take, drop}
 use Rattle.protocol.specs.Pick.{if_then_else_}
+use Rattle.protocol.specs.Answer.{numberOf, detailOf}
 use Rattle.protocol.specs.Reply as reply
 use Rattle.protocol.specs.declared.error.Answer.{Answer}
 use Rattle.protocol.specs.declared.error.Answer.the-variants as answer
 use Rattle.engine.specs.Budget.{moreOf}
+use Rattle.engine.specs.declared.budget.Budget.{Budget}
+use Rattle.engine.specs.declared.budget.Tally.{Tally}
 use Rattle.engine.specs.declared.bus.Lent.{Lent}
 use Rattle.engine.specs.declared.bus.Outcome.{Outcome}
 use Rattle.engine.specs.declared.bus.Outcome.the-variants as outcome
@@ -30,6 +33,22 @@ use Rattle.reading.specs.Reading.{dueAsk}
 use Rattle.reading.specs.declared.call.ReadCall.{ReadCall}
 use Rattle.reading.specs.declared.call.ReadReported.{ReadReported}
 use Rattle.reading.specs.declared.call.ReadReported.the-variants as read
+
+-- ---- the paper's number of each row, and its detail
+
+pub record Numbers : Type 0 where
+  pub done : (numberOf answer.Done ≡ 0) × (detailOf answer.Done ≡ 0)
+  pub bus-error : (code : ℕ) → (numberOf (answer.I2c code) ≡ 1) × (detailOf (answer.I2c code) ≡ code)
+  pub timed-out : (numberOf answer.Timeout ≡ 2) × (detailOf answer.Timeout ≡ 0)
+  pub wrong-pec : (numberOf answer.Pec ≡ 3) × (detailOf answer.Pec ≡ 0)
+  pub too-large : (numberOf answer.DataTooLarge ≡ 4) × (detailOf answer.DataTooLarge ≡ 0)
+  pub out-of-range : (numberOf answer.DataFlashAddressOutOfRange ≡ 5) × (detailOf answer.DataFlashAddressOutOfRange ≡ 0)
+  pub partly : (n : ℕ) → (numberOf (answer.PartialDataFlashWrite n) ≡ 6) × (detailOf (answer.PartialDataFlashWrite n) ≡ n)
+  pub no-command : (numberOf answer.NotACommand ≡ 7) × (detailOf answer.NotACommand ≡ 0)
+  pub wrong-buffer : (numberOf answer.WrongBuffer ≡ 8) × (detailOf answer.WrongBuffer ≡ 0)
+  pub wrong-reply : (numberOf answer.WrongReply ≡ 9) × (detailOf answer.WrongReply ≡ 0)
+  pub nothing-outstanding : (numberOf answer.NothingOutstanding ≡ 10) × (detailOf answer.NothingOutstanding ≡ 0)
+  pub bad-line : (numberOf answer.BadLine ≡ 11) × (detailOf answer.BadLine ≡ 0)
 
 -- ---- at the start: n lent bytes, a work buffer of w
 
@@ -168,7 +187,7 @@ Reads call o bytes n w answer.WrongReply = OpenR call n w × (o ≡ outcome.Ackn
 Reads call o bytes n w answer.NothingOutstanding = (a : Answer) × (call .phase ≡ phase.Ended a)
 Reads call o bytes n w answer.BadLine = ⊥
 
--- ---- a refusal of a step is 8, 9 or 10 and hands the call back as it was; a call that was taken ends with 0, 1, 2, 3 or 6
+-- ---- a refusal of a step is 8, 9 or 10 and hands the call back as it was; after a report that was taken a call goes on, or ends with 0, 1, 2, 3 or 6
 
 abbrev pub Refusal : Answer → Type 0
 Refusal answer.Done = ⊥
@@ -214,10 +233,37 @@ abbrev pub SortR : ReadCall → List ℕ → List ℕ → ReadReported → Type 
 SortR call before after (read.Refused a same) = Refusal a × (same ≡ call) × (after ≡ before)
 SortR call before after (read.Taken next) = (call .phase ≡ phase.Waiting) × Ends (next .phase) × Kept (next .phase) before after
 
--- ---- what is shown: an ended call its answer at any lent length, a waiting one 8 where the lengths differ; both spare the work buffer
+-- ---- what is shown: an ended call its answer at any lent length, a waiting one 8 where the lengths differ; both spare the work buffer, and a frame lies
+-- at its front with nothing else changed there
 
 abbrev pub Shown : Phase → Lent → ℕ → ℕ → List ℕ → List ℕ → Transfer → Type 0
 Shown p lent n w before after (transfer.Ended a) = (p ≡ phase.Ended a) × (after ≡ before)
 Shown p lent n w before after (transfer.Refused a) = (p ≡ phase.Waiting) × (a ≡ answer.WrongBuffer) × (after ≡ before)
-Shown p lent n w before after (transfer.Write count) = (p ≡ phase.Waiting) × Same lent n w
+Shown p lent n w before after (transfer.Write count) = (p ≡ phase.Waiting) × Same lent n w × (drop count after ≡ drop count before)
 Shown p lent n w before after (transfer.Read command count) = (p ≡ phase.Waiting) × Same lent n w × (after ≡ before)
+
+-- ---- what a report costs a writing call
+
+-- a failed attempt takes one retry and one wait; with none left it ends the call, with no wait
+abbrev pub FailedOnce : Budget → Tally → Phase → Budget → Tally → Type 0
+FailedOnce left waits p left′ waits′ =
+    ((p ≡ phase.Waiting) × (left′ .left + 1 ≡ left .left) × (waits′ .waits ≡ moreOf (waits .waits)))
+    ⊎ ((p ≡ phase.Waiting → ⊥) × (left .left ≡ 0) × (waits′ .waits ≡ waits .waits))
+
+-- an acknowledged frame is followed by one with a budget of its own; no wait is made for it
+abbrev pub Paid : WriteCall → Outcome → WriteCall → Type 0
+Paid call outcome.Acknowledged next = (next .budget .left ≡ call .task .plan .retries) × (next .tally .waits ≡ call .tally .waits)
+Paid call (outcome.BusError code) next = FailedOnce (call .budget) (call .tally) (next .phase) (next .budget) (next .tally)
+Paid call outcome.Timeout next = FailedOnce (call .budget) (call .tally) (next .phase) (next .budget) (next .tally)
+
+abbrev pub CostW : WriteCall → Outcome → WriteReported → Type 0
+CostW call o (wrote.Refused a same) = Unit {0}
+CostW call o (wrote.Taken next) = Paid call o next
+
+-- ---- what a report leaves in a reading call's buffer: a failure or a wrong PEC brings nothing, and the blocks in front stay
+
+pub record Delivers (call : ReadCall) (o : Outcome) (bytes before after : List ℕ) : Type 0 where
+  pub failed-reply : Failure o → after ≡ before
+  pub damaged-reply : Damaged call bytes → after ≡ before
+  pub front : take (call .received * 32) after ≡ take (call .received * 32) before
+  pub size : length after ≡ length before

@@ -1,10 +1,9 @@
 -- A call fed any list of reports: with any replies, and to a writing call with any lent lengths.
 -- Assumes nothing.
-use Prim.Native.Nat.{ℕ, _*_, _≤_, _<_}
+use Prim.Native.Nat.{ℕ, _+_, _≤_}
 use mathlib.Core.Path.{_≡_}
 use mathlib.Core.List.{List, [], _∷_}
-use lib.ListN.{length, drop}
-use Rattle.protocol.specs.declared.error.Answer.{Answer}
+use lib.ListN.{length}
 use Rattle.engine.specs.declared.bus.Outcome.{Outcome}
 use Rattle.writing.specs.Writing as writing
 use Rattle.writing.specs.declared.call.WriteCall.{WriteCall}
@@ -39,7 +38,7 @@ feedW call (e ∷ es) = feedW (reportedW call e) es
 -- no counter is anywhere near its largest number
 pub record TameW (call : WriteCall) : Type 0 where
   pub frames : call .sent ≤ 256
-  pub waits : call .tally .waits ≤ 16842495  -- 257 times 65,535
+  pub waits : call .tally .waits ≤ 16842495  -- at most 65,535 for each of 256 frames, and room for one more
 
 -- ---- a reading call
 
@@ -67,6 +66,8 @@ unfoldable pub feedR : Reader → List ReadReport → Reader
 feedR r [] = r
 feedR r (e ∷ es) = feedR (reportedR r e) es
 
+-- one budget for everything: each wait is a retry that was taken from it
 pub record TameR (call : ReadCall) : Type 0 where
   pub blocks : call .received ≤ 256
+  pub budget : call .tally .waits + call .budget .left ≡ call .task .plan .retries
   pub waits : call .tally .waits ≤ 65535

@@ -1,12 +1,14 @@
 -- A started call stays within its bounds: for each call by name and any list of reports no counter saturates, every frame has room, every block lies in
--- the window and in the buffer, and what a call that has not ended well leaves in the caller's buffer is known.
+-- the window and in the buffer, and a call that has not ended well leaves the bytes of the buffer past the whole blocks as they were.
 -- Assumes nothing.
-use Prim.Native.Nat.{ℕ, _+_, _*_, _≤_, _<_}
+use Prim.Native.Nat.{ℕ, _+_, _-_, _*_, _≤_, _<_, min}
 use mathlib.Core.Path.{_≡_}
 use mathlib.Core.Bool.{true, false}
 use mathlib.Core.List.{List}
+use mathlib.Core.Logic.{_⊎_}
 use lib.ListN.{length, drop}
 use Rattle.protocol.specs.Common.{noPec}
+use Rattle.protocol.specs.Reply as reply
 use Rattle.protocol.specs.declared.common.Config.{Config}
 use Rattle.protocol.specs.declared.error.Answer.the-variants as answer
 use Rattle.protocol.specs.declared.frame.MacCommand.the-variants as mac
@@ -26,13 +28,13 @@ use Rattle.interface.specs.Plans.{writeWithRetries, writeRegister, readRegister
 use Rattle.r5.specs.Plans.{macRead, macWrite, infoCRead, infoRead, infoWrite, accessKey, infoCWrite, flashRead, flashWrite}
 use Rattle.answers.specs.Runs.{WriteReport, feedW, TameW, ReadReport, Reader, feedR, TameR}
 
--- block i of a data-flash transfer starts in the window
-abbrev pub Inside : Limit → ℕ → Type 0
-Inside limit.Free i = Unit {0}
-Inside (limit.AtMost most) i = Unit {0}
-Inside (limit.Exactly size) i = Unit {0}
-Inside (limit.Window start) i = (0x4000 ≤ start + i * 32) × (start + i * 32 ≤ 0x5FFF)
-Inside (limit.Command input) i = Unit {0}
+-- block i of a data-flash transfer of n bytes lies in the window
+abbrev pub Inside : Limit → ℕ → ℕ → Type 0
+Inside limit.Free n i = Unit {0}
+Inside (limit.AtMost most) n i = Unit {0}
+Inside (limit.Exactly size) n i = Unit {0}
+Inside (limit.Window start) n i = (0x4000 ≤ start + i * 32) × (start + i * 32 + (min 32 (n - i * 32) - 1) ≤ 0x5FFF)
+Inside (limit.Command input) n i = Unit {0}
 
 -- ---- the writing calls
 
@@ -44,15 +46,15 @@ pub data WritesBy (config : Config) : WritePlan → Type 0 where
   write-security-keys : WritesBy config (macWrite config mac.SecurityKeys 28)
   write-authentication-key : WritesBy config (macWrite config mac.AuthenticationKey 16)
   write-charging-voltage-override : WritesBy config (macWrite config mac.ChargingVoltageOverride 10)
-  send-access-key : (lower upper : ℕ) → WritesBy config (accessKey config lower upper)
+  send-access-key : (lower upper : ℕ) → WritesBy config (accessKey config lower upper)  -- and unseal_fg
   write-mfg-info-c : (lower upper : ℕ) → WritesBy config (infoCWrite config lower upper)
   write-mfg-info : WritesBy config (infoWrite config)
   write-dataflash : (start : ℕ) → WritesBy config (flashWrite config start)
 
--- a call that waits has a frame left, at an address of the window, and shows it where the lengths of the start are lent
+-- a call that waits has a frame left, inside the window, and shows it where the lengths of the start are lent
 pub record WritesOn (plan : WritePlan) (payload : List ℕ) (w : ℕ) (call : WriteCall) : Type 0 where
   pub due : call .sent < frames.countOf (plan .frames) (length payload)
-  pub inside : Inside (plan .limit) (call .sent)
+  pub inside : Inside (plan .limit) (length payload) (call .sent)
   pub shows : (n : ℕ) × (writing.nextOf call payload w ≡ transfer.Write n)
 
 pub record WritesWithin (plan : WritePlan) (payload : List ℕ) (w : ℕ) (call : WriteCall) : Type 0 where
@@ -72,11 +74,14 @@ pub data ReadsBy (config : Config) (n : ℕ) : ReadPlan → Type 0 where
   read-mfg-info : ReadsBy config n (infoRead config n)
   read-dataflash : (start : ℕ) → ReadsBy config n (flashRead config start)
 
+-- a call that waits has a read left, or its head alone where it has none; it shows its head or a read, and the number asked is what is wanted and what stands around it
 pub record ReadsOn (plan : ReadPlan) (n w : ℕ) (call : ReadCall) : Type 0 where
-  pub due : call .heading ≡ false → call .received < parts.countOf (plan .reads) n
-  pub inside : Inside (plan .limit) (call .received)
+  pub due : (call .heading ≡ false) ⊎ (0 < parts.countOf (plan .reads) n) → call .received < parts.countOf (plan .reads) n
+  pub inside : Inside (plan .limit) n (call .received)
   pub shows-head : call .heading ≡ true → (m : ℕ) × (reading.nextOf call n w ≡ transfer.Write m)
-  pub shows-read : call .heading ≡ false → (command m : ℕ) × (reading.nextOf call n w ≡ transfer.Read command m)
+  pub shows-read : call .heading ≡ false → reading.nextOf call n w ≡ transfer.Read (reading.dueAsk call .command) (reply.countOf (reading.dueAsk call))
+  -- for every buffer that a machine has: 2^63 - 1 bytes
+  pub asks : n ≤ 9223372036854775807 → reply.countOf (reading.dueAsk call) ≡ reading.dueAsk call .wanted + reply.aroundOf (reading.dueAsk call)
 
 -- until it has ended well, the buffer past the whole blocks is as it was; with a single read, all of it
 pub record ReadsWithin (plan : ReadPlan) (buffer : List ℕ) (w : ℕ) (now : Reader) : Type 0 where

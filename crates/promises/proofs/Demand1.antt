@@ -5,11 +5,13 @@ use Rattle.answers.proofs.Writing.{writes}
 use Rattle.answers.proofs.Reading.{reads}
 use Rattle.answers.proofs.Sorts.{sort-w, sort-r, shows-w, shows-r}
 use Rattle.answers.proofs.Calls.{starts-as, limits}
+use Rattle.answers.proofs.Costs.{numbers, cost-w, delivers}
 use Rattle.answers.proofs.Within.{within}
 use Rattle.promises.specs.Demand1.{Demand1}
 
 pub demand1 : Demand1
 demand1 = record {
+  numbers = numbers;
   starts = starts;
   starts-so = starts-as;
   limits = limits;
@@ -17,6 +19,8 @@ demand1 = record {
   reads = reads;
   refused-w = sort-w;
   refused-r = sort-r;
+  costs-w = cost-w;
+  delivers = delivers;
   shown-w = shows-w;
   shown-r = shows-r;
   within = within;

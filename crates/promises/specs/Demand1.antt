@@ -16,11 +16,13 @@ use Rattle.writing.specs.Writing as writing
 use Rattle.writing.specs.declared.call.WriteCall.{WriteCall}
 use Rattle.reading.specs.Reading as reading
 use Rattle.reading.specs.declared.call.ReadCall.{ReadCall}
-use Rattle.answers.specs.Rows.{Starts, saidW, saidR, Writes, Reads, SortW, SortR, Shown}
+use Rattle.answers.specs.Rows.{Numbers, Starts, saidW, saidR, Writes, Reads, SortW, SortR, Shown, CostW, Delivers}
 use Rattle.answers.specs.Calls.{Admitted, Limits}
 use Rattle.answers.specs.Within.{Within}
 
 pub record Demand1 : Type 0 where
+  -- the rows' numbers and details
+  pub numbers : Numbers
   -- at the start, for every limit; and which limit each call has
   pub starts : (l : Limit) (n w : ℕ) (a : Answer) → (admitted l n w ≡ phase.Ended a) ↔ Starts l n w a
   pub starts-so : Admitted
@@ -33,6 +35,9 @@ pub record Demand1 : Type 0 where
   pub refused-w : (call : WriteCall) (o : Outcome) (r n w : ℕ) → SortW call (writing.reportOf call o r n w)
   pub refused-r : (call : ReadCall) (o : Outcome) (bytes buffer : List ℕ) (w : ℕ)
       → SortR call buffer (reading.bufferAfter call o bytes buffer w) (reading.reportOf call o bytes (length buffer) w)
+  -- what a report costs: retries and waits; and what it leaves in the caller's buffer
+  pub costs-w : (call : WriteCall) (o : Outcome) (r n w : ℕ) → CostW call o (writing.reportOf call o r n w)
+  pub delivers : (call : ReadCall) (buffer : List ℕ) (o : Outcome) (bytes : List ℕ) (w : ℕ) → Delivers call o bytes buffer (reading.bufferAfter call o bytes buffer w)
   -- what is shown, and when the work buffer is spared
   pub shown-w : (call : WriteCall) (payload work : List ℕ)
       → Shown (call .phase) (call .task .lent) (length payload) (length work) work (writing.workAfter call payload work) (writing.nextOf call payload (length work))
