@@ -34,8 +34,8 @@ use Rattle.promises.specs.Demand3.{World, began, step, run, Accepted}
 use Rattle.promises.specs.Courses.{eventIn, eventsIn, beside, endIn, left-over, OnCourses}
 use Rattle.promises.proofs.Window.{within}
 use Rattle.promises.proofs.Frames.{takes-block, block-points}
-use Rattle.promises.proofs.Machine.{worldAt, frameOf, shows, lays, hands-out, laid-long, step-sent, step-ended}
-use Rattle.promises.proofs.Demand3.{Going, going-step, going, run-empty, stopped}
+use Rattle.promises.proofs.Machine.{worldAt, frameOf, shows-block, lays, hands-out, laid-long, step-sent, step-ended}
+use Rattle.promises.proofs.Demand3.{ToldAt, Going, going-step, going, run-empty, stopped}
 
 -- what the gauge does to the flash is what the demand supposes
 same-flash : (e : ModelEvent) (frame flash : List ℕ) → flashAfter e frame flash ≡ demand.flashAfter (eventIn e) frame flash
@@ -85,14 +85,14 @@ module _ (config : Config) (address : ℕ) (payload : List ℕ) (n : ℕ) (gauge
         takes-block (config .«pec_write») (address + i * 32) (blockOf 32 i payload) (omega arith) (omega arith) (omega arith) (omega arith) (omega arith) in
         let left : pointed (frameOf config address payload n i) gauge ≡ gauge =
         block-points (config .«pec_write») (address + i * 32) (blockOf 32 i payload) (omega arith) (omega arith) (omega arith) (omega arith) (omega arith) gauge in
-        sym (at-write _ _ _ _ _ _ _ refl (shows config address payload n i b t work long room)
+        sym (at-write _ _ _ _ _ _ _ refl (shows-block config address payload n i b t work long room)
         (rw (lays config address payload n i b t work long room, hands-out config address payload n i b t work long room, laid-long config address payload n i b t work long room, same-outcome e (frameOf config address payload n i) taken, same-gauge e (frameOf config address payload n i) gauge left, same-flash)
         (ap (beside gauge) (step-sent config address payload n i b t work long room (eventIn e) flash))))
 
 -- a transfer of the model is a transfer of the demand
 module _ (config : Config) (address : ℕ) (payload old : List ℕ) (n : ℕ) (room : 39 ≤ n) (whole : length old ≡ 8192)
     (low : 0x4000 ≤ address) (high : address + length payload ≤ 0x6000) (gauge : Gauge) where
-  model-at : (e : ModelEvent) (p : Phase) (i : ℕ) (b : Budget) (t : Tally) (work flash : List ℕ) → length work ≡ n → demand.Told 32 (length payload) i p
+  model-at : (e : ModelEvent) (p : Phase) (i : ℕ) (b : Budget) (t : Tally) (work flash : List ℕ) → length work ≡ n → ToldAt 32 (length payload) i p
       → stepOf payload e (beside gauge (worldAt config address payload n p i b t work flash))
       ≡ beside gauge (step payload (eventIn e) (worldAt config address payload n p i b t work flash))
   unfolding driveOf

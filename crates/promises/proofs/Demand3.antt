@@ -8,7 +8,6 @@ use mathlib.Core.List.{List, [], _∷_}
 use native.Mathlib.Omega.{arith}
 use native.Mathlib.Nat.{add-zero}
 use lib.Dec.{eqb, leb}
-use lib.Seq.{take-all}
 use lib.ListN.{length, take, drop, length-take, length-drop, replicate}
 use borrow.Author.Tests.{eqb-true, eqb-false, leb-true, leb-false, ne-eqb, eq-eqb, le-ltb}
 use Rattle.protocol.specs.Pick.{if_then_else_}
@@ -18,7 +17,7 @@ use Rattle.protocol.specs.Window.{inWindow}
 use Rattle.protocol.specs.declared.common.Config.{Config}
 use Rattle.protocol.specs.declared.error.Answer.{Answer}
 use Rattle.protocol.specs.declared.error.Answer.the-variants as answer
-use Rattle.engine.specs.Pick.{case_retry_spent_}
+use Rattle.engine.specs.Pick.{case_waiting_ended_, case_retry_spent_}
 use Rattle.engine.specs.Bus.{phaseAfter}
 use Rattle.engine.specs.Budget.{failed as failedOf, nothing, waited}
 use Rattle.engine.specs.Limit.{windowed, measured, admitted}
@@ -26,26 +25,34 @@ use Rattle.engine.specs.declared.budget.Budget.{Budget}
 use Rattle.engine.specs.declared.budget.Tally.{Tally}
 use Rattle.engine.specs.declared.bus.Phase.{Phase}
 use Rattle.engine.specs.declared.bus.Phase.the-variants as phase
+use Rattle.engine.specs.declared.bus.Transfer.{Transfer}
+use Rattle.engine.specs.declared.bus.Transfer.the-variants as transfer
 use Rattle.writing.specs.Frames.{isFlash, blockBytes}
-use Rattle.writing.specs.Writing.{planOf, startOf, gaveUp, retryOf, endOf, failOf}
+use Rattle.writing.specs.Writing.{planOf, startOf, nextOf, gaveUp, retryOf, endOf, failOf}
+use Rattle.writing.specs.declared.call.WriteCall.{WriteCall}
 use Rattle.r5.specs.Plans.{flashWrite}
 use Rattle.model_gauge.specs.Gauge.{stored}
-use Rattle.promises.specs.Flash.{store, blockOf, upto, Overlaid}
-use Rattle.promises.specs.Demand3.{Cause, busError, timedOut, Event, acknowledged, failed, unheard, World, began, step, run, placeOf, clean, Answered, all-acked, some-acked, none-acked, Told, Promised, countOf, Goes, ended-well, went-on, started-over, Accepted, Demand3}
+use Rattle.promises.specs.Flash.{blockOf, upto, Overlaid}
+use Rattle.promises.specs.Demand3.{Cause, busError, timedOut, Event, acknowledged, failed, unheard, World, began, shows, step, run, placeOf, clean, Answered, all-acked, some-acked, none-acked, Told, Promised, EndedWell, countOf, Goes, ended-well, went-on, started-over, Accepted, Demand3}
 use Rattle.promises.proofs.Overlay.{overlaid-long, overlaid-none, landed, overlaid-all, overlaid-rest, in-bytes, from-bytes}
-use Rattle.promises.proofs.Store.{store-nothing}
-use Rattle.promises.proofs.Window.{inside, within}
+use Rattle.promises.proofs.Store.{store-nothing, store-empty}
+use Rattle.promises.proofs.Window.{within, window-rest}
 use Rattle.promises.proofs.Frames.{stores-block}
-use Rattle.promises.proofs.Machine.{whyOf, worldAt, callAt, frameOf, laid-long, step-acknowledged, step-failed, step-unheard, step-ended}
+use Rattle.promises.proofs.Machine.{whyOf, worldAt, callAt, frameOf, shows-block, shows-ended, laid-long, step-acknowledged, step-failed, step-unheard, step-ended}
 
 -- ---- what the phases say
 
+-- a call that waits has a block to send
+abbrev pub ToldAt : ℕ → ℕ → ℕ → Phase → Type 0
+ToldAt k n i phase.Waiting = i * k < n
+ToldAt k n i (phase.Ended a) = Answered k n i a
+
 -- once all blocks of n bytes are acknowledged the call is done, and before that it waits
-told-after : (n i : ℕ) → Told 32 n i (phaseAfter (blocksOf n) i)
+told-after : (n i : ℕ) → ToldAt 32 n i (phaseAfter (blocksOf n) i)
 unfolding phaseAfter if_then_else_
 told-after n i = by (leb (blocksOf n) i) refl
   where
-    by : (t : Bool) → leb (blocksOf n) i ≡ t → Told 32 n i (if t then phase.Ended answer.Done else phase.Waiting)
+    by : (t : Bool) → leb (blocksOf n) i ≡ t → ToldAt 32 n i (if t then phase.Ended answer.Done else phase.Waiting)
     by true t = let h : blocksOf n ≤ i = leb-true _ _ t in all-acked refl (omega arith)
     by false t = let h : i < blocksOf n = leb-false _ _ t in omega arith
 
@@ -78,7 +85,7 @@ module _ (config : Config) (address : ℕ) (payload old : List ℕ) (n : ℕ) (r
     pub is : w ≡ worldAt config address payload n at i b t work flash
     pub long : length work ≡ n
     pub holds : Overlaid 32 (placeOf address) payload old i flash
-    pub told : Told 32 (length payload) i at
+    pub told : ToldAt 32 (length payload) i at
 
   -- the block that is due, stored, is the next one over the old flash
   lands : (i : ℕ) (flash : List ℕ) → i * 32 < length payload → Overlaid 32 (placeOf address) payload old i flash
@@ -103,7 +110,7 @@ module _ (config : Config) (address : ℕ) (payload old : List ℕ) (n : ℕ) (r
       by false z = rw z (record { at = phase.Waiting; i = i; b = record { left = b .left - 1 }; t = waited t; work = work; flash = flash; is = refl; long = long; holds = v; told = h })
 
   going-at : (e : Event) (at : Phase) (i : ℕ) (b : Budget) (t : Tally) (work flash : List ℕ) → length work ≡ n
-      → Overlaid 32 (placeOf address) payload old i flash → Told 32 (length payload) i at
+      → Overlaid 32 (placeOf address) payload old i flash → ToldAt 32 (length payload) i at
       → Going (step payload e (worldAt config address payload n at i b t work flash))
   going-at e (phase.Ended a) i b t work flash long v s =
       rw (step-ended config address payload n e a i b t work flash)
@@ -137,11 +144,21 @@ module _ (config : Config) (address : ℕ) (payload old : List ℕ) (n : ℕ) (r
   going-run [] w g = g
   going-run (e ∷ es) w g = going-run es (step payload e w) (going-step e w g)
 
+  -- what is shown
+  shown-told : (p : Phase) (i : ℕ) (b : Budget) (t : Tally) (work flash : List ℕ) → length work ≡ n → ToldAt 32 (length payload) i p
+      → Told 32 (length payload) i (shows payload (worldAt config address payload n p i b t work flash))
+  shown-told phase.Waiting i b t work flash long s = rw (shows-block config address payload n i b t work long room) s
+  shown-told (phase.Ended a) i b t work flash long s = rw (shows-ended config address payload n a i b t (length work)) s
+
   -- what a write that keeps it is promised
   pub going-promised : (w : World) → Going w → Promised address payload old w
   going-promised w g =
       rw (g .is)
-      (record { overlay = g .holds; bytes = in-bytes 32 (placeOf address) payload old (omega arith) (g .i) (g .flash) (g .holds); told = g .told })
+      (record {
+        overlay = g .holds;
+        bytes = in-bytes 32 (placeOf address) payload old (omega arith) (g .i) (g .flash) (g .holds);
+        told = shown-told (g .at) (g .i) (g .b) (g .t) (g .work) (g .flash) (g .long) (g .told);
+      })
 
 -- ---- the start
 
@@ -181,7 +198,7 @@ promised-empty config address payload work flash a none es =
         before = λ j l. refl;
         past = λ j l. refl;
       };
-      told = all-acked refl (omega arith);
+      told = rw (shows-ended config address payload (length work) answer.Done 0 (record { left = config .«max_bus_retries» }) nothing (length work)) (all-acked refl (omega arith));
     })
 
 module _ (config : Config) (address : ℕ) (payload work flash : List ℕ) (a : Accepted address payload work flash) (some : 0 < length payload) where
@@ -222,81 +239,90 @@ stopped config address payload work flash a es = by (eqb (length payload) 0) ref
 
 -- ---- going on
 
--- the count that is given is of acknowledged bytes, and below the length
-count-acked : (n i : ℕ) (a : Answer) → 0 < n → Answered 32 n i a → (countOf a ≤ i * 32) × (countOf a < n)
+-- the count that is given is of acknowledged bytes
+count-acked : (n i : ℕ) (a : Answer) → Answered 32 n i a → (countOf a ≤ i * 32) × (countOf a ≤ n)
 unfolding if_then_else_
-count-acked n i a some (all-acked z h) = rw z (omega arith, some)
-count-acked n i a some (some-acked z e p h) = rw (z, e) (omega arith, h)
-count-acked n i a some (none-acked (inl z) e) = rw z (omega arith, some)
-count-acked n i a some (none-acked (inr z) e) = rw z (omega arith, some)
+count-acked n i a (all-acked z h) = rw z (omega arith, omega arith)
+count-acked n i a (some-acked z e p h) = rw (z, e) (omega arith, omega arith)
+count-acked n i a (none-acked (inl z) e) = rw z (omega arith, omega arith)
+count-acked n i a (none-acked (inr z) e) = rw z (omega arith, omega arith)
 
--- a call that says done has had every block acknowledged
-done-all : (n i : ℕ) → Answered 32 n i answer.Done → n ≤ i * 32
-done-all n i (all-acked z h) = h
-done-all n i (some-acked z e p h) = absurd (omega arith)
-done-all n i (none-acked (inl z) e) = absurd (omega arith)
-done-all n i (none-acked (inr z) e) = absurd (omega arith)
+-- a call that ended well has had every block acknowledged
+pub done-all : (n i : ℕ) (a : Answer) → numberOf a ≡ 0 → Answered 32 n i a → n ≤ i * 32
+done-all n i a w (all-acked z h) = h
+done-all n i a w (some-acked z e p h) = absurd (omega arith)
+done-all n i a w (none-acked (inl z) e) = absurd (omega arith)
+done-all n i a w (none-acked (inr z) e) = absurd (omega arith)
 
--- of an empty payload nothing is ever stored
-goes-empty : {address : ℕ} {payload flash after : List ℕ} → inWindow address (length payload) ≡ true → length flash ≡ 8192 → length payload ≡ 0
-    → Goes address payload flash after → after ≡ flash
-unfolding if_then_else_
-goes-empty {address} {payload} {flash} win whole none (ended-well config work es room e) =
-    ap (λ (w : World). w .flash) (run-empty config address payload work flash (record { window = win; room = room; whole = whole }) none es)
-goes-empty {address} {payload} {flash} {after} win whole none (went-on config work es a room e g) =
-    let acc : Accepted address payload work flash = record { window = win; room = room; whole = whole } in
-    let r = run-empty config address payload work flash acc none es in
-    let same : run payload es (began config address payload work flash) .flash ≡ flash = ap (λ (w : World). w .flash) r in
-    let p : phase.Ended answer.Done ≡ phase.Ended a = sym (ap (λ (w : World). w .call .phase) r) ∙ e in
-    let q : answer.Done ≡ a = cc in
-    let c : countOf a ≡ 0 = rw (← q) in
-    goes-empty {address = address + countOf a} {payload = drop (countOf a) payload} (rw c (rw (add-zero address) win)) (rw same whole) (rw c none) g ∙ same
-goes-empty {address} {payload} {flash} {after} win whole none (started-over config work es room e g) =
-    let acc : Accepted address payload work flash = record { window = win; room = room; whole = whole } in
-    let r = run-empty config address payload work flash acc none es in
-    let same : run payload es (began config address payload work flash) .flash ≡ flash = ap (λ (w : World). w .flash) r in
-    goes-empty {address = address} {payload = payload} win (rw same whole) none g ∙ same
+well-all : (n i : ℕ) (t : Transfer) → EndedWell t → Told 32 n i t → n ≤ i * 32
+well-all n i (transfer.Write count) w s = absurd w
+well-all n i (transfer.Read command count) w s = absurd w
+well-all n i (transfer.Refused a) w s = absurd w
+well-all n i (transfer.Ended a) w s = done-all n i a w s
+
+-- over what a stopped write left, a write of the bytes past any part of what was acknowledged leaves what one clean write would
+pub clean-rest : (address : ℕ) (payload flash : List ℕ) → inWindow address (length payload) ≡ true → length flash ≡ 8192
+    → (i b : ℕ) (now : List ℕ) → b ≤ i * 32 → b ≤ length payload → Overlaid 32 (placeOf address) payload flash i now
+    → clean (address + b) (drop b payload) now ≡ clean address payload flash
+clean-rest address payload flash win whole i b now h l v = by (eqb (length payload) 0) refl
+  where
+    same : length payload ≡ 0 → Overlaid 32 (placeOf address) payload flash i now → now ≡ flash
+    same none (inl e) = e ∙ store-empty flash (placeOf address) (take (i * 32) payload) (length-take (i * 32) payload ∙ omega arith)
+    same none (inr e) = e ∙ store-empty flash (placeOf address) (take (suc i * 32) payload) (length-take (suc i * 32) payload ∙ omega arith)
+
+    by : (t : Bool) → eqb (length payload) 0 ≡ t → clean (address + b) (drop b payload) now ≡ clean address payload flash
+    by true t =
+        let none : length payload ≡ 0 = eqb-true _ _ t in
+        store-empty now (placeOf (address + b)) (drop b payload) (length-drop b payload ∙ omega arith)
+        ∙ same none v ∙ sym (store-empty flash (placeOf address) payload none)
+    by false t =
+        let some : length payload ≡ 0 → ⊥ = eqb-false _ _ t in
+        let w = within address (length payload) win (omega arith) in
+        let low : 0x4000 ≤ address = w .0 in
+        let high : address + length payload ≤ 0x6000 = w .1 in
+        let place : placeOf (address + b) ≡ placeOf address + b = omega arith in
+        rw place (overlaid-rest 32 (placeOf address) payload flash (omega arith) i b now h l v)
+
+-- the next go is inside the window, and a clean write of it is a clean write of all
+pub rest-goes : (address : ℕ) (payload flash : List ℕ) → inWindow address (length payload) ≡ true → length flash ≡ 8192
+    → (i : ℕ) (a : Answer) (now : List ℕ) → Answered 32 (length payload) i a → Overlaid 32 (placeOf address) payload flash i now
+    → (inWindow (address + countOf a) (length (drop (countOf a) payload)) ≡ true)
+    × (clean (address + countOf a) (drop (countOf a) payload) now ≡ clean address payload flash)
+rest-goes address payload flash win whole i a now told v =
+    let small = count-acked (length payload) i a told in (
+      rw (length-drop (countOf a) payload) (window-rest address (length payload) (countOf a) win (small .1)),
+      clean-rest address payload flash win whole i (countOf a) now (small .0) (small .1) v,
+    )
+
+-- a write of all of it again
+pub over-goes : (address : ℕ) (payload flash : List ℕ) → inWindow address (length payload) ≡ true → length flash ≡ 8192
+    → (i : ℕ) (now : List ℕ) → Overlaid 32 (placeOf address) payload flash i now → clean address payload now ≡ clean address payload flash
+over-goes address payload flash win whole i now v =
+    rw (add-zero address) at (clean-rest address payload flash win whole i 0 now (omega arith) (omega arith) v)
 
 -- each go leaves less to do, and the last one leaves what one clean write would
-goes-some : {address : ℕ} {payload flash after : List ℕ} → 0x4000 ≤ address → address + length payload ≤ 0x6000 → 0 < length payload → length flash ≡ 8192
+goes : {address : ℕ} {payload flash after : List ℕ} → inWindow address (length payload) ≡ true → length flash ≡ 8192
     → Goes address payload flash after → after ≡ clean address payload flash
-goes-some {address} {payload} {flash} low high some whole (ended-well config work es room e) =
-    let acc : Accepted address payload work flash = record { window = inside address (length payload) low high; room = room; whole = whole } in
-    let s = stopped config address payload work flash acc es in
-    let told : Answered 32 (length payload) (run payload es (began config address payload work flash) .acked) answer.Done = rw e at (s .told) in
-    overlaid-all 32 (placeOf address) payload flash (run payload es (began config address payload work flash) .acked) _ (done-all _ _ told) (s .overlay)
-goes-some {address} {payload} {flash} {after} low high some whole (went-on config work es a room e g) =
-    let acc : Accepted address payload work flash = record { window = inside address (length payload) low high; room = room; whole = whole } in
+goes {address} {payload} {flash} win whole (ended-well config work es room e) =
     let w : World = run payload es (began config address payload work flash) in
-    let s : Promised address payload flash w = stopped config address payload work flash acc es in
+    let s : Promised address payload flash w = stopped config address payload work flash (record { window = win; room = room; whole = whole }) es in
+    overlaid-all 32 (placeOf address) payload flash (w .acked) (w .flash) (well-all (length payload) (w .acked) (shows payload w) e (s .told)) (s .overlay)
+goes {address} {payload} {flash} {after} win whole (went-on config work es a room e g) =
+    let w : World = run payload es (began config address payload work flash) in
+    let s : Promised address payload flash w = stopped config address payload work flash (record { window = win; room = room; whole = whole }) es in
     let told : Answered 32 (length payload) (w .acked) a = rw e at (s .told) in
-    let small = count-acked (length payload) (w .acked) a some told in
-    let less : countOf a < length payload = small .1 in
-    let left : length (drop (countOf a) payload) ≡ length payload - countOf a = length-drop (countOf a) payload in
-    let place : placeOf (address + countOf a) ≡ placeOf address + countOf a = omega arith in
-    goes-some {address = address + countOf a} {payload = drop (countOf a) payload} {flash = w .flash} (omega arith) (omega arith) (omega arith) (s .bytes .size ∙ whole) g
-    ∙ rw place (overlaid-rest 32 (placeOf address) payload flash (omega arith) (w .acked) (countOf a) (w .flash) (small .0) (omega arith) (s .overlay))
-goes-some {address} {payload} {flash} {after} low high some whole (started-over config work es room e g) =
-    let acc : Accepted address payload work flash = record { window = inside address (length payload) low high; room = room; whole = whole } in
+    let r = rest-goes address payload flash win whole (w .acked) a (w .flash) told (s .overlay) in
+    goes {address = address + countOf a} {payload = drop (countOf a) payload} {flash = w .flash} (r .0) (s .bytes .size ∙ whole) g ∙ r .1
+goes {address} {payload} {flash} {after} win whole (started-over config work es n room e g) =
     let w : World = run payload es (began config address payload work flash) in
-    let s : Promised address payload flash w = stopped config address payload work flash acc es in
-    goes-some {address = address} {payload = payload} {flash = w .flash} low high some (s .bytes .size ∙ whole) g
-    ∙ rw (add-zero (placeOf address)) at (overlaid-rest 32 (placeOf address) payload flash (omega arith) (w .acked) 0 (w .flash) (omega arith) (omega arith) (s .overlay))
+    let s : Promised address payload flash w = stopped config address payload work flash (record { window = win; room = room; whole = whole }) es in
+    goes {address = address} {payload = payload} {flash = w .flash} win (s .bytes .size ∙ whole) g
+    ∙ over-goes address payload flash win whole (w .acked) (w .flash) (s .overlay)
 
 -- GO ON, any number of times
 pub resumed : (address : ℕ) (payload flash after : List ℕ) → inWindow address (length payload) ≡ true → length flash ≡ 8192
     → Goes address payload flash after → after ≡ clean address payload flash
-resumed address payload flash after win whole g = by (eqb (length payload) 0) refl
-  where
-    by : (t : Bool) → eqb (length payload) 0 ≡ t → after ≡ clean address payload flash
-    by true t =
-        let none : length payload ≡ 0 = eqb-true _ _ t in
-        let short : take 0 payload ≡ payload = take-all 0 payload (omega arith) in
-        goes-empty win whole none g ∙ sym (store-nothing flash (placeOf address)) ∙ ap (store flash (placeOf address)) short
-    by false t =
-        let some : length payload ≡ 0 → ⊥ = eqb-false _ _ t in
-        let w = within address (length payload) win (omega arith) in
-        goes-some (w .0) (w .1) (omega arith) whole g
+resumed address payload flash after win whole g = goes win whole g
 
 -- ---- the clean write
 
@@ -322,19 +348,25 @@ module _ (config : Config) (address : ℕ) (payload : List ℕ) (n : ℕ) (room 
           ap (λ (w : World). w .call .phase) (run-ended config address payload n (replicate m acknowledged) answer.Done (suc i) _ t _ _)
       by false z more = more (leb-false _ _ z)
 
+shows-done : (call : WriteCall) (payload : List ℕ) (w : ℕ) → call .phase ≡ phase.Ended answer.Done → nextOf call payload w ≡ transfer.Ended answer.Done
+unfolding nextOf case_waiting_ended_
+shows-done call payload w e = rw e
+
 -- and that is what a write leaves whose every transfer is acknowledged
 pub unbroken : (config : Config) (address : ℕ) (payload work flash : List ℕ) → Accepted address payload work flash
     → (n : ℕ) → length payload ≤ n * 32
-    → (run payload (replicate n acknowledged) (began config address payload work flash) .call .phase ≡ phase.Ended answer.Done)
+    → EndedWell (shows payload (run payload (replicate n acknowledged) (began config address payload work flash)))
     × (run payload (replicate n acknowledged) (began config address payload work flash) .flash ≡ clean address payload flash)
 unfolding if_then_else_
 unbroken config address payload work flash a n l =
-    let e = ended (eqb (length payload) 0) refl in
+    let w : World = run payload (replicate n acknowledged) (began config address payload work flash) in
+    let shown : shows payload w ≡ transfer.Ended answer.Done = shows-done (w .call) payload (length (w .work)) (done-at (eqb (length payload) 0) refl) in
+    let e : EndedWell (shows payload w) = rw shown refl in
     (e, resumed address payload flash (run payload (replicate n acknowledged) (began config address payload work flash) .flash) (a .window) (a .whole) (ended-well config work (replicate n acknowledged) (a .room) e))
   where
-    ended : (t : Bool) → eqb (length payload) 0 ≡ t → run payload (replicate n acknowledged) (began config address payload work flash) .call .phase ≡ phase.Ended answer.Done
-    ended true t = ap (λ (w : World). w .call .phase) (run-empty config address payload work flash a (eqb-true _ _ t) (replicate n acknowledged))
-    ended false t =
+    done-at : (t : Bool) → eqb (length payload) 0 ≡ t → run payload (replicate n acknowledged) (began config address payload work flash) .call .phase ≡ phase.Ended answer.Done
+    done-at true t = ap (λ (w : World). w .call .phase) (run-empty config address payload work flash a (eqb-true _ _ t) (replicate n acknowledged))
+    done-at false t =
         let some : length payload ≡ 0 → ⊥ = eqb-false _ _ t in
         let w = within address (length payload) (a .window) (omega arith) in
         rw (began-is config address payload work flash a false t)
