@@ -8,7 +8,7 @@ use mathlib.Core.List.{List, [], _∷_}
 use native.Mathlib.Omega.{arith}
 use native.Mathlib.Nat.{add-zero}
 use lib.Dec.{eqb, leb}
-use lib.ListN.{length, take, drop, length-take, length-drop, replicate}
+use lib.ListN.{length, drop, length-take, length-drop, replicate}
 use borrow.Author.Tests.{eqb-true, eqb-false, leb-true, leb-false, ne-eqb, eq-eqb, le-ltb}
 use Rattle.protocol.specs.Pick.{if_then_else_}
 use Rattle.protocol.specs.Bytes.{over, blocksOf}
@@ -32,11 +32,12 @@ use Rattle.writing.specs.Writing.{planOf, startOf, nextOf, gaveUp, retryOf, end
 use Rattle.writing.specs.declared.call.WriteCall.{WriteCall}
 use Rattle.r5.specs.Plans.{flashWrite}
 use Rattle.model_gauge.specs.Gauge.{stored}
-use Rattle.promises.specs.Flash.{blockOf, upto, Overlaid}
-use Rattle.promises.specs.Demand3.{Cause, busError, timedOut, Event, acknowledged, failed, unheard, World, began, shows, step, run, placeOf, clean, Answered, all-acked, some-acked, none-acked, Told, Promised, EndedWell, countOf, Goes, ended-well, went-on, started-over, Accepted, Demand3}
-use Rattle.promises.proofs.Overlay.{overlaid-long, overlaid-none, landed, overlaid-all, overlaid-rest, in-bytes, from-bytes}
+use Rattle.promises.specs.Flash.{placeOf, blockOf, upto, Overlaid}
+use Rattle.promises.specs.Demand3.{Cause, busError, timedOut, Event, acknowledged, failed, unheard, World, began, shows, step, run, clean, Answered, all-acked, some-acked, none-acked, Told, Promised, EndedWell, countOf, Goes, ended-well, went-on, started-over, Accepted, Demand3}
+use Rattle.promises.proofs.Overlay.{overlaid-long, overlaid-none, landed, overlaid-all, overlaid-rest}
 use Rattle.promises.proofs.Store.{store-nothing, store-empty}
 use Rattle.promises.proofs.Window.{within, window-rest}
+use Rattle.promises.proofs.Bytes.{nothing-over, agree}
 use Rattle.promises.proofs.Frames.{stores-block}
 use Rattle.promises.proofs.Machine.{whyOf, worldAt, callAt, frameOf, shows-block, shows-ended, laid-long, step-acknowledged, step-failed, step-unheard, step-ended}
 
@@ -68,6 +69,11 @@ told-gave-up n i c h = by c (eqb i 0) refl
     by : (c : Cause) (t : Bool) → eqb i 0 ≡ t → Answered 32 n i (if t then whyOf c else answer.PartialDataFlashWrite (i * 32))
     by c true t = none-acked (cause c) (eqb-true i 0 t)
     by c false t = let some : i ≡ 0 → ⊥ = eqb-false i 0 t in some-acked refl refl (omega arith) h
+
+-- what is promised of a world, but for the bytes
+abbrev Kept : ℕ → List ℕ → List ℕ → World → Type 0
+Kept address payload flash w =
+    Overlaid 32 (placeOf address) payload flash (w .acked) (w .flash) × Told 32 (length payload) (w .acked) (shows payload w)
 
 module _ (config : Config) (address : ℕ) (payload old : List ℕ) (n : ℕ) (room : 39 ≤ n) (whole : length old ≡ 8192)
     (low : 0x4000 ≤ address) (high : address + length payload ≤ 0x6000) where
@@ -151,14 +157,8 @@ module _ (config : Config) (address : ℕ) (payload old : List ℕ) (n : ℕ) (r
   shown-told (phase.Ended a) i b t work flash long s = rw (shows-ended config address payload n a i b t (length work)) s
 
   -- what a write that keeps it is promised
-  pub going-promised : (w : World) → Going w → Promised address payload old w
-  going-promised w g =
-      rw (g .is)
-      (record {
-        overlay = g .holds;
-        bytes = in-bytes 32 (placeOf address) payload old (omega arith) (g .i) (g .flash) (g .holds);
-        told = shown-told (g .at) (g .i) (g .b) (g .t) (g .work) (g .flash) (g .long) (g .told);
-      })
+  pub going-kept : (w : World) → Going w → Kept address payload old w
+  going-kept w g = rw (g .is) (g .holds, shown-told (g .at) (g .i) (g .b) (g .t) (g .work) (g .flash) (g .long) (g .told))
 
 -- ---- the start
 
@@ -185,21 +185,14 @@ unfolding if_then_else_
 run-empty config address payload work flash a none es =
     rw (began-is config address payload work flash a true (eq-eqb (length payload) 0 none)) (run-ended config address payload (length work) es answer.Done 0 _ _ work flash)
 
-promised-empty : (config : Config) (address : ℕ) (payload work flash : List ℕ) → Accepted address payload work flash → length payload ≡ 0 → (es : List Event)
-    → Promised address payload flash (run payload es (began config address payload work flash))
-promised-empty config address payload work flash a none es =
-    rw (run-empty config address payload work flash a none es)
-    (record {
-      overlay = inl (sym (store-nothing flash (placeOf address)));
-      bytes = record {
-        size = refl;
-        acked = λ j l m. absurd (omega arith);
-        next = inl (λ j lo hi m. absurd (omega arith));
-        before = λ j l. refl;
-        past = λ j l. refl;
-      };
-      told = rw (shows-ended config address payload (length work) answer.Done 0 (record { left = config .«max_bus_retries» }) nothing (length work)) (all-acked refl (omega arith));
-    })
+kept-empty : (config : Config) (address : ℕ) (payload work flash : List ℕ) → Accepted address payload work flash → length payload ≡ 0 → (es : List Event)
+    → Kept address payload flash (run payload es (began config address payload work flash))
+kept-empty config address payload work flash a none es =
+    rw (run-empty config address payload work flash a none es) (
+      inl (sym (store-nothing flash (placeOf address))),
+      rw (shows-ended config address payload (length work) answer.Done 0 (record { left = config .«max_bus_retries» }) nothing (length work))
+          (all-acked refl (omega arith)),
+    )
 
 module _ (config : Config) (address : ℕ) (payload work flash : List ℕ) (a : Accepted address payload work flash) (some : 0 < length payload) where
   -- a write that is not empty keeps what every event keeps
@@ -223,19 +216,21 @@ module _ (config : Config) (address : ℕ) (payload work flash : List ℕ) (a : 
         told = omega arith;
       })
 
-  promised-some : (es : List Event) → Promised address payload flash (run payload es (began config address payload work flash))
-  promised-some es =
+  kept-some : (es : List Event) → Kept address payload flash (run payload es (began config address payload work flash))
+  kept-some es =
       let w = within address (length payload) (a .window) some in
-      going-promised config address payload flash (length work) (a .room) (a .whole) (w .0) (w .1) _ (going (w .0) (w .1) es)
+      going-kept config address payload flash (length work) (a .room) (a .whole) (w .0) (w .1) _ (going (w .0) (w .1) es)
 
 -- STOP ANYWHERE
 pub stopped : (config : Config) (address : ℕ) (payload work flash : List ℕ) → Accepted address payload work flash → (es : List Event)
     → Promised address payload flash (run payload es (began config address payload work flash))
-stopped config address payload work flash a es = by (eqb (length payload) 0) refl
+stopped config address payload work flash a es =
+    let k = by (eqb (length payload) 0) refl in
+    record { overlay = k .0; bytes = agree 32 address payload flash (a .window) (a .whole) _ _ .0 (k .0); told = k .1 }
   where
-    by : (t : Bool) → eqb (length payload) 0 ≡ t → Promised address payload flash (run payload es (began config address payload work flash))
-    by true t = promised-empty config address payload work flash a (eqb-true _ _ t) es
-    by false t = let some : length payload ≡ 0 → ⊥ = eqb-false _ _ t in promised-some config address payload work flash a (omega arith) es
+    by : (t : Bool) → eqb (length payload) 0 ≡ t → Kept address payload flash (run payload es (began config address payload work flash))
+    by true t = kept-empty config address payload work flash a (eqb-true _ _ t) es
+    by false t = let some : length payload ≡ 0 → ⊥ = eqb-false _ _ t in kept-some config address payload work flash a (omega arith) es
 
 -- ---- going on
 
@@ -266,15 +261,11 @@ pub clean-rest : (address : ℕ) (payload flash : List ℕ) → inWindow address
     → clean (address + b) (drop b payload) now ≡ clean address payload flash
 clean-rest address payload flash win whole i b now h l v = by (eqb (length payload) 0) refl
   where
-    same : length payload ≡ 0 → Overlaid 32 (placeOf address) payload flash i now → now ≡ flash
-    same none (inl e) = e ∙ store-empty flash (placeOf address) (take (i * 32) payload) (length-take (i * 32) payload ∙ omega arith)
-    same none (inr e) = e ∙ store-empty flash (placeOf address) (take (suc i * 32) payload) (length-take (suc i * 32) payload ∙ omega arith)
-
     by : (t : Bool) → eqb (length payload) 0 ≡ t → clean (address + b) (drop b payload) now ≡ clean address payload flash
     by true t =
         let none : length payload ≡ 0 = eqb-true _ _ t in
         store-empty now (placeOf (address + b)) (drop b payload) (length-drop b payload ∙ omega arith)
-        ∙ same none v ∙ sym (store-empty flash (placeOf address) payload none)
+        ∙ nothing-over 32 address payload flash none whole i now v ∙ sym (store-empty flash (placeOf address) payload none)
     by false t =
         let some : length payload ≡ 0 → ⊥ = eqb-false _ _ t in
         let w = within address (length payload) win (omega arith) in
@@ -379,5 +370,5 @@ demand3 =
       stopped = stopped;
       resumed = resumed;
       unbroken = unbroken;
-      agree = λ k at payload flash fits i now. (in-bytes k at payload flash fits i now, from-bytes k at payload flash fits i now);
+      agree = agree;
     }

@@ -3,6 +3,7 @@ pub mod Demand2
 pub mod Store
 pub mod Overlay
 pub mod Window
+pub mod Bytes
 pub mod Frames
 pub mod Machine
 pub mod Demand3

@@ -43,8 +43,7 @@ use Rattle.model_gauge.specs.declared.gauge.Gauge.{Gauge}
 use Rattle.courses.specs.Pick.{case_write_read_none_}
 use Rattle.courses.specs.ReadRun.{World, world, takenOf, reportedOf, sentOf, sentBuffer, askedOf, askedBuffer, stepOf, driveOf}
 use Rattle.courses.proofs.Cases.{at-write, at-read}
-use Rattle.promises.specs.Flash.{blockOf}
-use Rattle.promises.specs.Demand3.{placeOf}
+use Rattle.promises.specs.Flash.{placeOf, blockOf}
 use Rattle.promises.specs.Reading.{flashBytes}
 use Rattle.promises.proofs.Window.{inside}
 use Rattle.promises.proofs.Frames.{reads-address}

@@ -34,9 +34,9 @@ use Rattle.courses.specs.Course.{eventOf, eventsOf, soundOf, admitOf, endOf}
 use Rattle.courses.specs.WriteRun as writing
 use Rattle.courses.specs.ReadRun.{World, Left, driveOf, endedOf, leftOf, runOf}
 use Rattle.courses.specs.declared.course.End.the-variants as end
-use Rattle.promises.specs.Flash.{store}
+use Rattle.promises.specs.Flash.{placeOf, store}
 use Rattle.promises.specs.Demand3 as demand
-use Rattle.promises.specs.Demand3.{acknowledged, began, run, placeOf, clean, Accepted}
+use Rattle.promises.specs.Demand3.{acknowledged, began, run, clean, Accepted}
 use Rattle.promises.specs.Courses.{eventsIn, beside}
 use Rattle.promises.specs.Reading.{flashBytes, readBegan, ReadsTrue}
 use Rattle.promises.proofs.Window.{within}

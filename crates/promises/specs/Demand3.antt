@@ -4,7 +4,7 @@
 -- it has stored whole every block that it acknowledged; and a failed transfer did nothing or its full work unheard. Of the bus, the retries and the
 -- PEC nothing is supposed: which event becomes of which transfer is left to the list of events.
 -- Assumes nothing.
-use Prim.Native.Nat.{ℕ, suc, _+_, _*_, _-_, _≤_, _<_}
+use Prim.Native.Nat.{ℕ, suc, _+_, _*_, _≤_, _<_}
 use mathlib.Core.Path.{_≡_}
 use mathlib.Core.Bool.{true}
 use mathlib.Core.Logic.{_⊎_}
@@ -26,7 +26,7 @@ use Rattle.r5.specs.Plans.{flashWrite}
 use Rattle.model_gauge.specs.Gauge.{stored}
 use Rattle.courses.specs.Pick.{case_write_read_none_}
 use Rattle.courses.specs.WriteRun.{reportedOf}
-use Rattle.promises.specs.Flash.{store, Overlaid, Stands}
+use Rattle.promises.specs.Flash.{placeOf, store, Overlaid, Stands}
 
 -- ---- what becomes of a transfer
 
@@ -108,10 +108,6 @@ run payload (e ∷ es) w = run payload es (step payload e w)
 
 -- ---- what is promised
 
--- where an address lies in the flash
-abbrev pub placeOf : ℕ → ℕ
-placeOf address = address - 0x4000
-
 -- what one clean write leaves
 abbrev pub clean : ℕ → List ℕ → List ℕ → List ℕ
 clean address payload flash = store flash (placeOf address) payload
@@ -133,7 +129,7 @@ Told k n i (transfer.Ended a) = Answered k n i a
 -- at every point of stopping: the flash as an overlay, the same byte by byte, and what the machine shows
 pub record Promised (address : ℕ) (payload flash : List ℕ) (w : World) : Type 0 where
   pub overlay : Overlaid 32 (placeOf address) payload flash (w .acked) (w .flash)
-  pub bytes : Stands 32 (placeOf address) payload flash (w .acked) (w .flash)
+  pub bytes : Stands 32 address payload flash (w .acked) (w .flash)
   pub told : Told 32 (length payload) (w .acked) (shows payload w)
 
 -- the machine shows the answer 0
@@ -182,5 +178,6 @@ pub record Demand3 : Type 0 where
       → EndedWell (shows payload (run payload (replicate n acknowledged) (began config address payload work flash)))
       × (run payload (replicate n acknowledged) (began config address payload work flash) .flash ≡ clean address payload flash)
   -- the overlay and the bytes say the same, for blocks of any length
-  pub agree : (k at : ℕ) (payload flash : List ℕ) → at + length payload ≤ length flash → (i : ℕ) (now : List ℕ)
-      → (Overlaid k at payload flash i now → Stands k at payload flash i now) × (Stands k at payload flash i now → Overlaid k at payload flash i now)
+  pub agree : (k address : ℕ) (payload flash : List ℕ) → inWindow address (length payload) ≡ true → length flash ≡ 8192 → (i : ℕ) (now : List ℕ)
+      → (Overlaid k (placeOf address) payload flash i now → Stands k address payload flash i now)
+      × (Stands k address payload flash i now → Overlaid k (placeOf address) payload flash i now)

@@ -15,7 +15,8 @@ use Rattle.courses.specs.Course.{soundOf}
 use Rattle.courses.specs.WriteRun as writing
 use Rattle.courses.specs.ReadRun.{World, world, runOf}
 use Rattle.courses.specs.declared.course.End.the-variants as end
-use Rattle.promises.specs.Demand3.{began, placeOf, Accepted}
+use Rattle.promises.specs.Flash.{placeOf}
+use Rattle.promises.specs.Demand3.{began, Accepted}
 use Rattle.promises.specs.Courses.{beside}
 
 -- the n bytes of the flash from an address on
