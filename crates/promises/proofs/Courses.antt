@@ -126,6 +126,16 @@ module _ (config : Config) (address : ℕ) (payload old : List ℕ) (n : ℕ) (r
       → leftOf (length payload) (beside gauge w) .run .end ≡ endIn (shows payload w)
   ended-going w g = rw (g .is) (ended-at config address payload n gauge room (g .i) (g .b) (g .t) (g .work) (g .flash) (g .at) (g .long))
 
+-- a run that is admitted drives the call over its course
+admitted-run : (payload : List ℕ) (w : ModelWorld) (course : List ℕ) → length (w .flash) ≡ 8192 → soundOf course ≡ true
+    → runOf payload course w ≡ leftOf (length payload) (driveOf payload (eventsOf course) w)
+unfolding runOf admitOf case_refused_admitted_ if_then_else_
+admitted-run payload w course whole sound = rw (eq-eqb (length (w .flash)) 8192 whole, sound)
+
+began-whole : (config : Config) (address : ℕ) (payload work flash : List ℕ) → Accepted address payload work flash → length (began config address payload work flash .flash) ≡ 8192
+unfolding began
+began-whole config address payload work flash a = a .whole
+
 -- what is shown says what the end says
 end-told : (k n i : ℕ) (t : Transfer) → Told k n i t → Tells k n i (endIn t)
 end-told k n i (transfer.Write count) s = s
@@ -155,11 +165,10 @@ module _ (config : Config) (address : ℕ) (payload work flash : List ℕ) (a : 
           (going config address payload work flash a some′ (w .0) (w .1) [])
 
   pub run-same : (course : List ℕ) → soundOf course ≡ true
-      → runOf payload course (beside gauge (began config address payload work flash))
-      ≡ leftOf (length payload) (beside gauge (run payload (eventsIn (eventsOf course)) (began config address payload work flash)))
-  unfolding runOf admitOf case_refused_admitted_ if_then_else_ began
+      → ran config address payload work flash gauge course ≡ leftOf (length payload) (beside gauge (ranIn config address payload work flash course))
   run-same course sound =
-      rw (eq-eqb (length flash) 8192 (a .whole), sound) (ap (leftOf (length payload)) (drive-same (eventsOf course)))
+      admitted-run payload (beside gauge (began config address payload work flash)) course (began-whole config address payload work flash a) sound
+      ∙ ap (leftOf (length payload)) (drive-same (eventsOf course))
 
   pub run-ends : (course : List ℕ) → soundOf course ≡ true
       → ran config address payload work flash gauge course .run .end ≡ endIn (shows payload (ranIn config address payload work flash course))
@@ -199,12 +208,12 @@ unfolding driveOf
 drive-both payload [] further w = refl
 drive-both payload (e ∷ es) further w = drive-both payload es further (stepOf payload e w)
 
-events-both : (course further : List ℕ) → eventsOf (course ++ further) ≡ eventsOf course ++ eventsOf further
+pub events-both : (course further : List ℕ) → eventsOf (course ++ further) ≡ eventsOf course ++ eventsOf further
 unfolding eventsOf
 events-both [] further = refl
 events-both (byte ∷ course) further = ap (λ (es : List ModelEvent). eventOf byte ∷ es) (events-both course further)
 
-sound-both : (course further : List ℕ) → soundOf course ≡ true → soundOf further ≡ true → soundOf (course ++ further) ≡ true
+pub sound-both : (course further : List ℕ) → soundOf course ≡ true → soundOf further ≡ true → soundOf (course ++ further) ≡ true
 unfolding soundOf if_then_else_
 sound-both [] further p q = q
 sound-both (byte ∷ course) further p q = by (ltb 2 byte) p (λ r. sound-both course further r q)
@@ -214,16 +223,7 @@ sound-both (byte ∷ course) further p q = by (ltb 2 byte) p (λ r. sound-both c
     by true p on = p
     by false p on = on p
 
-began-whole : (config : Config) (address : ℕ) (payload work flash : List ℕ) → Accepted address payload work flash → length (began config address payload work flash .flash) ≡ 8192
-unfolding began
-began-whole config address payload work flash a = a .whole
-
 module _ (config : Config) (address : ℕ) (payload work flash : List ℕ) (a : Accepted address payload work flash) (gauge : Gauge) where
-  admitted-run : (w : ModelWorld) (course : List ℕ) → length (w .flash) ≡ 8192 → soundOf course ≡ true
-      → runOf payload course w ≡ leftOf (length payload) (driveOf payload (eventsOf course) w)
-  unfolding runOf admitOf case_refused_admitted_ if_then_else_
-  admitted-run w course whole sound = rw (eq-eqb (length (w .flash)) 8192 whole, sound)
-
   pub runs-on : (course further : List ℕ) → soundOf course ≡ true → soundOf further ≡ true
       → runOf payload (course ++ further) (beside gauge (began config address payload work flash))
       ≡ runOf payload further (left-over (runOf payload course (beside gauge (began config address payload work flash))))
@@ -233,10 +233,10 @@ module _ (config : Config) (address : ℕ) (payload work flash : List ℕ) (a : 
       let whole : length (driveOf payload (eventsOf course) w .flash) ≡ 8192 =
       ap (λ (v : ModelWorld). length (v .flash)) (drive-same config address payload work flash a gauge (eventsOf course))
       ∙ stopped config address payload work flash a (eventsIn (eventsOf course)) .bytes .size ∙ a .whole in
-      admitted-run w (course ++ further) (began-whole config address payload work flash a) (sound-both course further p q)
+      admitted-run payload w (course ++ further) (began-whole config address payload work flash a) (sound-both course further p q)
       ∙ ap (leftOf (length payload)) (ap (λ (es : List ModelEvent). driveOf payload es w) (events-both course further) ∙ drive-both payload (eventsOf course) (eventsOf further) w)
-      ∙ sym (ap (λ (l : Left). runOf payload further (left-over l)) (admitted-run w course (began-whole config address payload work flash a) p)
-      ∙ admitted-run (driveOf payload (eventsOf course) w) further whole q)
+      ∙ sym (ap (λ (l : Left). runOf payload further (left-over l)) (admitted-run payload w course (began-whole config address payload work flash a) p)
+      ∙ admitted-run payload (driveOf payload (eventsOf course) w) further whole q)
 
   -- ---- going on
 

@@ -9,5 +9,6 @@ pub mod Machine
 pub mod Demand3
 pub mod Courses
 pub mod Replies
+pub mod ReadSteps
 pub mod Reading
 pub mod ReadsTrue
