@@ -41,7 +41,8 @@ use Rattle.promises.proofs.Overlay.{overlaid-all}
 use Rattle.promises.proofs.Window.{within}
 use Rattle.promises.proofs.Frames.{takes-block, block-points}
 use Rattle.promises.proofs.Machine.{worldAt, frameOf, shows-block, shows-ended, lays, hands-out, laid-long, step-sent, step-ended}
-use Rattle.promises.proofs.Demand3.{ToldAt, Going, going-step, going, run-empty, stopped, done-all, rest-goes, over-goes}
+use Rattle.promises.proofs.Stopped.{ToldAt, Going, going-step, going, run-empty, stopped}
+use Rattle.promises.proofs.Resumed.{done-all, rest-goes, over-goes}
 
 -- what the gauge does to the flash is what the demand supposes
 same-flash : (e : ModelEvent) (frame flash : List ℕ) → flashAfter e frame flash ≡ demand.flashAfter (eventIn e) frame flash

@@ -6,6 +6,9 @@ pub mod Window
 pub mod Bytes
 pub mod Frames
 pub mod Machine
+pub mod Stopped
+pub mod Resumed
+pub mod Work
 pub mod Demand3
 pub mod Courses
 pub mod Replies

@@ -38,7 +38,8 @@ use Rattle.promises.specs.Demand3.{acknowledged, began, run, clean, Acce
 use Rattle.promises.specs.Courses.{eventsIn, ran, RanWell}
 use Rattle.promises.specs.Reading.{flashBytes, readBegan, readRan, read-over, ReadsTrue}
 use Rattle.promises.proofs.Window.{within}
-use Rattle.promises.proofs.Demand3.{stopped, unbroken}
+use Rattle.promises.proofs.Stopped.{stopped}
+use Rattle.promises.proofs.Resumed.{unbroken}
 use Rattle.promises.proofs.Courses.{run-same, events-both, sound-both}
 use Rattle.promises.proofs.ReadSteps.{readWorld, headOf, head-long, step-head, step-read, ended-stays}
 use Rattle.promises.proofs.Reading.{buffer-long, head-sent, Kept, blockAfter, read-heard, block-after, Reading, reading-run, all-received}

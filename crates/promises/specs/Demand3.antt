@@ -106,6 +106,25 @@ unfoldable pub run : List ℕ → List Event → World → World
 run payload [] w = w
 run payload (e ∷ es) w = run payload es (step payload e w)
 
+-- the same with a work buffer that is lent afresh for each transfer
+unfoldable pub runLent : List ℕ → List (Event × List ℕ) → World → World
+runLent payload [] w = w
+runLent payload (s ∷ steps) w = runLent payload steps (step payload (s .0) (holding (s .1) w))
+
+-- the events of such steps
+abbrev pub events : List (Event × List ℕ) → List Event
+events [] = []
+events (s ∷ steps) = s .0 ∷ events steps
+
+-- every work buffer of such steps has n bytes
+abbrev pub Lends : ℕ → List (Event × List ℕ) → Type 0
+Lends n [] = Unit {0}
+Lends n (s ∷ steps) = (length (s .1) ≡ n) × Lends n steps
+
+-- the same but for the bytes of the work buffer
+abbrev pub Alike : World → World → Type 0
+Alike v w = (v .call ≡ w .call) × (length (v .work) ≡ length (w .work)) × (v .flash ≡ w .flash) × (v .acked ≡ w .acked)
+
 -- ---- what is promised
 
 -- what one clean write leaves
@@ -169,6 +188,10 @@ pub record Demand3 : Type 0 where
   -- stop anywhere and know every byte, and what the count says
   pub stopped : (config : Config) (address : ℕ) (payload work flash : List ℕ) → Accepted address payload work flash → (es : List Event)
       → Promised address payload flash (run payload es (began config address payload work flash))
+  -- the bytes of the work buffer do not matter: the host may lend another one of that length for each transfer
+  pub any-work : (config : Config) (address : ℕ) (payload work flash : List ℕ) → Accepted address payload work flash
+      → (steps : List (Event × List ℕ)) → Lends (length work) steps
+      → Alike (runLent payload steps (began config address payload work flash)) (run payload (events steps) (began config address payload work flash))
   -- go on, any number of times
   pub resumed : (address : ℕ) (payload flash after : List ℕ) → inWindow address (length payload) ≡ true → length flash ≡ 8192
       → Goes address payload flash after → after ≡ clean address payload flash
