@@ -1,8 +1,8 @@
 -- Demand 3: stop a data-flash write anywhere and know every byte; go on from the count, and the flash is as one clean write leaves it.
 --
 -- What is supposed of the gauge: it reads the frames that the step machine shows, and stores their bytes, as the model does (model_gauge, `stored`);
--- it has stored whole every block that it acknowledged; and a failed transfer did nothing or its full work unheard. Of the bus, the retries and the
--- PEC nothing is supposed: which event becomes of which transfer is left to the list of events.
+-- it has stored whole every block that it acknowledged; and a failed transfer did nothing or its full work unheard. Nothing is supposed of the bus, the
+-- retries or the PEC: the list of events says what becomes of each transfer, and any list will do.
 -- Assumes nothing.
 use Prim.Native.Nat.{ℕ, suc, _+_, _*_, _≤_, _<_}
 use mathlib.Core.Path.{_≡_}
