@@ -1,12 +1,12 @@
 -- The model's courses are an instance of demand 3: the gauge takes every block's frame, so a transfer of the course is one of the events.
 -- Assumes nothing.
-use Prim.Native.Nat.{ℕ, _+_, _*_, _-_, _≤_, _<_, min}
+use Prim.Native.Nat.{ℕ, zero, suc, _+_, _*_, _-_, _≤_, _<_, min}
 use mathlib.Core.Path.{_≡_, refl, sym, ap, subst, _∙_}
 use mathlib.Core.Bool.{Bool, true, false}
 use mathlib.Core.List.{List, [], _∷_, _++_}
 use native.Mathlib.Omega.{arith}
 use lib.Dec.{eqb, ltb}
-use lib.ListN.{length, drop, length-take, length-drop}
+use lib.ListN.{length, drop, length-take, length-drop, replicate}
 use borrow.Author.Tests.{eq-eqb, eqb-true, eqb-false}
 use Rattle.protocol.specs.Pick.{if_then_else_}
 use Rattle.protocol.specs.Window.{inWindow}
@@ -35,14 +35,14 @@ use Rattle.courses.specs.declared.course.End.the-variants as end
 use Rattle.courses.proofs.Cases.{at-write}
 use Rattle.promises.specs.Flash.{placeOf, blockOf}
 use Rattle.promises.specs.Demand3 as demand
-use Rattle.promises.specs.Demand3.{World, began, shows, step, run, clean, Answered, Told, countOf, Accepted}
+use Rattle.promises.specs.Demand3.{World, began, shows, step, run, clean, Answered, Told, EndedWell, countOf, Accepted}
 use Rattle.promises.specs.Courses.{eventIn, eventsIn, beside, ran, ranIn, left-over, endIn, Tells, Leaves, RanWell, Go, started, ran-on, GoesOn, ended-well, went-on, started-over, OnCourses}
 use Rattle.promises.proofs.Overlay.{overlaid-all}
 use Rattle.promises.proofs.Window.{within}
 use Rattle.promises.proofs.Frames.{takes-block, block-points}
 use Rattle.promises.proofs.Machine.{worldAt, frameOf, shows-block, shows-ended, lays, hands-out, laid-long, step-sent, step-ended}
 use Rattle.promises.proofs.Stopped.{ToldAt, Going, going-step, going, run-empty, stopped}
-use Rattle.promises.proofs.Resumed.{done-all, rest-goes, over-goes}
+use Rattle.promises.proofs.Resumed.{done-all, rest-goes, over-goes, unbroken as whole-write}
 
 -- what the gauge does to the flash is what the demand supposes
 same-flash : (e : ModelEvent) (frame flash : List ℕ) → flashAfter e frame flash ≡ demand.flashAfter (eventIn e) frame flash
@@ -275,6 +275,40 @@ goes {address} {payload} {flash} {after} win whole (started-over config work gau
     goes {address = address} {payload = payload} {flash = left .flash} win (l .1 .bytes .size ∙ whole) on
     ∙ over-goes address payload flash win whole (l .0) (left .flash) (l .1 .overlay)
 
+-- ---- every transfer is heard
+
+pub heard-events : (n : ℕ) → eventsOf (replicate n 0) ≡ replicate n model.Heard
+unfolding eventsOf eventOf if_then_else_
+heard-events zero = refl
+heard-events (suc n) = ap (λ (es : List ModelEvent). model.Heard ∷ es) (heard-events n)
+
+pub heard-sound : (n : ℕ) → soundOf (replicate n 0) ≡ true
+unfolding soundOf if_then_else_
+heard-sound zero = refl
+heard-sound (suc n) = heard-sound n
+
+heard-in : (n : ℕ) → eventsIn (replicate n model.Heard) ≡ replicate n demand.acknowledged
+heard-in zero = refl
+heard-in (suc n) = ap (λ (es : List demand.Event). demand.acknowledged ∷ es) (heard-in n)
+
+end-well : (t : Transfer) → EndedWell t → RanWell (endIn t)
+end-well (transfer.Write count) w = absurd w
+end-well (transfer.Read command count) w = absurd w
+end-well (transfer.Refused a) w = absurd w
+end-well (transfer.Ended a) w = w
+
+pub unbroken : (config : Config) (address : ℕ) (payload work flash : List ℕ) → Accepted address payload work flash
+    → (gauge : Gauge) (n : ℕ) → length payload ≤ n * 32
+    → RanWell (ran config address payload work flash gauge (replicate n 0) .run .end)
+    × (ran config address payload work flash gauge (replicate n 0) .flash ≡ clean address payload flash)
+unbroken config address payload work flash a gauge n l =
+    let u = whole-write config address payload work flash a n l in
+    let events : eventsIn (eventsOf (replicate n 0)) ≡ replicate n demand.acknowledged = ap eventsIn (heard-events n) ∙ heard-in n in
+    let well : EndedWell (shows payload (ranIn config address payload work flash (replicate n 0))) = rw events (u .0) in
+    let ran-well : RanWell (ran config address payload work flash gauge (replicate n 0) .run .end) =
+    rw (run-ends config address payload work flash a gauge (replicate n 0) (heard-sound n)) (end-well (shows payload (ranIn config address payload work flash (replicate n 0))) well) in
+    (ran-well, goes (a .window) (a .whole) (ended-well config work gauge _ (a .room) (started (replicate n 0) (heard-sound n)) ran-well))
+
 -- every run over every course keeps demand 3
 pub on-courses : OnCourses
 on-courses =
@@ -284,4 +318,5 @@ on-courses =
       promised = λ config address payload work flash a gauge course sound. run-leaves config address payload work flash a gauge course sound;
       runs-on = λ config address payload work flash a gauge course further p q. runs-on config address payload work flash a gauge course further p q;
       goes-on = λ address payload flash after win whole g. goes win whole g;
+      unbroken = unbroken;
     }

@@ -28,19 +28,15 @@ use Rattle.model_gauge.specs.declared.gauge.Event.{Event}
 use Rattle.model_gauge.specs.declared.gauge.Event.the-variants as event
 use Rattle.model_gauge.specs.declared.gauge.Gauge.{Gauge}
 use Rattle.courses.specs.Pick.{case_refused_admitted_}
-use Rattle.courses.specs.Course.{eventOf, eventsOf, soundOf, admitOf, endOf}
-use Rattle.courses.specs.WriteRun as writing
+use Rattle.courses.specs.Course.{eventsOf, soundOf, admitOf, endOf}
 use Rattle.courses.specs.ReadRun.{World, Left, stepOf, driveOf, endedOf, leftOf, runOf}
 use Rattle.courses.specs.declared.course.End.the-variants as end
 use Rattle.promises.specs.Flash.{placeOf, store}
-use Rattle.promises.specs.Demand3 as demand
-use Rattle.promises.specs.Demand3.{acknowledged, began, run, clean, Accepted}
-use Rattle.promises.specs.Courses.{eventsIn, ran, RanWell}
+use Rattle.promises.specs.Demand3.{clean, Accepted}
+use Rattle.promises.specs.Courses.{ran, RanWell}
 use Rattle.promises.specs.Reading.{flashBytes, readBegan, readRan, read-over, ReadsTrue}
 use Rattle.promises.proofs.Window.{within}
-use Rattle.promises.proofs.Stopped.{stopped}
-use Rattle.promises.proofs.Resumed.{unbroken}
-use Rattle.promises.proofs.Courses.{run-same, events-both, sound-both}
+use Rattle.promises.proofs.Courses.{run-leaves, events-both, sound-both, heard-events, heard-sound, unbroken}
 use Rattle.promises.proofs.ReadSteps.{readWorld, headOf, head-long, step-head, step-read, ended-stays}
 use Rattle.promises.proofs.Reading.{buffer-long, head-sent, Kept, blockAfter, read-heard, block-after, Reading, reading-run, all-received}
 
@@ -172,20 +168,6 @@ runs-on config address buffer work flash a gauge course further p q =
 
 -- ---- every transfer is heard
 
-heard-events : (n : ℕ) → eventsOf (replicate n 0) ≡ replicate n event.Heard
-unfolding eventsOf eventOf if_then_else_
-heard-events zero = refl
-heard-events (suc n) = ap (λ (es : List Event). event.Heard ∷ es) (heard-events n)
-
-heard-sound : (n : ℕ) → soundOf (replicate n 0) ≡ true
-unfolding soundOf if_then_else_
-heard-sound zero = refl
-heard-sound (suc n) = heard-sound n
-
-heard-in : (n : ℕ) → eventsIn (replicate n event.Heard) ≡ replicate n acknowledged
-heard-in zero = refl
-heard-in (suc n) = ap (λ (es : List demand.Event). acknowledged ∷ es) (heard-in n)
-
 module _ (config : Config) (address n : ℕ) (old flash : List ℕ) (room : 39 ≤ n) (whole : length flash ≡ 8192)
     (low : 0x4000 ≤ address) (high : address + length old ≤ 0x6000) where
   -- each reply brings the next block, until there is none
@@ -248,31 +230,22 @@ clean-bytes address payload flash fits =
     let front : length (take (placeOf address) flash) ≡ placeOf address = length-take-le (placeOf address) flash (omega arith) in
     rw (append-assoc, drop-at (take (placeOf address) flash) _ (placeOf address) front) (take-append-seam payload _)
 
-written : (config : Config) (address : ℕ) (payload work flash : List ℕ) → Accepted address payload work flash → (gauge : Gauge) (n : ℕ)
-    → ran config address payload work flash gauge (replicate n 0) .flash
-    ≡ run payload (replicate n acknowledged) (began config address payload work flash) .flash
-unfolding writing.leftOf
-written config address payload work flash a gauge n =
-    ap (λ (l : writing.Left). l .flash) (run-same config address payload work flash a gauge (replicate n 0) (heard-sound n))
-    ∙ ap (λ (es : List demand.Event). run payload es (began config address payload work flash) .flash) (ap eventsIn (heard-events n) ∙ heard-in n)
-
 pub reads-back : (config config′ : Config) (address : ℕ) (payload work flash buffer work′ : List ℕ) → Accepted address payload work flash
     → length buffer ≡ length payload → 39 ≤ length work′
     → (gauge gauge′ : Gauge) (n m : ℕ) → blocksOf (length payload) ≤ n → blocksOf (length payload) < m
     → RanWell (readRan config′ address buffer work′ (ran config address payload work flash gauge (replicate n 0) .flash) gauge′ (replicate m 0) .run .end)
     × (readRan config′ address buffer work′ (ran config address payload work flash gauge (replicate n 0) .flash) gauge′ (replicate m 0) .buffer ≡ payload)
 reads-back config config′ address payload work flash buffer work′ a same room gauge gauge′ n m blocks more =
-    rw (written config address payload work flash a gauge n)
-    (let now : List ℕ = run payload (replicate n acknowledged) (began config address payload work flash) .flash in
+    let now : List ℕ = ran config address payload work flash gauge (replicate n 0) .flash in
+    let clean-now : now ≡ clean address payload flash = unbroken config address payload work flash a gauge n (omega arith) .1 in
     let c : Accepted address buffer work′ now =
-    record { window = rw same (a .window); room = room; whole = stopped config address payload work flash a (replicate n acknowledged) .bytes .size ∙ a .whole } in
+    record { window = rw same (a .window); room = room; whole = run-leaves config address payload work flash a gauge (replicate n 0) (heard-sound n) .bytes .size ∙ a .whole } in
     let well : RanWell (readRan config′ address buffer work′ now gauge′ (replicate m 0) .run .end) =
-    subst RanWell (sym (heard-ends config′ address buffer work′ now c gauge′ m (rw same more))) refl in
-    let clean-now : now ≡ clean address payload flash = unbroken config address payload work flash a n (omega arith) .1 in (
+    subst RanWell (sym (heard-ends config′ address buffer work′ now c gauge′ m (rw same more))) refl in (
       well,
       reads config′ address buffer work′ now c gauge′ (replicate m 0) (heard-sound m) .1 well
           ∙ rw (same, clean-now) (by (eqb (length payload) 0) refl),
-    ))
+    )
   where
     by : (t : Bool) → eqb (length payload) 0 ≡ t → flashBytes address (length payload) (clean address payload flash) ≡ payload
     by true t =

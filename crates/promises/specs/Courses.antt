@@ -4,7 +4,7 @@ use Prim.Native.Nat.{ℕ, _+_, _*_, _≤_, _<_}
 use mathlib.Core.Path.{_≡_}
 use mathlib.Core.Bool.{true}
 use mathlib.Core.List.{List, [], _∷_, _++_}
-use lib.ListN.{length, drop}
+use lib.ListN.{length, drop, replicate}
 use Rattle.protocol.specs.Answer.{numberOf}
 use Rattle.protocol.specs.Window.{inWindow}
 use Rattle.protocol.specs.declared.common.Config.{Config}
@@ -115,3 +115,8 @@ pub record OnCourses : Type 0 where
   -- go on, any number of times: what is left is what one clean write leaves
   pub goes-on : (address : ℕ) (payload flash after : List ℕ) → inWindow address (length payload) ≡ true → length flash ≡ 8192
       → GoesOn address payload flash after → after ≡ clean address payload flash
+  -- and that is what a run over heard transfers leaves, enough of them: it ends well
+  pub unbroken : (config : Config) (address : ℕ) (payload work flash : List ℕ) → Accepted address payload work flash
+      → (gauge : Gauge) (n : ℕ) → length payload ≤ n * 32
+      → RanWell (ran config address payload work flash gauge (replicate n 0) .run .end)
+      × (ran config address payload work flash gauge (replicate n 0) .flash ≡ clean address payload flash)
