@@ -29,6 +29,7 @@ eventIn model.Heard = acknowledged
 eventIn model.LostBefore = failed timedOut
 eventIn model.LostAfter = unheard timedOut
 
+-- one after the other
 abbrev pub eventsIn : List ModelEvent → List Event
 eventsIn [] = []
 eventsIn (e ∷ es) = eventIn e ∷ eventsIn es

@@ -30,7 +30,7 @@ upto k at payload flash i = store flash at (take (i * k) payload)
 abbrev pub Overlaid : ℕ → ℕ → List ℕ → List ℕ → ℕ → List ℕ → Type 0
 Overlaid k at payload flash i now = (now ≡ upto k at payload flash i) ⊎ (now ≡ upto k at payload flash (suc i))
 
--- in bytes, for each address x of a payload at an address
+-- in bytes, for each address x of the window, of a payload at an address
 pub record Stands (k address : ℕ) (payload flash : List ℕ) (i : ℕ) (now : List ℕ) : Type 0 where
   -- no byte more, none fewer
   pub size : length now ≡ length flash
