@@ -17,7 +17,7 @@ use Rattle.courses.specs.declared.course.Admitted.the-variants as admitt
 use Rattle.courses.specs.declared.course.End.{End}
 use Rattle.courses.specs.declared.course.End.the-variants as end
 
--- 0 heard, 1 lost before the gauge acts, 2 lost after
+-- 0 heard, 1 lost before the gauge acts, 2 lost after; a run refuses a course with any other byte before it starts
 unfoldable pub eventOf : ℕ → Event
 eventOf byte = if eqb byte 0 then event.Heard else if eqb byte 1 then event.LostBefore else event.LostAfter
 

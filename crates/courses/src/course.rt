@@ -21,7 +21,7 @@ pub(crate) enum Admitted {
     Yes,
 }
 
-// What a byte of a course says.
+// What a byte of a sound course says.
 pub(crate) fn event(byte: u8) -> Event
     ensures { λ r. ⌜ r ≡ eventOf byte ⌝ }
 {

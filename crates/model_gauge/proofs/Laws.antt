@@ -2,6 +2,7 @@
 -- Assumes nothing.
 use Prim.Native.Nat.{ℕ, _+_, _-_, _≤_, min}
 use mathlib.Core.Path.{_≡_, refl, sym, ap, _∙_}
+use mathlib.Core.Bool.{false}
 use mathlib.Core.List.{List, [], _∷_, _++_, append-nil}
 use mathlib.Core.Logic.{⊎-elim}
 use native.Mathlib.Omega.{arith}
@@ -13,7 +14,7 @@ use denote.Enum.Declared.{tagOf}
 use Rattle.protocol.specs.Pick.{if_then_else_}
 use Rattle.protocol.specs.Bytes.{over, blockIn, storedAt}
 use Rattle.protocol.proofs.Laws.{over-set, over-over, take-over, length-over, laid-more}
-use Rattle.model_gauge.specs.Gauge.{storedForm, pointedForm, blockAt}
+use Rattle.model_gauge.specs.Gauge.{storedForm, pointedForm, addressed, takesForm, blockAt}
 use Rattle.model_gauge.specs.declared.frame.Form.{Form}
 use Rattle.model_gauge.specs.declared.frame.Form.the-variants as form
 use Rattle.model_gauge.specs.declared.gauge.Gauge.{Gauge}
@@ -32,6 +33,20 @@ unfolding pointedForm
 not-address (form.BlockWrite address count) gauge k = refl
 not-address (form.Address address) gauge k = absurd (⊎-elim (λ e. omega arith) (λ e. omega arith) k)
 not-address form.Other gauge k = refl
+
+-- what is no address is not taken as one
+pub no-address : (f : Form) → OneOf (0 ∷ 2 ∷ []) (tagOf the-type f) → false ≡ addressed f
+unfolding addressed
+no-address (form.BlockWrite address count) k = refl
+no-address (form.Address address) k = absurd (⊎-elim (λ e. omega arith) (λ e. omega arith) k)
+no-address form.Other k = refl
+
+-- what is no block write is taken as an address or not at all
+pub takes-address : (f : Form) → OneOf (1 ∷ 2 ∷ []) (tagOf the-type f) → addressed f ≡ takesForm f
+unfolding addressed takesForm
+takes-address (form.BlockWrite address count) k = absurd (⊎-elim (λ e. omega arith) (λ e. omega arith) k)
+takes-address (form.Address address) k = refl
+takes-address form.Other k = refl
 
 -- a block that has room is laid whole
 pub block-whole : (most : ℕ) (b w : List ℕ) → length b ≤ most → length b ≤ length w → blockIn most b w ≡ over b w

@@ -45,6 +45,12 @@ pointedForm form.Other gauge = gauge
 unfoldable pub pointed : List ℕ → Gauge → Gauge
 pointed frame gauge = pointedForm (readFrame frame) gauge
 
+-- an address in the window
+unfoldable pub addressed : Form → Bool
+addressed (form.BlockWrite address count) = false
+addressed (form.Address address) = inWindow address 1
+addressed form.Other = false
+
 -- the frames that are taken
 unfoldable pub takesForm : Form → Bool
 takesForm (form.BlockWrite address count) = inWindow address count

@@ -1,2 +1,4 @@
 pub mod Frame
 pub mod Gauge
+pub mod Figures
+pub mod Untaken

@@ -11,7 +11,7 @@ use protocol::consts::MAC_CMD;
 use protocol::window;
 ghost use mathlib.Core.Path.{_≡_};
 ghost use Prim.Native.Nat.{_+_, _-_, min};
-ghost use Rattle.model_gauge.specs.Gauge.{newGauge, offsetOf, stored, takes, pointed, flashAfter, actedOf, gaugeAfter, heardOf, outcomeOf, blockAt, replyOf, repliesTo, movedOf, repliedOf, readAfter, readOutcome};
+ghost use Rattle.model_gauge.specs.Gauge.{newGauge, offsetOf, stored, addressed, takes, pointed, flashAfter, actedOf, gaugeAfter, heardOf, outcomeOf, blockAt, replyOf, repliesTo, movedOf, repliedOf, readAfter, readOutcome};
 
 // The data flash has a byte for each address from 4000 to 5FFF hex.
 pub const FLASH_BYTES: usize = DF_SIZE_BYTES;
@@ -69,16 +69,25 @@ fn store(frame: &[u8], flash: &mut [u8])
     }
 }
 
+// Whether the gauge takes a form as an address: one in the window.
+fn addressed(form: Form) -> bool
+    ensures { λ r. ⌜ r ≡ addressed form ⌝ }
+{
+    let Form::Address(address) = form else {
+        return false;
+    };
+    window::check_df_range(address, 1)
+}
+
 // Whether the gauge takes a frame: a block write wholly inside the window, or an address in it.
 fn takes(frame: &[u8]) -> bool
     ensures { λ r. ⌜ r ≡ takes (now (frame .entry)) ⌝ }
 {
     let form = frame::read_frame(frame);
-    match form {
-        Form::BlockWrite { address, count } => window::check_df_range(address, count),
-        Form::Address(address) => window::check_df_range(address, 1),
-        Form::Other => false,
-    }
+    let Form::BlockWrite { address, count } = form else {
+        return addressed(form);
+    };
+    window::check_df_range(address, count)
 }
 
 // What a frame does to the flash, as the transfer is heard or lost.

@@ -1,14 +1,15 @@
 -- The model's courses are an instance of demand 3: the gauge takes every block's frame, so a transfer of the course is one of the events.
 -- Assumes nothing.
-use Prim.Native.Nat.{ℕ, _+_, _*_, _-_, _≤_, _<_, min}
-use mathlib.Core.Path.{_≡_, refl, sym, ap, _∙_}
+use Prim.Native.Nat.{ℕ, zero, suc, _+_, _*_, _-_, _≤_, _<_, min}
+use mathlib.Core.Path.{_≡_, refl, sym, ap, subst, _∙_}
 use mathlib.Core.Bool.{Bool, true, false}
 use mathlib.Core.List.{List, [], _∷_, _++_}
 use native.Mathlib.Omega.{arith}
 use lib.Dec.{eqb, ltb}
-use lib.ListN.{length, drop, length-take, length-drop}
+use lib.ListN.{length, drop, length-take, length-drop, replicate}
 use borrow.Author.Tests.{eq-eqb, eqb-true, eqb-false}
 use Rattle.protocol.specs.Pick.{if_then_else_}
+use Rattle.protocol.specs.Window.{inWindow}
 use Rattle.protocol.specs.declared.common.Config.{Config}
 use Rattle.protocol.specs.declared.error.Answer.{Answer}
 use Rattle.protocol.specs.declared.error.Answer.the-variants as answer
@@ -18,6 +19,8 @@ use Rattle.engine.specs.declared.budget.Budget.{Budget}
 use Rattle.engine.specs.declared.budget.Tally.{Tally}
 use Rattle.engine.specs.declared.bus.Phase.{Phase}
 use Rattle.engine.specs.declared.bus.Phase.the-variants as phase
+use Rattle.engine.specs.declared.bus.Transfer.{Transfer}
+use Rattle.engine.specs.declared.bus.Transfer.the-variants as transfer
 use Rattle.writing.specs.Frames.{blockBytes}
 use Rattle.writing.specs.Writing.{nextOf, workAfter}
 use Rattle.model_gauge.specs.Gauge.{takes, pointed, flashAfter, actedOf, gaugeAfter, heardOf, outcomeOf}
@@ -27,15 +30,19 @@ use Rattle.model_gauge.specs.declared.gauge.Gauge.{Gauge}
 use Rattle.courses.specs.Pick.{case_write_read_none_, case_refused_admitted_}
 use Rattle.courses.specs.Course.{eventOf, eventsOf, soundOf, admitOf, endOf}
 use Rattle.courses.specs.WriteRun.{World as ModelWorld, Left, sentOf, sentFlash, stepOf, driveOf, endedOf, leftOf, runOf}
+use Rattle.courses.specs.declared.course.End.{End}
+use Rattle.courses.specs.declared.course.End.the-variants as end
 use Rattle.courses.proofs.Cases.{at-write}
-use Rattle.promises.specs.Flash.{blockOf}
+use Rattle.promises.specs.Flash.{placeOf, blockOf}
 use Rattle.promises.specs.Demand3 as demand
-use Rattle.promises.specs.Demand3.{World, began, step, run, Accepted}
-use Rattle.promises.specs.Courses.{eventIn, eventsIn, beside, endIn, left-over, OnCourses}
+use Rattle.promises.specs.Demand3.{World, began, shows, step, run, clean, Answered, Told, EndedWell, countOf, Accepted}
+use Rattle.promises.specs.Courses.{eventIn, eventsIn, beside, ran, ranIn, left-over, endIn, Tells, Leaves, RanWell, Go, started, ran-on, GoesOn, ended-well, went-on, started-over, OnCourses}
+use Rattle.promises.proofs.Overlay.{overlaid-all}
 use Rattle.promises.proofs.Window.{within}
 use Rattle.promises.proofs.Frames.{takes-block, block-points}
-use Rattle.promises.proofs.Machine.{worldAt, frameOf, shows, lays, hands-out, laid-long, step-sent, step-ended}
-use Rattle.promises.proofs.Demand3.{Going, going-step, going, run-empty, stopped}
+use Rattle.promises.proofs.Machine.{worldAt, frameOf, shows-block, shows-ended, lays, hands-out, laid-long, step-sent, step-ended}
+use Rattle.promises.proofs.Stopped.{ToldAt, Going, going-step, going, run-empty, stopped}
+use Rattle.promises.proofs.Resumed.{done-all, rest-goes, over-goes, unbroken as whole-write}
 
 -- what the gauge does to the flash is what the demand supposes
 same-flash : (e : ModelEvent) (frame flash : List ℕ) → flashAfter e frame flash ≡ demand.flashAfter (eventIn e) frame flash
@@ -67,11 +74,13 @@ module _ (config : Config) (address : ℕ) (payload : List ℕ) (n : ℕ) (gauge
   drive-ended (e ∷ es) a i b t work flash = drive-ended es a i b t work flash
 
   -- how a run says that it ended
-  ended-at : (i : ℕ) (b : Budget) (t : Tally) (work flash : List ℕ) (p : Phase) → length work ≡ n
-      → leftOf (length payload) (beside gauge (worldAt config address payload n p i b t work flash)) .run .end ≡ endIn p
+  ended-at : (room : 39 ≤ n) (i : ℕ) (b : Budget) (t : Tally) (work flash : List ℕ) (p : Phase) → length work ≡ n
+      → leftOf (length payload) (beside gauge (worldAt config address payload n p i b t work flash)) .run .end
+      ≡ endIn (shows payload (worldAt config address payload n p i b t work flash))
   unfolding leftOf endedOf endOf case_waiting_ended_ fitsOf if_then_else_
-  ended-at i b t work flash phase.Waiting long = rw (eq-eqb (length payload) (length payload) refl, eq-eqb (length work) n long)
-  ended-at i b t work flash (phase.Ended a) long = refl
+  ended-at room i b t work flash phase.Waiting long =
+      rw (shows-block config address payload n i b t work long room, eq-eqb (length payload) (length payload) refl, eq-eqb (length work) n long)
+  ended-at room i b t work flash (phase.Ended a) long = rw (shows-ended config address payload n a i b t (length work))
 
   module _ (room : 39 ≤ n) (low : 0x4000 ≤ address) (high : address + length payload ≤ 0x6000) where
     -- a transfer of a call that waits
@@ -85,14 +94,14 @@ module _ (config : Config) (address : ℕ) (payload : List ℕ) (n : ℕ) (gauge
         takes-block (config .«pec_write») (address + i * 32) (blockOf 32 i payload) (omega arith) (omega arith) (omega arith) (omega arith) (omega arith) in
         let left : pointed (frameOf config address payload n i) gauge ≡ gauge =
         block-points (config .«pec_write») (address + i * 32) (blockOf 32 i payload) (omega arith) (omega arith) (omega arith) (omega arith) (omega arith) gauge in
-        sym (at-write _ _ _ _ _ _ _ refl (shows config address payload n i b t work long room)
+        sym (at-write _ _ _ _ _ _ _ refl (shows-block config address payload n i b t work long room)
         (rw (lays config address payload n i b t work long room, hands-out config address payload n i b t work long room, laid-long config address payload n i b t work long room, same-outcome e (frameOf config address payload n i) taken, same-gauge e (frameOf config address payload n i) gauge left, same-flash)
         (ap (beside gauge) (step-sent config address payload n i b t work long room (eventIn e) flash))))
 
 -- a transfer of the model is a transfer of the demand
 module _ (config : Config) (address : ℕ) (payload old : List ℕ) (n : ℕ) (room : 39 ≤ n) (whole : length old ≡ 8192)
     (low : 0x4000 ≤ address) (high : address + length payload ≤ 0x6000) (gauge : Gauge) where
-  model-at : (e : ModelEvent) (p : Phase) (i : ℕ) (b : Budget) (t : Tally) (work flash : List ℕ) → length work ≡ n → demand.Told 32 (length payload) i p
+  model-at : (e : ModelEvent) (p : Phase) (i : ℕ) (b : Budget) (t : Tally) (work flash : List ℕ) → length work ≡ n → ToldAt 32 (length payload) i p
       → stepOf payload e (beside gauge (worldAt config address payload n p i b t work flash))
       ≡ beside gauge (step payload (eventIn e) (worldAt config address payload n p i b t work flash))
   unfolding driveOf
@@ -115,12 +124,25 @@ module _ (config : Config) (address : ℕ) (payload old : List ℕ) (n : ℕ) (r
 
   -- what a run that ends here says
   ended-going : (w : World) → Going config address payload old n room whole low high w
-      → leftOf (length payload) (beside gauge w) .run .end ≡ endIn (w .call .phase)
-  ended-going w g = rw (g .is) (by (g .at) (g .long))
-    where
-      by : (p : Phase) → length (g .work) ≡ n
-          → leftOf (length payload) (beside gauge (worldAt config address payload n p (g .i) (g .b) (g .t) (g .work) (g .flash))) .run .end ≡ endIn p
-      by = ended-at config address payload n gauge (g .i) (g .b) (g .t) (g .work) (g .flash)
+      → leftOf (length payload) (beside gauge w) .run .end ≡ endIn (shows payload w)
+  ended-going w g = rw (g .is) (ended-at config address payload n gauge room (g .i) (g .b) (g .t) (g .work) (g .flash) (g .at) (g .long))
+
+-- a run that is admitted drives the call over its course
+admitted-run : (payload : List ℕ) (w : ModelWorld) (course : List ℕ) → length (w .flash) ≡ 8192 → soundOf course ≡ true
+    → runOf payload course w ≡ leftOf (length payload) (driveOf payload (eventsOf course) w)
+unfolding runOf admitOf case_refused_admitted_ if_then_else_
+admitted-run payload w course whole sound = rw (eq-eqb (length (w .flash)) 8192 whole, sound)
+
+began-whole : (config : Config) (address : ℕ) (payload work flash : List ℕ) → Accepted address payload work flash → length (began config address payload work flash .flash) ≡ 8192
+unfolding began
+began-whole config address payload work flash a = a .whole
+
+-- what is shown says what the end says
+end-told : (k n i : ℕ) (t : Transfer) → Told k n i t → Tells k n i (endIn t)
+end-told k n i (transfer.Write count) s = s
+end-told k n i (transfer.Read command count) s = absurd s
+end-told k n i (transfer.Refused a) s = absurd s
+end-told k n i (transfer.Ended a) s = s
 
 module _ (config : Config) (address : ℕ) (payload work flash : List ℕ) (a : Accepted address payload work flash) (gauge : Gauge) where
   -- driving the call over events of the model
@@ -144,29 +166,41 @@ module _ (config : Config) (address : ℕ) (payload work flash : List ℕ) (a : 
           (going config address payload work flash a some′ (w .0) (w .1) [])
 
   pub run-same : (course : List ℕ) → soundOf course ≡ true
-      → runOf payload course (beside gauge (began config address payload work flash))
-      ≡ leftOf (length payload) (beside gauge (run payload (eventsIn (eventsOf course)) (began config address payload work flash)))
-  unfolding runOf admitOf case_refused_admitted_ if_then_else_ began
+      → ran config address payload work flash gauge course ≡ leftOf (length payload) (beside gauge (ranIn config address payload work flash course))
   run-same course sound =
-      rw (eq-eqb (length flash) 8192 (a .whole), sound) (ap (leftOf (length payload)) (drive-same (eventsOf course)))
+      admitted-run payload (beside gauge (began config address payload work flash)) course (began-whole config address payload work flash a) sound
+      ∙ ap (leftOf (length payload)) (drive-same (eventsOf course))
 
   pub run-ends : (course : List ℕ) → soundOf course ≡ true
-      → runOf payload course (beside gauge (began config address payload work flash)) .run .end
-      ≡ endIn (run payload (eventsIn (eventsOf course)) (began config address payload work flash) .call .phase)
+      → ran config address payload work flash gauge course .run .end ≡ endIn (shows payload (ranIn config address payload work flash course))
   run-ends course sound = ap (λ (l : Left). l .run .end) (run-same course sound) ∙ by (eqb (length payload) 0) refl
     where
       by : (t : Bool) → eqb (length payload) 0 ≡ t
-          → leftOf (length payload) (beside gauge (run payload (eventsIn (eventsOf course)) (began config address payload work flash))) .run .end
-          ≡ endIn (run payload (eventsIn (eventsOf course)) (began config address payload work flash) .call .phase)
+          → leftOf (length payload) (beside gauge (ranIn config address payload work flash course)) .run .end
+          ≡ endIn (shows payload (ranIn config address payload work flash course))
       by true t =
           rw (run-empty config address payload work flash a (eqb-true _ _ t) (eventsIn (eventsOf course)))
-          (ended-at config address payload (length work) gauge 0 _ _ work flash (phase.Ended answer.Done) refl)
+          (ended-at config address payload (length work) gauge (a .room) 0 _ _ work flash (phase.Ended answer.Done) refl)
       by false t =
           let some : length payload ≡ 0 → ⊥ = eqb-false _ _ t in
           let some′ : 0 < length payload = omega arith in
           let w = within address (length payload) (a .window) some′ in
           ended-going config address payload flash (length work) (a .room) (a .whole) (w .0) (w .1) gauge _
           (going config address payload work flash a some′ (w .0) (w .1) (eventsIn (eventsOf course)))
+
+  -- what the run leaves
+  pub run-leaves : (course : List ℕ) → soundOf course ≡ true
+      → Leaves address payload flash (ranIn config address payload work flash course .acked) (ran config address payload work flash gauge course)
+  unfolding leftOf
+  run-leaves course sound =
+      let s = stopped config address payload work flash a (eventsIn (eventsOf course)) in
+      let f : ran config address payload work flash gauge course .flash ≡ ranIn config address payload work flash course .flash =
+      ap (λ (l : Left). l .flash) (run-same course sound) in
+      record {
+        overlay = rw f (s .overlay);
+        bytes = rw f (s .bytes);
+        told = rw (run-ends course sound) (end-told 32 (length payload) _ (shows payload (ranIn config address payload work flash course)) (s .told));
+      }
 
 -- ---- running on
 
@@ -175,12 +209,12 @@ unfolding driveOf
 drive-both payload [] further w = refl
 drive-both payload (e ∷ es) further w = drive-both payload es further (stepOf payload e w)
 
-events-both : (course further : List ℕ) → eventsOf (course ++ further) ≡ eventsOf course ++ eventsOf further
+pub events-both : (course further : List ℕ) → eventsOf (course ++ further) ≡ eventsOf course ++ eventsOf further
 unfolding eventsOf
 events-both [] further = refl
 events-both (byte ∷ course) further = ap (λ (es : List ModelEvent). eventOf byte ∷ es) (events-both course further)
 
-sound-both : (course further : List ℕ) → soundOf course ≡ true → soundOf further ≡ true → soundOf (course ++ further) ≡ true
+pub sound-both : (course further : List ℕ) → soundOf course ≡ true → soundOf further ≡ true → soundOf (course ++ further) ≡ true
 unfolding soundOf if_then_else_
 sound-both [] further p q = q
 sound-both (byte ∷ course) further p q = by (ltb 2 byte) p (λ r. sound-both course further r q)
@@ -190,16 +224,7 @@ sound-both (byte ∷ course) further p q = by (ltb 2 byte) p (λ r. sound-both c
     by true p on = p
     by false p on = on p
 
-began-whole : (config : Config) (address : ℕ) (payload work flash : List ℕ) → Accepted address payload work flash → length (began config address payload work flash .flash) ≡ 8192
-unfolding began
-began-whole config address payload work flash a = a .whole
-
 module _ (config : Config) (address : ℕ) (payload work flash : List ℕ) (a : Accepted address payload work flash) (gauge : Gauge) where
-  admitted-run : (w : ModelWorld) (course : List ℕ) → length (w .flash) ≡ 8192 → soundOf course ≡ true
-      → runOf payload course w ≡ leftOf (length payload) (driveOf payload (eventsOf course) w)
-  unfolding runOf admitOf case_refused_admitted_ if_then_else_
-  admitted-run w course whole sound = rw (eq-eqb (length (w .flash)) 8192 whole, sound)
-
   pub runs-on : (course further : List ℕ) → soundOf course ≡ true → soundOf further ≡ true
       → runOf payload (course ++ further) (beside gauge (began config address payload work flash))
       ≡ runOf payload further (left-over (runOf payload course (beside gauge (began config address payload work flash))))
@@ -209,10 +234,80 @@ module _ (config : Config) (address : ℕ) (payload work flash : List ℕ) (a : 
       let whole : length (driveOf payload (eventsOf course) w .flash) ≡ 8192 =
       ap (λ (v : ModelWorld). length (v .flash)) (drive-same config address payload work flash a gauge (eventsOf course))
       ∙ stopped config address payload work flash a (eventsIn (eventsOf course)) .bytes .size ∙ a .whole in
-      admitted-run w (course ++ further) (began-whole config address payload work flash a) (sound-both course further p q)
+      admitted-run payload w (course ++ further) (began-whole config address payload work flash a) (sound-both course further p q)
       ∙ ap (leftOf (length payload)) (ap (λ (es : List ModelEvent). driveOf payload es w) (events-both course further) ∙ drive-both payload (eventsOf course) (eventsOf further) w)
-      ∙ sym (ap (λ (l : Left). runOf payload further (left-over l)) (admitted-run w course (began-whole config address payload work flash a) p)
-      ∙ admitted-run (driveOf payload (eventsOf course) w) further whole q)
+      ∙ sym (ap (λ (l : Left). runOf payload further (left-over l)) (admitted-run payload w course (began-whole config address payload work flash a) p)
+      ∙ admitted-run payload (driveOf payload (eventsOf course) w) further whole q)
+
+  -- ---- going on
+
+  -- a go is a run over one course
+  one-course : {left : Left} → Go config address payload work flash gauge left
+      → (course : List ℕ) × (soundOf course ≡ true) × (left ≡ ran config address payload work flash gauge course)
+  one-course (started course p) = (course, p, refl)
+  one-course (ran-on course p g) =
+      let o = one-course g in
+      (o .0 ++ course, sound-both (o .0) course (o .1) p, ap (λ (l : Left). runOf payload course (left-over l)) (o .2) ∙ sym (runs-on (o .0) course (o .1) p))
+
+  go-leaves : (left : Left) → Go config address payload work flash gauge left → (i : ℕ) × Leaves address payload flash i left
+  go-leaves left g =
+      let o = one-course g in
+      (ranIn config address payload work flash (o .0) .acked, subst (Leaves address payload flash _) (sym (o .2)) (run-leaves config address payload work flash a gauge (o .0) (o .1)))
+
+-- a run that ended well has had every block acknowledged
+ran-all : (n i : ℕ) (e : End) → RanWell e → Tells 32 n i e → n ≤ i * 32
+ran-all n i end.Cut w s = absurd w
+ran-all n i (end.Answered a) w s = done-all n i a w s
+
+-- each go leaves less to do, and the last one leaves what one clean write would
+goes : {address : ℕ} {payload flash after : List ℕ} → inWindow address (length payload) ≡ true → length flash ≡ 8192
+    → GoesOn address payload flash after → after ≡ clean address payload flash
+goes {address} {payload} {flash} win whole (ended-well config work gauge left room g w) =
+    let l = go-leaves config address payload work flash (record { window = win; room = room; whole = whole }) gauge left g in
+    overlaid-all 32 (placeOf address) payload flash (l .0) (left .flash) (ran-all (length payload) (l .0) (left .run .end) w (l .1 .told)) (l .1 .overlay)
+goes {address} {payload} {flash} {after} win whole (went-on config work gauge left a room g e on) =
+    let l = go-leaves config address payload work flash (record { window = win; room = room; whole = whole }) gauge left g in
+    let told : Answered 32 (length payload) (l .0) a = subst (Tells 32 (length payload) (l .0)) e (l .1 .told) in
+    let r = rest-goes address payload flash win whole (l .0) a (left .flash) told (l .1 .overlay) in
+    goes {address = address + countOf a} {payload = drop (countOf a) payload} {flash = left .flash} (r .0) (l .1 .bytes .size ∙ whole) on ∙ r .1
+goes {address} {payload} {flash} {after} win whole (started-over config work gauge left room g e on) =
+    let l = go-leaves config address payload work flash (record { window = win; room = room; whole = whole }) gauge left g in
+    goes {address = address} {payload = payload} {flash = left .flash} win (l .1 .bytes .size ∙ whole) on
+    ∙ over-goes address payload flash win whole (l .0) (left .flash) (l .1 .overlay)
+
+-- ---- every transfer is heard
+
+pub heard-events : (n : ℕ) → eventsOf (replicate n 0) ≡ replicate n model.Heard
+unfolding eventsOf eventOf if_then_else_
+heard-events zero = refl
+heard-events (suc n) = ap (λ (es : List ModelEvent). model.Heard ∷ es) (heard-events n)
+
+pub heard-sound : (n : ℕ) → soundOf (replicate n 0) ≡ true
+unfolding soundOf if_then_else_
+heard-sound zero = refl
+heard-sound (suc n) = heard-sound n
+
+heard-in : (n : ℕ) → eventsIn (replicate n model.Heard) ≡ replicate n demand.acknowledged
+heard-in zero = refl
+heard-in (suc n) = ap (λ (es : List demand.Event). demand.acknowledged ∷ es) (heard-in n)
+
+end-well : (t : Transfer) → EndedWell t → RanWell (endIn t)
+end-well (transfer.Write count) w = absurd w
+end-well (transfer.Read command count) w = absurd w
+end-well (transfer.Refused a) w = absurd w
+end-well (transfer.Ended a) w = w
+
+pub unbroken : (config : Config) (address : ℕ) (payload work flash : List ℕ) → Accepted address payload work flash
+    → (gauge : Gauge) (n : ℕ) → length payload ≤ n * 32
+    → RanWell (ran config address payload work flash gauge (replicate n 0) .run .end)
+    × (ran config address payload work flash gauge (replicate n 0) .flash ≡ clean address payload flash)
+unbroken config address payload work flash a gauge n l =
+    let u = whole-write config address payload work flash a n l in
+    let events : eventsIn (eventsOf (replicate n 0)) ≡ replicate n demand.acknowledged = ap eventsIn (heard-events n) ∙ heard-in n in
+    let well : EndedWell (shows payload (ranIn config address payload work flash (replicate n 0))) = rw events (u .0) in
+    let ran-well : RanWell (ran config address payload work flash gauge (replicate n 0) .run .end) =
+    rw (run-ends config address payload work flash a gauge (replicate n 0) (heard-sound n)) (end-well (shows payload (ranIn config address payload work flash (replicate n 0))) well) in
+    (ran-well, goes (a .window) (a .whole) (ended-well config work gauge _ (a .room) (started (replicate n 0) (heard-sound n)) ran-well))
 
 -- every run over every course keeps demand 3
 pub on-courses : OnCourses
@@ -220,6 +315,8 @@ on-courses =
     record {
       same = λ config address payload work flash a gauge course sound. run-same config address payload work flash a gauge course sound;
       ends = λ config address payload work flash a gauge course sound. run-ends config address payload work flash a gauge course sound;
-      promised = λ config address payload work flash a course. stopped config address payload work flash a (eventsIn (eventsOf course));
+      promised = λ config address payload work flash a gauge course sound. run-leaves config address payload work flash a gauge course sound;
       runs-on = λ config address payload work flash a gauge course further p q. runs-on config address payload work flash a gauge course further p q;
+      goes-on = λ address payload flash after win whole g. goes win whole g;
+      unbroken = unbroken;
     }

@@ -3,10 +3,15 @@ pub mod Demand2
 pub mod Store
 pub mod Overlay
 pub mod Window
+pub mod Bytes
 pub mod Frames
 pub mod Machine
+pub mod Stopped
+pub mod Resumed
+pub mod Work
 pub mod Demand3
 pub mod Courses
 pub mod Replies
+pub mod ReadSteps
 pub mod Reading
 pub mod ReadsTrue

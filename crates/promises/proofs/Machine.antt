@@ -29,7 +29,7 @@ use Rattle.r5.specs.Plans.{flashWrite}
 use Rattle.courses.specs.Pick.{case_write_read_none_}
 use Rattle.courses.specs.WriteRun.{takenOf, reportedOf}
 use Rattle.courses.proofs.Cases.{at-write}
-use Rattle.promises.specs.Demand3.{Cause, busError, timedOut, Event, acknowledged, failed, unheard, causeOf, outcomeOf, flashAfter, ackedAfter, World, sent, idle, step}
+use Rattle.promises.specs.Demand3.{Cause, busError, timedOut, Event, acknowledged, failed, unheard, causeOf, outcomeOf, flashAfter, ackedAfter, World, sent, step}
 
 -- a failed transfer, with the answer that it would end the call with
 abbrev pub whyOf : Cause → Answer
@@ -65,9 +65,9 @@ module _ (config : Config) (address : ℕ) (payload : List ℕ) (n : ℕ) where
 
   module _ (i : ℕ) (b : Budget) (t : Tally) (work : List ℕ) (long : length work ≡ n) (room : 39 ≤ n) where
     -- the machine shows the frame of the block that is due
-    pub shows : nextOf (callAt phase.Waiting i b t) payload (length work) ≡ transfer.Write (length (frameOf i))
+    pub shows-block : nextOf (callAt phase.Waiting i b t) payload (length work) ≡ transfer.Write (length (frameOf i))
     unfolding nextOf case_waiting_ended_ fitsOf ownBytes isPlain planOf flashWrite shownOf dueBytes bytesAt laidOf writeOf if_then_else_
-    shows =
+    shows-block =
         rw (eq-eqb (length payload) (length payload) refl, eq-eqb (length work) n long, lt-ltb (length (blockBytes address i payload)) (length work) (omega (arith, block-short i)))
 
     pub lays : workAfter (callAt phase.Waiting i b t) payload work ≡ over (frameOf i) work
@@ -88,7 +88,7 @@ module _ (config : Config) (address : ℕ) (payload : List ℕ) (n : ℕ) where
         ≡ record { call = reportedOf (callAt phase.Waiting i b t) (outcomeOf e) (length payload) n; work = over (frameOf i) work; flash = flashAfter e (frameOf i) flash; acked = ackedAfter e i }
     unfolding step sent
     step-sent e flash =
-        sym (at-write _ _ _ _ _ _ _ refl shows (rw lays sent-is))
+        sym (at-write _ _ _ _ _ _ _ refl shows-block (rw lays sent-is))
       where
         sent-is : record { call = reportedOf (callAt phase.Waiting i b t) (outcomeOf e) (length payload) n; work = over (frameOf i) work; flash = flashAfter e (frameOf i) flash; acked = ackedAfter e i }
             ≡ sent payload e (over (frameOf i) work) (length (frameOf i)) (worldAt phase.Waiting i b t work flash)
@@ -119,8 +119,13 @@ module _ (config : Config) (address : ℕ) (payload : List ℕ) (n : ℕ) where
         ≡ record { call = failOf (callAt phase.Waiting i b t) (whyOf c); work = over (frameOf i) work; flash = flashAfter (unheard c) (frameOf i) flash; acked = i }
     step-unheard c flash = step-sent (unheard c) flash ∙ rw reported-failed
 
-  -- an ended call stays as it is
+  -- an ended call shows its answer
+  pub shows-ended : (a : Answer) (i : ℕ) (b : Budget) (t : Tally) (w : ℕ) → nextOf (callAt (phase.Ended a) i b t) payload w ≡ transfer.Ended a
+  unfolding nextOf case_waiting_ended_
+  shows-ended a i b t w = refl
+
+  -- and stays as it is
   pub step-ended : (e : Event) (a : Answer) (i : ℕ) (b : Budget) (t : Tally) (work flash : List ℕ)
       → step payload e (worldAt (phase.Ended a) i b t work flash) ≡ worldAt (phase.Ended a) i b t work flash
-  unfolding step idle nextOf workAfter case_waiting_ended_ case_write_read_none_
+  unfolding step nextOf workAfter case_waiting_ended_ case_write_read_none_
   step-ended e a i b t work flash = refl

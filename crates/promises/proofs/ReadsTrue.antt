@@ -1,19 +1,17 @@
 -- A read over the model's courses that ends well returns the flash's bytes; what was written over heard transfers is read back over heard transfers.
 -- Assumes nothing.
-use Prim.Native.Nat.{ℕ, zero, suc, _+_, _*_, _-_, _≤_, _<_, min}
-use mathlib.Core.Path.{_≡_, refl, sym, ap, _∙_}
+use Prim.Native.Nat.{ℕ, zero, suc, _+_, _*_, _≤_, _<_, min}
+use mathlib.Core.Path.{_≡_, refl, sym, ap, subst, _∙_}
 use mathlib.Core.Bool.{Bool, true, false, false≢true}
-use mathlib.Core.List.{List, _∷_}
+use mathlib.Core.List.{List, [], _∷_, _++_, append-assoc}
 use native.Mathlib.Omega.{arith}
 use lib.Dec.{eqb, leb}
 use lib.ListN.{length, take, replicate}
 use lib.Seq.{take-all, take-append-seam, length-take-le, drop-at}
-use mathlib.Core.List.{append-assoc}
 use borrow.Author.Tests.{eq-eqb, ne-eqb, eqb-true, eqb-false, leb-false, le-ltb, lt-leb}
 use Rattle.protocol.specs.Pick.{if_then_else_}
 use Rattle.protocol.specs.Bytes.{over, blocksOf}
 use Rattle.protocol.specs.declared.common.Config.{Config}
-use Rattle.protocol.specs.declared.error.Answer.{Answer}
 use Rattle.protocol.specs.declared.error.Answer.the-variants as answer
 use Rattle.engine.specs.Pick.{case_waiting_ended_}
 use Rattle.engine.specs.Budget.{nothing}
@@ -30,25 +28,17 @@ use Rattle.model_gauge.specs.declared.gauge.Event.{Event}
 use Rattle.model_gauge.specs.declared.gauge.Event.the-variants as event
 use Rattle.model_gauge.specs.declared.gauge.Gauge.{Gauge}
 use Rattle.courses.specs.Pick.{case_refused_admitted_}
-use Rattle.courses.specs.Course.{eventOf, eventsOf, soundOf, admitOf, endOf}
-use Rattle.courses.specs.WriteRun as writing
-use Rattle.courses.specs.ReadRun.{World, Left, driveOf, endedOf, leftOf, runOf}
+use Rattle.courses.specs.Course.{eventsOf, soundOf, admitOf, endOf}
+use Rattle.courses.specs.ReadRun.{World, Left, stepOf, driveOf, endedOf, leftOf, runOf}
 use Rattle.courses.specs.declared.course.End.the-variants as end
-use Rattle.promises.specs.Flash.{store}
-use Rattle.promises.specs.Demand3 as demand
-use Rattle.promises.specs.Demand3.{acknowledged, began, run, placeOf, clean, Accepted}
-use Rattle.promises.specs.Courses.{eventsIn, beside}
-use Rattle.promises.specs.Reading.{flashBytes, readBegan, ReadsTrue}
+use Rattle.promises.specs.Flash.{placeOf, store}
+use Rattle.promises.specs.Demand3.{clean, Accepted}
+use Rattle.promises.specs.Courses.{ran, RanWell}
+use Rattle.promises.specs.Reading.{flashBytes, readBegan, readRan, read-over, ReadsTrue}
 use Rattle.promises.proofs.Window.{within}
-use Rattle.promises.proofs.Demand3.{stopped, unbroken}
-use Rattle.promises.proofs.Courses.{run-same}
-use Rattle.promises.proofs.Reading.{readWorld, headOf, head-long, step-head, step-read, buffer-long, head-sent, Kept, blockAfter, read-heard, block-after, Reading, reading-run, ended-stays, all-received}
-
-cut-not-done : end.Cut ≡ end.Answered answer.Done → ⊥
-cut-not-done e = let z : _≡_ {A = ℕ} 0 1 = cc in omega arith
-
-same-answer : (a : Answer) → end.Answered a ≡ end.Answered answer.Done → a ≡ answer.Done
-same-answer a e = cc
+use Rattle.promises.proofs.Courses.{run-leaves, events-both, sound-both, heard-events, heard-sound, unbroken}
+use Rattle.promises.proofs.ReadSteps.{readWorld, headOf, head-long, step-head, step-read, ended-stays}
+use Rattle.promises.proofs.Reading.{buffer-long, head-sent, Kept, blockAfter, read-heard, block-after, Reading, reading-run, all-received}
 
 -- an accepted read waits with its head due, or is done where nothing is to be read
 began-is : (gauge : Gauge) (config : Config) (address : ℕ) (buffer work flash : List ℕ) → Accepted address buffer work flash → (t : Bool) → eqb (length buffer) 0 ≡ t
@@ -57,37 +47,39 @@ began-is : (gauge : Gauge) (config : Config) (address : ℕ) (buffer work flash 
 unfolding readBegan startOf admitted measured windowed flashRead hasHead if_then_else_
 began-is gauge config address buffer work flash a t e = rw (le-ltb (length work) 39 (a .room), a .window, e)
 
--- how a run says that it ended
-ended-at : (config : Config) (address size n : ℕ) (p : Phase) (h : Bool) (i : ℕ) (b : Budget) (t : Tally) (g : Gauge) (buffer work flash : List ℕ)
-    → length buffer ≡ size → length work ≡ n
-    → leftOf (readWorld config address size n p h i b t g buffer work flash) .run .end ≡ end.Answered answer.Done → p ≡ phase.Ended answer.Done
-unfolding leftOf endedOf endOf case_waiting_ended_ fitsOf if_then_else_
-ended-at config address size n phase.Waiting h i b t g buffer work flash fits long e =
-    absurd (cut-not-done (rw (eq-eqb (length buffer) size fits, eq-eqb (length work) n long) at e))
-ended-at config address size n (phase.Ended a) h i b t g buffer work flash fits long e = ap phase.Ended (same-answer a e)
+-- a run that is admitted drives the call over its course
+admitted-run : (w : World) (course : List ℕ) → length (w .flash) ≡ 8192 → soundOf course ≡ true → runOf course w ≡ leftOf (driveOf (eventsOf course) w)
+unfolding runOf admitOf case_refused_admitted_ if_then_else_
+admitted-run w course whole sound = rw (eq-eqb (length (w .flash)) 8192 whole, sound)
 
 module _ (config : Config) (address : ℕ) (buffer work flash : List ℕ) (a : Accepted address buffer work flash) (gauge : Gauge) where
   run-is : (course : List ℕ) → soundOf course ≡ true
-      → runOf course (readBegan gauge config address buffer work flash) ≡ leftOf (driveOf (eventsOf course) (readBegan gauge config address buffer work flash))
-  unfolding runOf admitOf case_refused_admitted_ if_then_else_ readBegan
-  run-is course sound = rw (eq-eqb (length flash) 8192 (a .whole), sound)
+      → readRan config address buffer work flash gauge course ≡ leftOf (driveOf (eventsOf course) (readBegan gauge config address buffer work flash))
+  unfolding readBegan
+  run-is course sound = admitted-run (readBegan gauge config address buffer work flash) course (a .whole) sound
 
-  done-received : (low : 0x4000 ≤ address) (high : address + length buffer ≤ 0x6000) (p : Phase) (h : Bool) (i : ℕ) (g : Gauge) → p ≡ phase.Ended answer.Done
+  -- a run that ended well has received every block
+  done-received : (low : 0x4000 ≤ address) (high : address + length buffer ≤ 0x6000) (p : Phase) (h : Bool) (i : ℕ) (b : Budget) (t : Tally) (g : Gauge) (now work′ : List ℕ)
+      → length now ≡ length buffer → length work′ ≡ length work
+      → RanWell (leftOf (readWorld config address (length buffer) (length work) p h i b t g now work′ flash) .run .end)
       → Kept config address (length work) buffer flash (a .room) (a .whole) low high p h i g → length buffer ≤ i * 32
-  done-received low high p h i g e k = (rw e at k) refl
+  unfolding leftOf endedOf endOf case_waiting_ended_ fitsOf if_then_else_
+  done-received low high phase.Waiting h i b t g now work′ fits long e k =
+      absurd (rw (eq-eqb (length now) (length buffer) fits, eq-eqb (length work′) (length work) long) at e)
+  done-received low high (phase.Ended a) h i b t g now work′ fits long e k = k e
 
   -- what the invariant says of a run that ended well
   kept-true : (low : 0x4000 ≤ address) (high : address + length buffer ≤ 0x6000) (p : Phase) (h : Bool) (i : ℕ) (b : Budget) (t : Tally) (g : Gauge) (now work′ : List ℕ)
       → length work′ ≡ length work → now ≡ over (take (i * 32) (flashBytes address (length buffer) flash)) buffer
       → Kept config address (length work) buffer flash (a .room) (a .whole) low high p h i g
       → (leftOf (readWorld config address (length buffer) (length work) p h i b t g now work′ flash) .flash ≡ flash)
-      × (leftOf (readWorld config address (length buffer) (length work) p h i b t g now work′ flash) .run .end ≡ end.Answered answer.Done
+      × (RanWell (leftOf (readWorld config address (length buffer) (length work) p h i b t g now work′ flash) .run .end)
       → leftOf (readWorld config address (length buffer) (length work) p h i b t g now work′ flash) .buffer ≡ flashBytes address (length buffer) flash)
   unfolding leftOf
   kept-true low high p h i b t g now work′ long f k = (
     refl,
     λ e. all-received config address (length work) buffer flash (a .room) (a .whole) low high i now
-        (done-received low high p h i g (ended-at config address (length buffer) (length work) p h i b t g now work′ flash (buffer-long config address (length work) buffer flash (a .room) (a .whole) low high i now f) long e) k) f,
+        (done-received low high p h i b t g now work′ (buffer-long config address (length work) buffer flash (a .room) (a .whole) low high i now f) long e k) f,
   )
 
   -- nothing is to be read
@@ -123,7 +115,7 @@ module _ (config : Config) (address : ℕ) (buffer work flash : List ℕ) (a : A
 
   reads-empty : (course : List ℕ) → length buffer ≡ 0
       → (leftOf (driveOf (eventsOf course) (readBegan gauge config address buffer work flash)) .flash ≡ flash)
-      × (leftOf (driveOf (eventsOf course) (readBegan gauge config address buffer work flash)) .run .end ≡ end.Answered answer.Done
+      × (RanWell (leftOf (driveOf (eventsOf course) (readBegan gauge config address buffer work flash)) .run .end)
       → leftOf (driveOf (eventsOf course) (readBegan gauge config address buffer work flash)) .buffer ≡ flashBytes address (length buffer) flash)
   unfolding leftOf
   reads-empty course empty =
@@ -132,7 +124,7 @@ module _ (config : Config) (address : ℕ) (buffer work flash : List ℕ) (a : A
 
   reads-some : (course : List ℕ) → 0 < length buffer
       → (leftOf (driveOf (eventsOf course) (readBegan gauge config address buffer work flash)) .flash ≡ flash)
-      × (leftOf (driveOf (eventsOf course) (readBegan gauge config address buffer work flash)) .run .end ≡ end.Answered answer.Done
+      × (RanWell (leftOf (driveOf (eventsOf course) (readBegan gauge config address buffer work flash)) .run .end)
       → leftOf (driveOf (eventsOf course) (readBegan gauge config address buffer work flash)) .buffer ≡ flashBytes address (length buffer) flash)
   reads-some course some =
       let w = within address (length buffer) (a .window) some in
@@ -140,35 +132,41 @@ module _ (config : Config) (address : ℕ) (buffer work flash : List ℕ) (a : A
       rw (r .is) (kept-true (w .0) (w .1) (r .at) (r .head) (r .i) (r .b) (r .t) (r .gauge) (r .buffer) (r .work) (r .long) (r .front) (r .kept))
 
   pub reads : (course : List ℕ) → soundOf course ≡ true
-      → (runOf course (readBegan gauge config address buffer work flash) .flash ≡ flash)
-      × (runOf course (readBegan gauge config address buffer work flash) .run .end ≡ end.Answered answer.Done
-      → runOf course (readBegan gauge config address buffer work flash) .buffer ≡ flashBytes address (length buffer) flash)
+      → (readRan config address buffer work flash gauge course .flash ≡ flash)
+      × (RanWell (readRan config address buffer work flash gauge course .run .end)
+      → readRan config address buffer work flash gauge course .buffer ≡ flashBytes address (length buffer) flash)
   reads course sound = rw (run-is course sound) (by (eqb (length buffer) 0) refl)
     where
       by : (t : Bool) → eqb (length buffer) 0 ≡ t
           → (leftOf (driveOf (eventsOf course) (readBegan gauge config address buffer work flash)) .flash ≡ flash)
-          × (leftOf (driveOf (eventsOf course) (readBegan gauge config address buffer work flash)) .run .end ≡ end.Answered answer.Done
+          × (RanWell (leftOf (driveOf (eventsOf course) (readBegan gauge config address buffer work flash)) .run .end)
           → leftOf (driveOf (eventsOf course) (readBegan gauge config address buffer work flash)) .buffer ≡ flashBytes address (length buffer) flash)
       by true t = reads-empty course (eqb-true _ _ t)
       by false t =
           let some : length buffer ≡ 0 → ⊥ = eqb-false _ _ t in
           reads-some course (omega arith)
 
+-- ---- running on
+
+drive-both : (es further : List Event) (w : World) → driveOf (es ++ further) w ≡ driveOf further (driveOf es w)
+unfolding driveOf
+drive-both [] further w = refl
+drive-both (e ∷ es) further w = drive-both es further (stepOf e w)
+
+pub runs-on : (config : Config) (address : ℕ) (buffer work flash : List ℕ) → Accepted address buffer work flash
+    → (gauge : Gauge) (course further : List ℕ) → soundOf course ≡ true → soundOf further ≡ true
+    → readRan config address buffer work flash gauge (course ++ further) ≡ runOf further (read-over (readRan config address buffer work flash gauge course))
+unfolding leftOf endedOf
+runs-on config address buffer work flash a gauge course further p q =
+    let w : World = readBegan gauge config address buffer work flash in
+    let ran-is : readRan config address buffer work flash gauge course ≡ leftOf (driveOf (eventsOf course) w) = run-is config address buffer work flash a gauge course p in
+    let whole : length (driveOf (eventsOf course) w .flash) ≡ 8192 =
+    sym (ap (λ (l : Left). length (l .flash)) ran-is) ∙ ap length (reads config address buffer work flash a gauge course p .0) ∙ a .whole in
+    run-is config address buffer work flash a gauge (course ++ further) (sound-both course further p q)
+    ∙ ap leftOf (ap (λ (es : List Event). driveOf es w) (events-both course further) ∙ drive-both (eventsOf course) (eventsOf further) w)
+    ∙ sym (ap (λ (l : Left). runOf further (read-over l)) ran-is ∙ admitted-run (driveOf (eventsOf course) w) further whole q)
+
 -- ---- every transfer is heard
-
-heard-events : (n : ℕ) → eventsOf (replicate n 0) ≡ replicate n event.Heard
-unfolding eventsOf eventOf if_then_else_
-heard-events zero = refl
-heard-events (suc n) = ap (λ (es : List Event). event.Heard ∷ es) (heard-events n)
-
-heard-sound : (n : ℕ) → soundOf (replicate n 0) ≡ true
-unfolding soundOf if_then_else_
-heard-sound zero = refl
-heard-sound (suc n) = heard-sound n
-
-heard-in : (n : ℕ) → eventsIn (replicate n event.Heard) ≡ replicate n acknowledged
-heard-in zero = refl
-heard-in (suc n) = ap (λ (es : List demand.Event). acknowledged ∷ es) (heard-in n)
 
 module _ (config : Config) (address n : ℕ) (old flash : List ℕ) (room : 39 ≤ n) (whole : length flash ≡ 8192)
     (low : 0x4000 ≤ address) (high : address + length old ≤ 0x6000) where
@@ -211,7 +209,7 @@ module _ (config : Config) (address n : ℕ) (old flash : List ℕ) (room : 39 �
 module _ (config : Config) (address : ℕ) (buffer work flash : List ℕ) (a : Accepted address buffer work flash) (gauge : Gauge) where
   -- a read over heard transfers ends well
   heard-ends : (m : ℕ) → blocksOf (length buffer) < m
-      → runOf (replicate m 0) (readBegan gauge config address buffer work flash) .run .end ≡ end.Answered answer.Done
+      → readRan config address buffer work flash gauge (replicate m 0) .run .end ≡ end.Answered answer.Done
   unfolding leftOf endedOf endOf case_waiting_ended_ if_then_else_
   heard-ends m k =
       ap (λ (l : Left). l .run .end) (run-is config address buffer work flash a gauge (replicate m 0) (heard-sound m))
@@ -232,35 +230,22 @@ clean-bytes address payload flash fits =
     let front : length (take (placeOf address) flash) ≡ placeOf address = length-take-le (placeOf address) flash (omega arith) in
     rw (append-assoc, drop-at (take (placeOf address) flash) _ (placeOf address) front) (take-append-seam payload _)
 
-written : (config : Config) (address : ℕ) (payload work flash : List ℕ) → Accepted address payload work flash → (gauge : Gauge) (n : ℕ)
-    → writing.runOf payload (replicate n 0) (beside gauge (began config address payload work flash)) .flash
-    ≡ run payload (replicate n acknowledged) (began config address payload work flash) .flash
-unfolding writing.leftOf
-written config address payload work flash a gauge n =
-    ap (λ (l : writing.Left). l .flash) (run-same config address payload work flash a gauge (replicate n 0) (heard-sound n))
-    ∙ ap (λ (es : List demand.Event). run payload es (began config address payload work flash) .flash) (ap eventsIn (heard-events n) ∙ heard-in n)
-
 pub reads-back : (config config′ : Config) (address : ℕ) (payload work flash buffer work′ : List ℕ) → Accepted address payload work flash
     → length buffer ≡ length payload → 39 ≤ length work′
     → (gauge gauge′ : Gauge) (n m : ℕ) → blocksOf (length payload) ≤ n → blocksOf (length payload) < m
-    → (runOf (replicate m 0) (readBegan gauge′ config′ address buffer work′
-    (writing.runOf payload (replicate n 0) (beside gauge (began config address payload work flash)) .flash)) .run .end
-    ≡ end.Answered answer.Done)
-    × (runOf (replicate m 0) (readBegan gauge′ config′ address buffer work′
-    (writing.runOf payload (replicate n 0) (beside gauge (began config address payload work flash)) .flash)) .buffer
-    ≡ payload)
+    → RanWell (readRan config′ address buffer work′ (ran config address payload work flash gauge (replicate n 0) .flash) gauge′ (replicate m 0) .run .end)
+    × (readRan config′ address buffer work′ (ran config address payload work flash gauge (replicate n 0) .flash) gauge′ (replicate m 0) .buffer ≡ payload)
 reads-back config config′ address payload work flash buffer work′ a same room gauge gauge′ n m blocks more =
-    rw (written config address payload work flash a gauge n)
-    (let now : List ℕ = run payload (replicate n acknowledged) (began config address payload work flash) .flash in
+    let now : List ℕ = ran config address payload work flash gauge (replicate n 0) .flash in
+    let clean-now : now ≡ clean address payload flash = unbroken config address payload work flash a gauge n (omega arith) .1 in
     let c : Accepted address buffer work′ now =
-    record { window = rw same (a .window); room = room; whole = stopped config address payload work flash a (replicate n acknowledged) .bytes .size ∙ a .whole } in
-    let well : runOf (replicate m 0) (readBegan gauge′ config′ address buffer work′ now) .run .end ≡ end.Answered answer.Done =
-    heard-ends config′ address buffer work′ now c gauge′ m (rw same more) in
-    let clean-now : now ≡ clean address payload flash = unbroken config address payload work flash a n (omega arith) .1 in (
+    record { window = rw same (a .window); room = room; whole = run-leaves config address payload work flash a gauge (replicate n 0) (heard-sound n) .bytes .size ∙ a .whole } in
+    let well : RanWell (readRan config′ address buffer work′ now gauge′ (replicate m 0) .run .end) =
+    subst RanWell (sym (heard-ends config′ address buffer work′ now c gauge′ m (rw same more))) refl in (
       well,
       reads config′ address buffer work′ now c gauge′ (replicate m 0) (heard-sound m) .1 well
           ∙ rw (same, clean-now) (by (eqb (length payload) 0) refl),
-    ))
+    )
   where
     by : (t : Bool) → eqb (length payload) 0 ≡ t → flashBytes address (length payload) (clean address payload flash) ≡ payload
     by true t =
@@ -278,5 +263,6 @@ pub reads-true : ReadsTrue
 reads-true =
     record {
       reads = λ config address buffer work flash a gauge course sound. reads config address buffer work flash a gauge course sound;
+      runs-on = runs-on;
       reads-back = reads-back;
     }

@@ -74,6 +74,10 @@ pub store-nothing : (f : List ℕ) (a : ℕ) → store f a [] ≡ f
 unfolding store
 store-nothing f a = sym (paste-zero f a [])
 
+pub store-empty : (f : List ℕ) (a : ℕ) (x : List ℕ) → length x ≡ 0 → store f a x ≡ f
+store-empty f a [] e = store-nothing f a
+store-empty f a (b ∷ x) e = absurd (omega arith)
+
 -- at least the first b of p are stored: the rest of p, stored from b on, makes it all of p
 pub store-rest : (f : List ℕ) (a : ℕ) (p : List ℕ) (b m : ℕ) → a ≤ length f → b ≤ length p → b ≤ m
     → store (store f a (take m p)) (a + b) (drop b p) ≡ store f a p

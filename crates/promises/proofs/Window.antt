@@ -37,3 +37,20 @@ within start len e some = by (eqb len 0) refl e
         let lo : 0x4000 ≤ start = leb-true _ _ (s .0) in
         let hi : start + (len - 1) ≤ 0x5FFF = leb-true _ _ (s .1) in
         (lo, omega arith)
+
+-- what is left past the first b bytes passes too
+pub window-rest : (start len b : ℕ) → inWindow start len ≡ true → b ≤ len → inWindow (start + b) (len - b) ≡ true
+unfolding inWindow
+window-rest start len b e l = by (eqb len 0) refl
+  where
+    by : (t : Bool) → eqb len 0 ≡ t → inWindow (start + b) (len - b) ≡ true
+    by true t =
+        let z : len ≡ 0 = eqb-true len 0 t in
+        let none : len - b ≡ 0 = omega arith in
+        rw none
+    by false t =
+        let some : len ≡ 0 → ⊥ = eqb-false len 0 t in
+        let w = within start len e (omega arith) in
+        let low : 0x4000 ≤ start = w .0 in
+        let high : start + len ≤ 0x6000 = w .1 in
+        inside (start + b) (len - b) (omega arith) (omega arith)

@@ -1,9 +1,10 @@
 -- Demand 3: stop a data-flash write anywhere and know every byte; go on from the count, and the flash is as one clean write leaves it.
 --
--- The gauge reads the frames that the step machine shows, byte by byte with the model's frame reader. What is supposed of it: it has stored whole
--- every block that it acknowledged, and a failed transfer did nothing or its full work unheard. Nothing else is supposed, of bus, retries or PEC.
+-- What is supposed of the gauge: it reads the frames that the step machine shows, and stores their bytes, as the model does (model_gauge, `stored`);
+-- it has stored whole every block that it acknowledged; and a failed transfer did nothing or its full work unheard. Nothing is supposed of the bus, the
+-- retries or the PEC: the list of events says what becomes of each transfer, and any list will do.
 -- Assumes nothing.
-use Prim.Native.Nat.{ℕ, suc, _+_, _*_, _-_, _≤_, _<_}
+use Prim.Native.Nat.{ℕ, suc, _+_, _*_, _≤_, _<_}
 use mathlib.Core.Path.{_≡_}
 use mathlib.Core.Bool.{true}
 use mathlib.Core.Logic.{_⊎_}
@@ -15,18 +16,17 @@ use Rattle.protocol.specs.Answer.{numberOf, detailOf}
 use Rattle.protocol.specs.Window.{inWindow}
 use Rattle.protocol.specs.declared.common.Config.{Config}
 use Rattle.protocol.specs.declared.error.Answer.{Answer}
-use Rattle.protocol.specs.declared.error.Answer.the-variants as answer
 use Rattle.engine.specs.declared.bus.Outcome.{Outcome}
 use Rattle.engine.specs.declared.bus.Outcome.the-variants as outcome
-use Rattle.engine.specs.declared.bus.Phase.{Phase}
-use Rattle.engine.specs.declared.bus.Phase.the-variants as phase
+use Rattle.engine.specs.declared.bus.Transfer.{Transfer}
+use Rattle.engine.specs.declared.bus.Transfer.the-variants as transfer
 use Rattle.writing.specs.Writing.{startOf, nextOf, workAfter, partOf}
 use Rattle.writing.specs.declared.call.WriteCall.{WriteCall}
 use Rattle.r5.specs.Plans.{flashWrite}
 use Rattle.model_gauge.specs.Gauge.{stored}
 use Rattle.courses.specs.Pick.{case_write_read_none_}
 use Rattle.courses.specs.WriteRun.{reportedOf}
-use Rattle.promises.specs.Flash.{store, Overlaid, Stands}
+use Rattle.promises.specs.Flash.{placeOf, store, Overlaid, Stands}
 
 -- ---- what becomes of a transfer
 
@@ -85,28 +85,47 @@ sent payload e work n w = record {
   acked = ackedAfter e (w .acked);
 }
 
--- nothing is shown: an ended call stays as it is
-unfoldable pub idle : List ℕ → World → World
-idle work w = record { call = w .call; work = work; flash = w .flash; acked = w .acked }
+-- the same with another work buffer
+abbrev pub holding : List ℕ → World → World
+holding work w = record { call = w .call; work = work; flash = w .flash; acked = w .acked }
 
--- one transfer, as the machine shows it
+-- what the machine shows
+abbrev pub shows : List ℕ → World → Transfer
+shows payload w = nextOf (w .call) payload (length (w .work))
+
+-- one transfer, as the machine shows it. Where it shows no write, nothing goes out and nothing is heard
 unfoldable pub step : List ℕ → Event → World → World
 step payload e w =
-    case nextOf (w .call) payload (length (w .work))
+    case shows payload w
     write (λ n. sent payload e (workAfter (w .call) payload (w .work)) n w)
-    read (λ command count. idle (workAfter (w .call) payload (w .work)) w)
-    none idle (workAfter (w .call) payload (w .work)) w
+    read (λ command count. holding (workAfter (w .call) payload (w .work)) w)
+    none holding (workAfter (w .call) payload (w .work)) w
 
 -- a transfer for each event. Every point of stopping is the end of some list
 unfoldable pub run : List ℕ → List Event → World → World
 run payload [] w = w
 run payload (e ∷ es) w = run payload es (step payload e w)
 
--- ---- what is promised
+-- the same with a work buffer that is lent afresh for each transfer
+unfoldable pub runLent : List ℕ → List (Event × List ℕ) → World → World
+runLent payload [] w = w
+runLent payload (s ∷ steps) w = runLent payload steps (step payload (s .0) (holding (s .1) w))
 
--- where an address lies in the flash
-abbrev pub placeOf : ℕ → ℕ
-placeOf address = address - 0x4000
+-- the events of such steps
+abbrev pub events : List (Event × List ℕ) → List Event
+events [] = []
+events (s ∷ steps) = s .0 ∷ events steps
+
+-- every work buffer of such steps has n bytes
+abbrev pub Lends : ℕ → List (Event × List ℕ) → Type 0
+Lends n [] = Unit {0}
+Lends n (s ∷ steps) = (length (s .1) ≡ n) × Lends n steps
+
+-- the same but for the bytes of the work buffer
+abbrev pub Alike : World → World → Type 0
+Alike v w = (v .call ≡ w .call) × (length (v .work) ≡ length (w .work)) × (v .flash ≡ w .flash) × (v .acked ≡ w .acked)
+
+-- ---- what is promised
 
 -- what one clean write leaves
 abbrev pub clean : ℕ → List ℕ → List ℕ → List ℕ
@@ -119,16 +138,25 @@ pub data Answered (k n i : ℕ) (a : Answer) : Type 0 where
   some-acked : numberOf a ≡ 6 → detailOf a ≡ i * k → 0 < i → i * k < n → Answered k n i a
   none-acked : (numberOf a ≡ 1) ⊎ (numberOf a ≡ 2) → i ≡ 0 → Answered k n i a
 
--- a call that waits has a block to send
-abbrev pub Told : ℕ → ℕ → ℕ → Phase → Type 0
-Told k n i phase.Waiting = i * k < n
-Told k n i (phase.Ended a) = Answered k n i a
+-- what the machine shows then: a block, where one is left to send, or such an answer; never a read, never a refusal
+abbrev pub Told : ℕ → ℕ → ℕ → Transfer → Type 0
+Told k n i (transfer.Write count) = i * k < n
+Told k n i (transfer.Read command count) = ⊥
+Told k n i (transfer.Refused a) = ⊥
+Told k n i (transfer.Ended a) = Answered k n i a
 
--- at every point of stopping: the flash as an overlay, the same byte by byte, and what the call says
+-- at every point of stopping: the flash as an overlay, the same byte by byte, and what the machine shows
 pub record Promised (address : ℕ) (payload flash : List ℕ) (w : World) : Type 0 where
   pub overlay : Overlaid 32 (placeOf address) payload flash (w .acked) (w .flash)
-  pub bytes : Stands 32 (placeOf address) payload flash (w .acked) (w .flash)
-  pub told : Told 32 (length payload) (w .acked) (w .call .phase)
+  pub bytes : Stands 32 address payload flash (w .acked) (w .flash)
+  pub told : Told 32 (length payload) (w .acked) (shows payload w)
+
+-- the machine shows the answer 0
+abbrev pub EndedWell : Transfer → Type 0
+EndedWell (transfer.Write count) = ⊥
+EndedWell (transfer.Read command count) = ⊥
+EndedWell (transfer.Refused a) = ⊥
+EndedWell (transfer.Ended a) = numberOf a ≡ 0
 
 -- the count that an answer gives; none given means zero
 abbrev pub countOf : Answer → ℕ
@@ -138,14 +166,14 @@ countOf a = if eqb (numberOf a) 6 then detailOf a else 0
 -- After an error the next go sends only the bytes past the count; after a stop in the middle it sends all of them again
 pub data Goes : ℕ → List ℕ → List ℕ → List ℕ → Type 0 where
   ended-well : {address : ℕ} {payload flash : List ℕ} (config : Config) (work : List ℕ) (es : List Event) → 39 ≤ length work
-      → run payload es (began config address payload work flash) .call .phase ≡ phase.Ended answer.Done
+      → EndedWell (shows payload (run payload es (began config address payload work flash)))
       → Goes address payload flash (run payload es (began config address payload work flash) .flash)
   went-on : {address : ℕ} {payload flash after : List ℕ} (config : Config) (work : List ℕ) (es : List Event) (a : Answer) → 39 ≤ length work
-      → run payload es (began config address payload work flash) .call .phase ≡ phase.Ended a
+      → shows payload (run payload es (began config address payload work flash)) ≡ transfer.Ended a
       → Goes (address + countOf a) (drop (countOf a) payload) (run payload es (began config address payload work flash) .flash) after
       → Goes address payload flash after
-  started-over : {address : ℕ} {payload flash after : List ℕ} (config : Config) (work : List ℕ) (es : List Event) → 39 ≤ length work
-      → run payload es (began config address payload work flash) .call .phase ≡ phase.Waiting
+  started-over : {address : ℕ} {payload flash after : List ℕ} (config : Config) (work : List ℕ) (es : List Event) (n : ℕ) → 39 ≤ length work
+      → shows payload (run payload es (began config address payload work flash)) ≡ transfer.Write n
       → Goes address payload (run payload es (began config address payload work flash) .flash) after
       → Goes address payload flash after
 
@@ -160,14 +188,19 @@ pub record Demand3 : Type 0 where
   -- stop anywhere and know every byte, and what the count says
   pub stopped : (config : Config) (address : ℕ) (payload work flash : List ℕ) → Accepted address payload work flash → (es : List Event)
       → Promised address payload flash (run payload es (began config address payload work flash))
+  -- the bytes of the work buffer do not matter: the host may lend another one of that length for each transfer
+  pub any-work : (config : Config) (address : ℕ) (payload work flash : List ℕ) → Accepted address payload work flash
+      → (steps : List (Event × List ℕ)) → Lends (length work) steps
+      → Alike (runLent payload steps (began config address payload work flash)) (run payload (events steps) (began config address payload work flash))
   -- go on, any number of times
   pub resumed : (address : ℕ) (payload flash after : List ℕ) → inWindow address (length payload) ≡ true → length flash ≡ 8192
       → Goes address payload flash after → after ≡ clean address payload flash
   -- and that is what a write leaves whose every transfer is acknowledged: it ends well
   pub unbroken : (config : Config) (address : ℕ) (payload work flash : List ℕ) → Accepted address payload work flash
       → (n : ℕ) → length payload ≤ n * 32
-      → (run payload (replicate n acknowledged) (began config address payload work flash) .call .phase ≡ phase.Ended answer.Done)
+      → EndedWell (shows payload (run payload (replicate n acknowledged) (began config address payload work flash)))
       × (run payload (replicate n acknowledged) (began config address payload work flash) .flash ≡ clean address payload flash)
   -- the overlay and the bytes say the same, for blocks of any length
-  pub agree : (k at : ℕ) (payload flash : List ℕ) → at + length payload ≤ length flash → (i : ℕ) (now : List ℕ)
-      → (Overlaid k at payload flash i now → Stands k at payload flash i now) × (Stands k at payload flash i now → Overlaid k at payload flash i now)
+  pub agree : (k address : ℕ) (payload flash : List ℕ) → inWindow address (length payload) ≡ true → length flash ≡ 8192 → (i : ℕ) (now : List ℕ)
+      → (Overlaid k (placeOf address) payload flash i now → Stands k address payload flash i now)
+      × (Stands k address payload flash i now → Overlaid k (placeOf address) payload flash i now)

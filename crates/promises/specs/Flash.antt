@@ -1,10 +1,18 @@
--- A flash with bytes stored over it, for blocks of any length k: as an overlay, and byte by byte.
+-- A flash with bytes stored over it, for blocks of any length k: as an overlay, and byte by byte for each address.
 -- Assumes nothing.
-use Prim.Native.Nat.{ℕ, suc, _+_, _*_, _≤_, _<_, min}
+use Prim.Native.Nat.{ℕ, suc, _+_, _*_, _-_, _≤_, _<_, min}
 use mathlib.Core.Path.{_≡_}
 use mathlib.Core.Logic.{_⊎_}
 use mathlib.Core.List.{List, _++_}
 use lib.ListN.{length, take, drop, getD}
+
+-- where an address lies in the flash: the byte of 4000 hex is first
+abbrev pub placeOf : ℕ → ℕ
+placeOf address = address - 0x4000
+
+-- the byte of an address
+abbrev pub byteAt : List ℕ → ℕ → ℕ
+byteAt flash address = getD flash (placeOf address) 0
 
 -- bytes over a flash from a place on; the rest of it as it was
 unfoldable pub store : List ℕ → ℕ → List ℕ → List ℕ
@@ -22,16 +30,15 @@ upto k at payload flash i = store flash at (take (i * k) payload)
 abbrev pub Overlaid : ℕ → ℕ → List ℕ → List ℕ → ℕ → List ℕ → Type 0
 Overlaid k at payload flash i now = (now ≡ upto k at payload flash i) ⊎ (now ≡ upto k at payload flash (suc i))
 
--- in bytes
-pub record Stands (k at : ℕ) (payload flash : List ℕ) (i : ℕ) (now : List ℕ) : Type 0 where
+-- in bytes, for each address x of the window, of a payload at an address
+pub record Stands (k address : ℕ) (payload flash : List ℕ) (i : ℕ) (now : List ℕ) : Type 0 where
   -- no byte more, none fewer
   pub size : length now ≡ length flash
   -- the bytes of acknowledged blocks stand at their addresses
-  pub acked : (j : ℕ) → j < i * k → j < length payload → getD now (at + j) 0 ≡ getD payload j 0
+  pub acked : (x : ℕ) → address ≤ x → x < address + i * k → x < address + length payload → byteAt now x ≡ getD payload (x - address) 0
   -- the next block is all old or all new
   pub next :
-      ((j : ℕ) → i * k ≤ j → j < suc i * k → j < length payload → getD now (at + j) 0 ≡ getD flash (at + j) 0)
-      ⊎ ((j : ℕ) → i * k ≤ j → j < suc i * k → j < length payload → getD now (at + j) 0 ≡ getD payload j 0)
-  -- every other byte is as before
-  pub before : (j : ℕ) → j < at → getD now j 0 ≡ getD flash j 0
-  pub past : (j : ℕ) → at + min (suc i * k) (length payload) ≤ j → getD now j 0 ≡ getD flash j 0
+      ((x : ℕ) → address + i * k ≤ x → x < address + suc i * k → x < address + length payload → byteAt now x ≡ byteAt flash x)
+      ⊎ ((x : ℕ) → address + i * k ≤ x → x < address + suc i * k → x < address + length payload → byteAt now x ≡ getD payload (x - address) 0)
+  -- the byte of every other address of the window is as before
+  pub other : (x : ℕ) → 0x4000 ≤ x → x < 0x6000 → (x < address) ⊎ (address + min (suc i * k) (length payload) ≤ x) → byteAt now x ≡ byteAt flash x

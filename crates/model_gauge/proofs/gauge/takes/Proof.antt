@@ -1,8 +1,10 @@
--- `model_gauge::gauge::takes` meets its contract: each arm is a case of `takesForm`.
+-- `model_gauge::gauge::takes` meets its contract: a block write by its own arm, any other form as an address or not at all.
 -- Assumes nothing.
 use Prim.Native.Nat.{_-_}
+use mathlib.Core.Path.{_∙_}
 use borrow.Author.Needs.{needs}
 use Rattle.model_gauge.specs.Gauge.{takesForm, takes}
+use Rattle.model_gauge.proofs.Laws.{takes-address}
 use Rattle.model_gauge.proofs.gauge.takes.Statement.{statement}
 use Rattle.model_gauge.proofs.gauge.takes.Tie as tie
 
@@ -12,29 +14,19 @@ read-frame-requires c κs = search needs
 enum-known-form : tie.Need-enum-known-form
 enum-known-form c = search needs
 
+addressed-requires : tie.Need-addressed-requires
+addressed-requires c κs = search needs
+
+returns : tie.Need-returns
+unfolding takes
+returns c = rw (← c .before .before .read-frame .ensures) (c .addressed .ensures ∙ takes-address _ (c .before .match .keys2))
+
 check-df-range-requires : tie.Need-check-df-range-requires
 check-df-range-requires c κs = search needs
 
-enum-known-form-2 : tie.Need-enum-known-form-2
-enum-known-form-2 c = search needs
-
-check-df-range-requires-2 : tie.Need-check-df-range-requires-2
-check-df-range-requires-2 c κs = search needs
-
-enum-told : tie.Need-enum-told
-enum-told c = search needs
-
-returns : tie.Need-returns
-unfolding takes takesForm
-returns c = rw (← c .before .before .before .before .read-frame .ensures, c .before .before .form .given .1) (c .check-df-range .ensures)
-
 returns-2 : tie.Need-returns-2
 unfolding takes takesForm
-returns-2 c = rw (← c .before .before .before .before .read-frame .ensures, c .before .before .form2 .given .1) (c .check-df-range2 .ensures)
-
-returns-3 : tie.Need-returns-3
-unfolding takes takesForm
-returns-3 c = rw (← c .before .before .read-frame .ensures, c .enum-told .given .1)
+returns-2 c = rw (← c .before .before .before .before .read-frame .ensures, c .before .before .form .given .1) (c .check-df-range .ensures)
 
 pub takes-spec : {M : Type 1} → statement M
 takes-spec =
@@ -42,10 +34,7 @@ takes-spec =
     (tie.spec
     read-frame-requires
     enum-known-form
-    check-df-range-requires
-    enum-known-form-2
-    check-df-range-requires-2
-    enum-told
+    addressed-requires
     returns
-    returns-2
-    returns-3)
+    check-df-range-requires
+    returns-2)

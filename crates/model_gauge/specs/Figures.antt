@@ -1,0 +1,80 @@
+-- Figures of the model gauge on each side of a line, computed from the definitions. (01, The model gauge)
+-- Assumes nothing.
+use Prim.Native.Nat.{ℕ}
+use mathlib.Core.Path.{_≡_, refl}
+use mathlib.Core.Bool.{false}
+use mathlib.Core.List.{List, [], _∷_, _++_}
+use lib.ListN.{replicate}
+use Rattle.smbus_pec.specs.Pec.{bitStep, bitSteps, byteStep, pecOf}
+use Rattle.protocol.specs.Pick.{if_then_else_}
+use Rattle.protocol.specs.Bytes.{over, blockIn, storedAt}
+use Rattle.protocol.specs.Window.{inWindow}
+use Rattle.engine.specs.declared.bus.Outcome.the-variants as outcome
+use Rattle.model_gauge.specs.Frame.{wholeOf, formOf, readFrame}
+use Rattle.model_gauge.specs.Gauge.{storedForm, stored, pointedForm, pointed, takesForm, takes, flashAfter, actedOf, gaugeAfter, heardOf, outcomeOf, repliesTo, readOutcome, movedOf, repliedOf, readAfter}
+use Rattle.model_gauge.specs.declared.frame.Form.the-variants as form
+use Rattle.model_gauge.specs.declared.gauge.Event.the-variants as event
+use Rattle.model_gauge.specs.declared.gauge.Gauge.{Gauge}
+
+-- the gauge that reads from an address on
+abbrev pub reading : ℕ → Gauge
+reading address = record { pointer = address }
+
+-- 44, a count, the address 4000 hex, and n bytes 07
+abbrev pub write : ℕ → ℕ → List ℕ
+write count n = 0x44 ∷ count ∷ 0x00 ∷ 0x40 ∷ replicate n 7
+
+-- two bytes at 5FFF hex
+abbrev pub past-end : List ℕ
+past-end = 0x44 ∷ 4 ∷ 0xFF ∷ 0x5F ∷ 7 ∷ 7 ∷ []
+
+pub record Figures : Type 0 where
+  -- an address frame sets the pointer, without its PEC and with it
+  pub address : (gauge : Gauge) → gaugeAfter event.Heard (0x44 ∷ 0x02 ∷ 0x00 ∷ 0x40 ∷ []) gauge ≡ reading 0x4000
+  pub address-pec : (gauge : Gauge) → gaugeAfter event.Heard (0x44 ∷ 0x02 ∷ 0x00 ∷ 0x40 ∷ 0xAB ∷ []) gauge ≡ reading 0x4000
+  -- a wrong PEC
+  pub wrong-pec : readFrame (0x44 ∷ 0x02 ∷ 0x00 ∷ 0x40 ∷ 0xAC ∷ []) ≡ form.Other
+  -- a block write of 1 byte, of 32 and of 33
+  pub one : readFrame (write 3 1) ≡ form.BlockWrite 0x4000 1
+  pub most : readFrame (write 34 32) ≡ form.BlockWrite 0x4000 32
+  pub too-many : readFrame (write 35 33) ≡ form.Other
+  -- what they store
+  pub one-stored : flashAfter event.Heard (write 3 1) (replicate 40 0xFF) ≡ 7 ∷ replicate 39 0xFF
+  pub most-stored : flashAfter event.LostAfter (write 34 32) (replicate 40 0xFF) ≡ replicate 32 7 ++ replicate 8 0xFF
+  pub lost : flashAfter event.LostBefore (write 34 32) (replicate 40 0xFF) ≡ replicate 40 0xFF
+  -- two bytes with the count of one, and with that of three
+  pub count-low : readFrame (write 3 2) ≡ form.Other
+  pub count-high : readFrame (write 5 2) ≡ form.Other
+  -- two bytes at 5FFF are not taken, and change nothing
+  pub end-taken : takes past-end ≡ false
+  pub end-stored : (flash : List ℕ) → flashAfter event.Heard past-end flash ≡ flash
+  pub end-heard : outcomeOf event.Heard past-end ≡ outcome.BusError 0
+  -- a read of 36 bytes and of 37
+  pub read-36 : readOutcome event.Heard 0x44 36 ≡ outcome.Acknowledged
+  pub read-37 : readOutcome event.Heard 0x44 37 ≡ outcome.BusError 0
+  -- the pointer goes from 5FF0 to 6000, and stays there
+  pub to-end : readAfter event.Heard 0x44 36 (reading 0x5FF0) ≡ reading 0x6000
+  pub at-end : readAfter event.Heard 0x44 36 (reading 0x6000) ≡ reading 0x6000
+
+pub figures : Figures
+unfolding bitStep bitSteps byteStep pecOf if_then_else_ over blockIn storedAt inWindow wholeOf formOf readFrame storedForm stored pointedForm pointed takesForm takes flashAfter actedOf gaugeAfter heardOf outcomeOf repliesTo readOutcome movedOf repliedOf readAfter
+figures = record {
+  address = λ gauge. refl;
+  address-pec = λ gauge. refl;
+  wrong-pec = refl;
+  one = refl;
+  most = refl;
+  too-many = refl;
+  one-stored = refl;
+  most-stored = refl;
+  lost = refl;
+  count-low = refl;
+  count-high = refl;
+  end-taken = refl;
+  end-stored = λ flash. refl;
+  end-heard = refl;
+  read-36 = refl;
+  read-37 = refl;
+  to-end = refl;
+  at-end = refl;
+}

@@ -1,0 +1,168 @@
+-- Go on: each go leaves less to do, and the last one leaves what one clean write would; and that is what a write leaves whose every transfer is acknowledged.
+-- Assumes nothing.
+use Prim.Native.Nat.{ℕ, zero, suc, _+_, _*_, _≤_, _<_}
+use mathlib.Core.Path.{_≡_, refl, sym, ap, _∙_}
+use mathlib.Core.Bool.{Bool, true, false}
+use mathlib.Core.Logic.{inl, inr}
+use mathlib.Core.List.{List}
+use native.Mathlib.Omega.{arith}
+use native.Mathlib.Nat.{add-zero}
+use lib.Dec.{eqb, leb}
+use lib.ListN.{length, drop, length-drop, replicate}
+use borrow.Author.Tests.{eqb-true, eqb-false, leb-false}
+use Rattle.protocol.specs.Pick.{if_then_else_}
+use Rattle.protocol.specs.Bytes.{over, blocksOf}
+use Rattle.protocol.specs.Answer.{numberOf}
+use Rattle.protocol.specs.Window.{inWindow}
+use Rattle.protocol.specs.declared.common.Config.{Config}
+use Rattle.protocol.specs.declared.error.Answer.{Answer}
+use Rattle.protocol.specs.declared.error.Answer.the-variants as answer
+use Rattle.engine.specs.Pick.{case_waiting_ended_}
+use Rattle.engine.specs.Bus.{phaseAfter}
+use Rattle.engine.specs.Budget.{nothing}
+use Rattle.engine.specs.declared.budget.Budget.{Budget}
+use Rattle.engine.specs.declared.budget.Tally.{Tally}
+use Rattle.engine.specs.declared.bus.Phase.{Phase}
+use Rattle.engine.specs.declared.bus.Phase.the-variants as phase
+use Rattle.engine.specs.declared.bus.Transfer.{Transfer}
+use Rattle.engine.specs.declared.bus.Transfer.the-variants as transfer
+use Rattle.writing.specs.Writing.{nextOf}
+use Rattle.writing.specs.declared.call.WriteCall.{WriteCall}
+use Rattle.model_gauge.specs.Gauge.{stored}
+use Rattle.promises.specs.Flash.{placeOf, Overlaid}
+use Rattle.promises.specs.Demand3.{acknowledged, World, began, shows, run, clean, Answered, all-acked, some-acked, none-acked, Told, Promised, EndedWell, countOf, Goes, ended-well, went-on, started-over, Accepted}
+use Rattle.promises.proofs.Overlay.{overlaid-all, overlaid-rest}
+use Rattle.promises.proofs.Store.{store-empty}
+use Rattle.promises.proofs.Window.{within, window-rest}
+use Rattle.promises.proofs.Bytes.{nothing-over}
+use Rattle.promises.proofs.Machine.{worldAt, frameOf, laid-long, step-acknowledged}
+use Rattle.promises.proofs.Stopped.{began-is, run-ended, run-empty, stopped}
+
+-- the count that is given is of acknowledged bytes
+count-acked : (n i : ℕ) (a : Answer) → Answered 32 n i a → (countOf a ≤ i * 32) × (countOf a ≤ n)
+unfolding if_then_else_
+count-acked n i a (all-acked z h) = rw z (omega arith, omega arith)
+count-acked n i a (some-acked z e p h) = rw (z, e) (omega arith, omega arith)
+count-acked n i a (none-acked (inl z) e) = rw z (omega arith, omega arith)
+count-acked n i a (none-acked (inr z) e) = rw z (omega arith, omega arith)
+
+-- a call that ended well has had every block acknowledged
+pub done-all : (n i : ℕ) (a : Answer) → numberOf a ≡ 0 → Answered 32 n i a → n ≤ i * 32
+done-all n i a w (all-acked z h) = h
+done-all n i a w (some-acked z e p h) = absurd (omega arith)
+done-all n i a w (none-acked (inl z) e) = absurd (omega arith)
+done-all n i a w (none-acked (inr z) e) = absurd (omega arith)
+
+well-all : (n i : ℕ) (t : Transfer) → EndedWell t → Told 32 n i t → n ≤ i * 32
+well-all n i (transfer.Write count) w s = absurd w
+well-all n i (transfer.Read command count) w s = absurd w
+well-all n i (transfer.Refused a) w s = absurd w
+well-all n i (transfer.Ended a) w s = done-all n i a w s
+
+-- over what a stopped write left, a write of the bytes past any part of what was acknowledged leaves what one clean write would
+pub clean-rest : (address : ℕ) (payload flash : List ℕ) → inWindow address (length payload) ≡ true → length flash ≡ 8192
+    → (i b : ℕ) (now : List ℕ) → b ≤ i * 32 → b ≤ length payload → Overlaid 32 (placeOf address) payload flash i now
+    → clean (address + b) (drop b payload) now ≡ clean address payload flash
+clean-rest address payload flash win whole i b now h l v = by (eqb (length payload) 0) refl
+  where
+    by : (t : Bool) → eqb (length payload) 0 ≡ t → clean (address + b) (drop b payload) now ≡ clean address payload flash
+    by true t =
+        let none : length payload ≡ 0 = eqb-true _ _ t in
+        store-empty now (placeOf (address + b)) (drop b payload) (length-drop b payload ∙ omega arith)
+        ∙ nothing-over 32 address payload flash none whole i now v ∙ sym (store-empty flash (placeOf address) payload none)
+    by false t =
+        let some : length payload ≡ 0 → ⊥ = eqb-false _ _ t in
+        let w = within address (length payload) win (omega arith) in
+        let low : 0x4000 ≤ address = w .0 in
+        let high : address + length payload ≤ 0x6000 = w .1 in
+        let place : placeOf (address + b) ≡ placeOf address + b = omega arith in
+        rw place (overlaid-rest 32 (placeOf address) payload flash (omega arith) i b now h l v)
+
+-- the next go is inside the window, and a clean write of it is a clean write of all
+pub rest-goes : (address : ℕ) (payload flash : List ℕ) → inWindow address (length payload) ≡ true → length flash ≡ 8192
+    → (i : ℕ) (a : Answer) (now : List ℕ) → Answered 32 (length payload) i a → Overlaid 32 (placeOf address) payload flash i now
+    → (inWindow (address + countOf a) (length (drop (countOf a) payload)) ≡ true)
+    × (clean (address + countOf a) (drop (countOf a) payload) now ≡ clean address payload flash)
+rest-goes address payload flash win whole i a now told v =
+    let small = count-acked (length payload) i a told in (
+      rw (length-drop (countOf a) payload) (window-rest address (length payload) (countOf a) win (small .1)),
+      clean-rest address payload flash win whole i (countOf a) now (small .0) (small .1) v,
+    )
+
+-- a write of all of it again
+pub over-goes : (address : ℕ) (payload flash : List ℕ) → inWindow address (length payload) ≡ true → length flash ≡ 8192
+    → (i : ℕ) (now : List ℕ) → Overlaid 32 (placeOf address) payload flash i now → clean address payload now ≡ clean address payload flash
+over-goes address payload flash win whole i now v =
+    rw (add-zero address) at (clean-rest address payload flash win whole i 0 now (omega arith) (omega arith) v)
+
+-- each go leaves less to do, and the last one leaves what one clean write would
+goes : {address : ℕ} {payload flash after : List ℕ} → inWindow address (length payload) ≡ true → length flash ≡ 8192
+    → Goes address payload flash after → after ≡ clean address payload flash
+goes {address} {payload} {flash} win whole (ended-well config work es room e) =
+    let w : World = run payload es (began config address payload work flash) in
+    let s : Promised address payload flash w = stopped config address payload work flash (record { window = win; room = room; whole = whole }) es in
+    overlaid-all 32 (placeOf address) payload flash (w .acked) (w .flash) (well-all (length payload) (w .acked) (shows payload w) e (s .told)) (s .overlay)
+goes {address} {payload} {flash} {after} win whole (went-on config work es a room e g) =
+    let w : World = run payload es (began config address payload work flash) in
+    let s : Promised address payload flash w = stopped config address payload work flash (record { window = win; room = room; whole = whole }) es in
+    let told : Answered 32 (length payload) (w .acked) a = rw e at (s .told) in
+    let r = rest-goes address payload flash win whole (w .acked) a (w .flash) told (s .overlay) in
+    goes {address = address + countOf a} {payload = drop (countOf a) payload} {flash = w .flash} (r .0) (s .bytes .size ∙ whole) g ∙ r .1
+goes {address} {payload} {flash} {after} win whole (started-over config work es n room e g) =
+    let w : World = run payload es (began config address payload work flash) in
+    let s : Promised address payload flash w = stopped config address payload work flash (record { window = win; room = room; whole = whole }) es in
+    goes {address = address} {payload = payload} {flash = w .flash} win (s .bytes .size ∙ whole) g
+    ∙ over-goes address payload flash win whole (w .acked) (w .flash) (s .overlay)
+
+-- GO ON, any number of times
+pub resumed : (address : ℕ) (payload flash after : List ℕ) → inWindow address (length payload) ≡ true → length flash ≡ 8192
+    → Goes address payload flash after → after ≡ clean address payload flash
+resumed address payload flash after win whole g = goes win whole g
+
+-- ---- the clean write
+
+module _ (config : Config) (address : ℕ) (payload : List ℕ) (n : ℕ) (room : 39 ≤ n) (few : length payload ≤ 8192) where
+  -- each acknowledgement brings the next block, until there is none
+  all-heard : (m i : ℕ) (b : Budget) (t : Tally) (work flash : List ℕ) → length work ≡ n → i * 32 < length payload → length payload ≤ (i + m) * 32
+      → run payload (replicate m acknowledged) (worldAt config address payload n phase.Waiting i b t work flash) .call .phase ≡ phase.Ended answer.Done
+  unfolding run phaseAfter if_then_else_
+  all-heard zero i b t work flash long h l = absurd (omega arith)
+  all-heard (suc m) i b t work flash long h l =
+      ap (λ (w : World). run payload (replicate m acknowledged) w .call .phase) (step-acknowledged config address payload n i b t work long room flash (omega arith))
+      ∙ (by (leb (blocksOf (length payload)) (suc i)) refl
+      (λ k. all-heard m (suc i) (record { left = config .«max_bus_retries» }) t (over (frameOf config address payload n i) work) (stored (frameOf config address payload n i) flash)
+      (laid-long config address payload n i b t work long room) (omega arith) (omega arith)))
+    where
+      next : Phase → World
+      next p = worldAt config address payload n p (suc i) (record { left = config .«max_bus_retries» }) t (over (frameOf config address payload n i) work) (stored (frameOf config address payload n i) flash)
+
+      by : (z : Bool) → leb (blocksOf (length payload)) (suc i) ≡ z
+          → (suc i < blocksOf (length payload) → run payload (replicate m acknowledged) (next phase.Waiting) .call .phase ≡ phase.Ended answer.Done)
+          → run payload (replicate m acknowledged) (next (if z then phase.Ended answer.Done else phase.Waiting)) .call .phase ≡ phase.Ended answer.Done
+      by true z more =
+          ap (λ (w : World). w .call .phase) (run-ended config address payload n (replicate m acknowledged) answer.Done (suc i) _ t _ _)
+      by false z more = more (leb-false _ _ z)
+
+shows-done : (call : WriteCall) (payload : List ℕ) (w : ℕ) → call .phase ≡ phase.Ended answer.Done → nextOf call payload w ≡ transfer.Ended answer.Done
+unfolding nextOf case_waiting_ended_
+shows-done call payload w e = rw e
+
+-- and that is what a write leaves whose every transfer is acknowledged
+pub unbroken : (config : Config) (address : ℕ) (payload work flash : List ℕ) → Accepted address payload work flash
+    → (n : ℕ) → length payload ≤ n * 32
+    → EndedWell (shows payload (run payload (replicate n acknowledged) (began config address payload work flash)))
+    × (run payload (replicate n acknowledged) (began config address payload work flash) .flash ≡ clean address payload flash)
+unfolding if_then_else_
+unbroken config address payload work flash a n l =
+    let w : World = run payload (replicate n acknowledged) (began config address payload work flash) in
+    let shown : shows payload w ≡ transfer.Ended answer.Done = shows-done (w .call) payload (length (w .work)) (done-at (eqb (length payload) 0) refl) in
+    let e : EndedWell (shows payload w) = rw shown refl in
+    (e, resumed address payload flash (run payload (replicate n acknowledged) (began config address payload work flash) .flash) (a .window) (a .whole) (ended-well config work (replicate n acknowledged) (a .room) e))
+  where
+    done-at : (t : Bool) → eqb (length payload) 0 ≡ t → run payload (replicate n acknowledged) (began config address payload work flash) .call .phase ≡ phase.Ended answer.Done
+    done-at true t = ap (λ (w : World). w .call .phase) (run-empty config address payload work flash a (eqb-true _ _ t) (replicate n acknowledged))
+    done-at false t =
+        let some : length payload ≡ 0 → ⊥ = eqb-false _ _ t in
+        let w = within address (length payload) (a .window) (omega arith) in
+        rw (began-is config address payload work flash a false t)
+        (all-heard config address payload (length work) (a .room) (omega arith) n 0 _ nothing work flash refl (omega arith) (omega arith))
