@@ -43,7 +43,7 @@ pub const DEFAULT_BUS_RETRIES: u16 = 3;
 
 pub const DEFAULT_ERROR_BACKOFF_DELAY_MS: u32 = 10;
 
-// The addresses of the window.
+// How many addresses the window has.
 pub const DF_SIZE_BYTES: usize = 0x2000;
 
 // The longest frame that a plain write puts a PEC after.

@@ -47,7 +47,7 @@ fn lay_block(work: &mut [u8], start: u16, payload: &[u8], i: u32, pec: bool) -> 
     frame::lay_number(work, start as usize + at, block, pec)
 }
 
-// What follows the halves of an access key, where i has passed them.
+// Frame i of manufacturer info C: a half of its access key, then, past both, its own frame.
 fn lay_info_c(work: &mut [u8], lower: u16, upper: u16, payload: &[u8], i: u32, pec: bool) -> Laid
     ensures { λ r. ⌜ (r ≡ laidOf pec (infoCBytes lower upper i (now (payload .entry))) (length (now (work .entry)))) × (now (work .exit) ≡ workLaid pec (infoCBytes lower upper i (now (payload .entry))) (now (work .entry))) ⌝ }
 {
