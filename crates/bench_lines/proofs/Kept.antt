@@ -42,7 +42,7 @@ length-block-in : (most : ℕ) (b w : List ℕ) → length (blockIn most b w) �
 unfolding blockIn
 length-block-in most b w = length-over (take (min most (min (length b) (length w))) b) w (rw length-take (omega arith))
 
-length-stored : (at most : ℕ) (b w : List ℕ) → length (storedAt at most b w) ≡ length w
+pub length-stored : (at most : ℕ) (b w : List ℕ) → length (storedAt at most b w) ≡ length w
 unfolding storedAt if_then_else_
 length-stored at most b w = by (leb at (length w)) refl
   where
