@@ -5,10 +5,10 @@ use Rattle.bench.proofs.main.Statement.{statement}
 use Rattle.bench.proofs.main.Tie as tie
 
 abbrev Inv-loop : tie.InvT-loop
-Inv-loop piece₀ held₀ request₀ reply₀ buffer₀ out₀ session₀ turns₀ piece held request reply buffer out session turns = Unit {0}
+Inv-loop piece₀ held₀ request₀ reply₀ buffer₀ out₀ place₀ turns₀ piece held request reply buffer out place turns = Unit {0}
 
 abbrev μ-loop : tie.MeasureT-loop
-μ-loop piece₀ held₀ request₀ reply₀ buffer₀ out₀ session₀ turns₀ piece held request reply buffer out session turns = turns
+μ-loop piece₀ held₀ request₀ reply₀ buffer₀ out₀ place₀ turns₀ piece held request reply buffer out place turns = turns
 
 large-buffer-requires : tie.Need-large-buffer-requires Inv-loop μ-loop
 large-buffer-requires c κs = tt
