@@ -9,7 +9,6 @@ use native.Mathlib.Omega.{arith}
 use lib.ListN.{length, take, drop, take-append-drop, length-append}
 use lib.Dec.{ltb, leb, eqb}
 use borrow.Author.Tests.{lt-ltb, le-leb, ne-eqb, eqb-false, ltb-true, ltb-false}
-use Rattle.hex.specs.Pick as hex-pick
 use Rattle.hex.specs.Hex.{decodedOf, bytesOf, outDecoded}
 use Rattle.hex.specs.declared.Decoded.the-variants as decoded
 use Rattle.protocol.specs.Pick.{if_then_else_}
@@ -32,12 +31,16 @@ saying s R B = sayOf (s .run) (s .end) R B
 
 -- a line with more digits than there is room for has no bytes
 no-bytes : (line out : List ℕ) → length out * 2 < length line → stage.bytesIn line out ≡ []
-unfolding stage.bytesIn stage.byteCount stage.countIn decodedOf hex-pick.if_then_else_
+unfolding stage.bytesIn stage.byteCount stage.countIn decodedOf if_then_else_
 no-bytes line out h = by (eqb (length line % 2) 1) refl
   where
     by : (t : Bool) → eqb (length line % 2) 1 ≡ t
-        → take (stage.countIn (hex-pick.if_then_else_ t decoded.Bad (hex-pick.if_then_else_ (ltb (length out) (length line / 2)) decoded.TooLong
-        (hex-pick.if_then_else_ (ltb (length (bytesOf line)) (length line / 2)) decoded.Bad (decoded.Bytes (length line / 2)))))) (outDecoded line out) ≡ []
+        → take
+        (stage.countIn
+        (if t then decoded.Bad else
+        if ltb (length out) (length line / 2) then decoded.TooLong else
+        if ltb (length (bytesOf line)) (length line / 2) then decoded.Bad else decoded.Bytes (length line / 2)))
+        (outDecoded line out) ≡ []
     by true e = refl
     by false e =
         let k : length out < length line / 2 = omega (arith, eqb-false (length line % 2) 1 e) in
