@@ -9,65 +9,37 @@ use session::REPLY_BYTES;
 use session::REQUEST_BYTES;
 use session::Session;
 
-// Where the program stands: the session, how many bytes of the piece were read, and whether to go on.
-struct Place {
-    session: Session,
-    end: usize,
-    on: bool,
-}
-
-// Writes what a turn laid. Where that fails, the program ends.
-fn write(session: Session, end: usize, out: &[u8]) -> Place {
-    let written = io::write_all(STDOUT_FILENO, bytes::front(out, session.printed));
-    Place {
-        session,
-        end,
-        on: written && session.on,
-    }
-}
-
-// The next piece, or the end of the input, which a read that fails counts as.
-fn read(
-    session: Session,
-    piece: &mut [u8],
-    request: &[u8],
-    buffer: &[u8],
-    out: &mut [u8],
-) -> Place {
+// How many bytes of the next piece were read: 0 at the end of the input, which a read that fails counts as.
+fn read(piece: &mut [u8; 65536]) -> usize {
     let got = libc::read(STDIN_FILENO, piece);
-    let n = io::count(got, piece);
-    if n == 0 {
-        return write(session::end(session, request, buffer, out), 0, out);
-    }
-    Place {
-        session: session::next_piece(session),
-        end: n,
-        on: true,
-    }
+    io::count(got, piece)
 }
 
-// One turn: what is left of the piece up to the end of a line, or a new piece.
-fn turn(
-    place: Place,
-    piece: &mut [u8; 65536],
+// Writes the n bytes that a turn laid; whether that went well.
+fn write(out: &[u8; OUT_BYTES], n: usize) -> bool {
+    io::write_all(STDOUT_FILENO, bytes::front(out, n))
+}
+
+// A turn of a piece of n bytes.
+fn take(
+    session: Session,
+    piece: &[u8; 65536],
+    n: usize,
     held: &mut [u8; HELD_BYTES],
     request: &mut [u8; REQUEST_BYTES],
     reply: &mut [u8; REPLY_BYTES],
     buffer: &mut [u8; BUFFER_BYTES],
     out: &mut [u8; OUT_BYTES],
-) -> Place {
-    let session = place.session;
-    let end = place.end;
-    if session.at < end {
-        let rest = bytes::front(piece, end);
-        write(
-            session::take(session, rest, held, request, reply, buffer, out),
-            end,
-            out,
-        )
-    } else {
-        read(session, piece, request, buffer, out)
-    }
+) -> Session {
+    session::take(
+        session,
+        bytes::front(piece, n),
+        held,
+        request,
+        reply,
+        buffer,
+        out,
+    )
 }
 
 fn main() {
@@ -77,22 +49,32 @@ fn main() {
     let mut reply = [0u8; REPLY_BYTES];
     let mut buffer = [0u8; BUFFER_BYTES];
     let mut out = [0u8; OUT_BYTES];
-    let mut place = Place {
-        session: session::start(),
-        end: 0,
-        on: true,
-    };
+    let mut session = session::start();
+    let mut n = 0;
     let mut turns = u64::MAX;
-    while turns > 0 && place.on {
-        place = turn(
-            place,
-            &mut piece,
-            &mut held,
-            &mut request,
-            &mut reply,
-            &mut buffer,
-            &mut out,
-        );
+    while turns > 0 && session.on {
+        if session.at < n {
+            session = take(
+                session,
+                &piece,
+                n,
+                &mut held,
+                &mut request,
+                &mut reply,
+                &mut buffer,
+                &mut out,
+            );
+        } else {
+            n = read(&mut piece);
+            if n == 0 {
+                session = session::end(session, &request, &buffer, &mut out);
+            } else {
+                session = session::next_piece(session);
+            }
+        }
+        if !write(&out, session.printed) {
+            return;
+        }
         turns -= 1;
     }
 }

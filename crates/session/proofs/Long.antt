@@ -1,13 +1,13 @@
 -- A line that has no room where lines are held is bad, whether its line feed comes later or never.
 -- Assumes nothing.
 use Prim.Native.Nat.{ℕ, suc, _+_, _*_, _/_, _%_, _≤_, _<_}
-use mathlib.Core.Path.{_≡_, refl, _∙_}
+use mathlib.Core.Path.{_≡_, refl}
 use mathlib.Core.Bool.{Bool, true, false}
 use mathlib.Core.List.{List, [], _∷_, _++_}
 use mathlib.Core.Logic.{_⊎_, inl, inr}
 use native.Mathlib.Omega.{arith}
 use lib.ListN.{length, take, drop, take-append-drop, length-append}
-use lib.Dec.{ltb, leb, eqb}
+use lib.Dec.{ltb, eqb}
 use borrow.Author.Tests.{lt-ltb, le-leb, ne-eqb, eqb-false, ltb-true, ltb-false}
 use Rattle.hex.specs.Hex.{decodedOf, bytesOf, outDecoded}
 use Rattle.hex.specs.declared.Decoded.the-variants as decoded

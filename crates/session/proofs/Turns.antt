@@ -4,11 +4,11 @@ use Prim.Native.Nat.{ℕ, suc, _+_, _-_, _*_, _≤_, _<_}
 use mathlib.Core.Path.{_≡_, refl, sym, ap, subst, _∙_}
 use mathlib.Core.Bool.{Bool, true, false}
 use mathlib.Core.List.{List, [], _∷_, _++_, append-nil}
-use mathlib.Core.Logic.{_⊎_, inl, inr, ⊎-elim}
+use mathlib.Core.Logic.{⊎-elim}
 use native.Mathlib.Omega.{arith}
-use lib.ListN.{length, take, drop, length-append, length-drop}
+use lib.ListN.{length, take, drop, length-drop}
 use lib.Seq.{length-take-le, take-all, drop-length, drop-drop}
-use lib.Dec.{ltb, leb, eqb}
+use lib.Dec.{ltb, leb}
 use borrow.Author.Tests.{ltb-true, ltb-false, leb-true, leb-false}
 use Rattle.protocol.specs.Pick.{if_then_else_}
 use Rattle.printing.specs.Printing.{feedBytes, outPrinted}
@@ -21,7 +21,7 @@ use Rattle.bench_stage.specs.declared.Run.{Run}
 use Rattle.bench_lines.specs.Saying.{Saying, asked, last, bytesSaid, saidOf}
 use Rattle.bench_lines.specs.Bench.{thenSay, machineOf}
 use Rattle.bench_lines.proofs.Room.{Short, AllShort, printed-whole}
-use Rattle.session.specs.Session.{World, world, Sized, moreOf, saidSession, printOf, printOut, laidOf, lineOf, takeBy, takeOf}
+use Rattle.session.specs.Session.{World, world, heldBytes, Sized, moreOf, saidSession, printOf, printOut, laidOf, lineOf, takeBy, takeOf}
 use Rattle.session.specs.Output.{written}
 use Rattle.session.proofs.Kept.{Fits, fits-feed, length-request, length-reply, length-buffer, length-printed, length-held}
 use Rattle.session.proofs.Long.{saying, long-says, close-last, close-some, long-input}
@@ -30,7 +30,7 @@ use Rattle.session.proofs.Long.{saying, long-says, close-last, close-so
 pub record Good (w : World) : Type 0 where
   pub sized : Sized w
   pub fits : Fits (w .session .run) (length (w .buffer))
-  pub room : w .session .have ≤ 16404
+  pub room : w .session .have ≤ heldBytes
   pub on : w .session .on ≡ true
 
 -- what the machine gives from a world on, for the lines that are left
@@ -59,7 +59,7 @@ joined a b c d p q = rw (p, q)
 module _ (view : List (List ℕ) → List (List ℕ) → List ℕ) (Ends : List ℕ → Type 0)
     (step : (line x : List ℕ) (lines more : List (List ℕ)) → view (line ∷ lines) (x ∷ more) ≡ feedBytes x ++ view lines more)
     (none : (lines : List (List ℕ)) → view lines [] ≡ [])
-    (early : (rest x : List ℕ) → Ends rest → 16404 < length rest → view [] (x ∷ []) ≡ feedBytes x) where
+    (early : (rest x : List ℕ) → Ends rest → heldBytes < length rest → view [] (x ∷ []) ≡ feedBytes x) where
   -- what is written from a world on is what the lines that are left give
   abbrev pub Gives : (World → List ℕ) → World → List ℕ → Type 0
   Gives G w input = (lines : List (List ℕ)) (rest : List ℕ) → lines ≡ linesFrom (before w) input → rest ≡ restFrom (before w) input
@@ -91,7 +91,7 @@ module _ (view : List (List ℕ) → List (List ℕ) → List ℕ) (Ends : List 
     module _ (piece t : List ℕ) (w : World) (good : Good w) (inside : w .session .at < length piece)
         (go : (v : World) → Good v → w .session .at < v .session .at → v .session .at ≤ length piece → Gives G v (drop (v .session .at) piece ++ t)) where
       -- a line is whole
-      turn-line : (line H : List ℕ) (next : ℕ) (lines : List (List ℕ)) (rest : List ℕ) → length H ≡ 16404 → w .session .at < next → next ≤ length piece
+      turn-line : (line H : List ℕ) (next : ℕ) (lines : List (List ℕ)) (rest : List ℕ) → length H ≡ heldBytes → w .session .at < next → next ≤ length piece
           → lines ≡ linesFrom [] (drop next piece ++ t) → rest ≡ restFrom [] (drop next piece ++ t) → AllShort (shown w (line ∷ lines) rest) → Ends rest
           → both (lineOf line next H w) ≡ view (line ∷ lines) (shown w (line ∷ lines) rest)
       unfolding lineOf laidOf printOf printOut machineOf
@@ -120,7 +120,7 @@ module _ (view : List (List ℕ) → List (List ℕ) → List ℕ) (Ends : List 
           lt le lines rest p q m z)
 
       -- the piece is used up
-      turn-more : (H : List ℕ) (k : ℕ) → length H ≡ 16404 → k ≤ 16404 → take k H ≡ before w ++ drop (w .session .at) piece
+      turn-more : (H : List ℕ) (k : ℕ) → length H ≡ heldBytes → k ≤ heldBytes → take k H ≡ before w ++ drop (w .session .at) piece
           → length (drop (w .session .at) piece) ≤ length (beforeFeed (drop (w .session .at) piece))
           → Gives (λ v. G (world (moreOf (v .session .run) k (length piece)) H (v .request) (v .reply) (v .buffer) (v .out))) w (drop (w .session .at) piece ++ t)
       unfolding moreOf
@@ -149,7 +149,7 @@ module _ (view : List (List ℕ) → List (List ℕ) → List ℕ) (Ends : List 
           (good .sized .out) (close-last (w .session .run) 1 (w .request) (w .buffer)) short
 
       -- its line feed never comes
-      long-rest : (H : List ℕ) (n : ℕ) (rest : List ℕ) → 16404 < length rest → AllShort (shown w [] rest) → Ends rest
+      long-rest : (H : List ℕ) (n : ℕ) (rest : List ℕ) → heldBytes < length rest → AllShort (shown w [] rest) → Ends rest
           → both (tooLong n H w) ≡ view [] (shown w [] rest)
       unfolding machineOf
       long-rest H n rest m a z =
@@ -158,7 +158,7 @@ module _ (view : List (List ℕ) → List (List ℕ) → List ℕ) (Ends : List 
           rw c (closed H n short ∙ sym (early rest _ z m))
 
       -- its line feed comes later
-      long-line : (H : List ℕ) (n : ℕ) (line : List ℕ) (lines : List (List ℕ)) (rest : List ℕ) → 16404 < length line → AllShort (shown w (line ∷ lines) rest)
+      long-line : (H : List ℕ) (n : ℕ) (line : List ℕ) (lines : List (List ℕ)) (rest : List ℕ) → heldBytes < length line → AllShort (shown w (line ∷ lines) rest)
           → both (tooLong n H w) ≡ view (line ∷ lines) (shown w (line ∷ lines) rest)
       unfolding machineOf thenSay
       long-line H n line lines rest m a =
@@ -170,17 +170,17 @@ module _ (view : List (List ℕ) → List (List ℕ) → List ℕ) (Ends : List 
           let short : AllShort (x ∷ []) = subst AllShort k a in
           closed H n (short .0) ∙ sym (ap (view (line ∷ lines)) k ∙ step line x lines [] ∙ rw (none lines) (append-nil (feedBytes x)))
 
-      turn-long : (H : List ℕ) (n : ℕ) → 16404 < length (before w) + length (beforeFeed (drop (w .session .at) piece))
+      turn-long : (H : List ℕ) (n : ℕ) → heldBytes < length (before w) + length (beforeFeed (drop (w .session .at) piece))
           → Gives (λ v. both (tooLong n H v)) w (drop (w .session .at) piece ++ t)
       turn-long H n long lines rest p q a z =
           ⊎-elim
           (λ c.
           let e : [] ≡ lines = sym (p ∙ c .0) in
-          let m : 16404 < length rest = subst (λ (l : List ℕ). 16404 < length l) (sym q) (c .1) in
+          let m : heldBytes < length rest = subst (λ (l : List ℕ). heldBytes < length l) (sym q) (c .1) in
           subst (λ (ls : List (List ℕ)). AllShort (shown w ls rest) → both (tooLong n H w) ≡ view ls (shown w ls rest)) e (λ b. long-rest H n rest m b z) a)
           (λ c.
           subst (λ (ls : List (List ℕ)). AllShort (shown w ls rest) → both (tooLong n H w) ≡ view ls (shown w ls rest)) (sym (p ∙ c .0)) (λ b. long-line H n _ _ rest (c .1) b) a)
-          (long-input (before w) (drop (w .session .at) piece) t 16404 long)
+          (long-input (before w) (drop (w .session .at) piece) t heldBytes long)
 
       -- one turn
       pub turn : Gives (λ v. both (takeOf piece v)) w (drop (w .session .at) piece ++ t)
@@ -196,7 +196,7 @@ module _ (view : List (List ℕ) → List (List ℕ) → List ℕ) (Ends : List 
           H : List ℕ
           H = lineTook piece (w .session .at) (w .held) (w .session .have)
 
-          size : length H ≡ 16404
+          size : length H ≡ heldBytes
           size = length-held piece (w .held) (w .session .at) (w .session .have) ∙ good .sized .held
 
           by : (f : Bool) → ltb (length (w .held)) (w .session .have + k) ≡ f → (g : Bool) → leb (length piece - w .session .at) k ≡ g

@@ -21,7 +21,7 @@ use Rattle.bench_lines.proofs.Whole.{whole}
 use Rattle.bench_lines.specs.Saying.{bytesSaid}
 use Rattle.bench_lines.proofs.Room.{Short, AllShort, all-short}
 use Rattle.session.specs.declared.Session.{Session}
-use Rattle.session.specs.Session.{World, world, Sized, startOf, nextPiece, printOf, printOut, laidOf, takeOf, endOf}
+use Rattle.session.specs.Session.{World, world, heldBytes, Sized, startOf, nextPiece, printOf, printOut, laidOf, takeOf, endOf}
 use Rattle.session.specs.Output.{feeds, printed, printedSoFar, written, pieceOut, piecesOut, bytesOut, bytesSoFar, concat, WholeBench}
 use Rattle.session.proofs.Kept.{Fits}
 use Rattle.session.proofs.Long.{saying}
@@ -30,7 +30,7 @@ use Rattle.session.proofs.Turns.{Good, shown, before, written-said, Giv
 module _ (view : List (List ℕ) → List (List ℕ) → List ℕ) (Ends : List ℕ → Type 0)
     (step : (line x : List ℕ) (lines more : List (List ℕ)) → view (line ∷ lines) (x ∷ more) ≡ feedBytes x ++ view lines more)
     (none : (lines : List (List ℕ)) → view lines [] ≡ [])
-    (early : (rest x : List ℕ) → Ends rest → 16404 < length rest → view [] (x ∷ []) ≡ feedBytes x)
+    (early : (rest x : List ℕ) → Ends rest → heldBytes < length rest → view [] (x ∷ []) ≡ feedBytes x)
     (final : World → List ℕ) (close : (w : World) (rest : List ℕ) → Good w → rest ≡ before w → AllShort (shown w [] rest) → final w ≡ view [] (shown w [] rest)) where
   -- a run that is over writes nothing more
   off-piece : (turns : ℕ) (piece : List ℕ) (w : World) (more : World → List ℕ) → ((v : World) → v .session .on ≡ false → more v ≡ []) → w .session .on ≡ false
@@ -121,6 +121,6 @@ whole-bench = record {
       gives-bench (λ lines more. feeds more) (λ rest. Unit {0}) (λ line x lines more. refl) (λ lines. refl) (λ rest x z h. append-nil (feedBytes x))
       (λ v. written (endOf v)) close-end pieces w sized e tt;
   at-once = λ pieces w sized e z.
-      gives-bench (λ lines more. feeds (take (length lines) more)) (λ rest. length rest ≤ 16404) (λ line x lines more. refl) none-so-far (λ rest x z h. absurd (omega arith))
+      gives-bench (λ lines more. feeds (take (length lines) more)) (λ rest. length rest ≤ heldBytes) (λ line x lines more. refl) none-so-far (λ rest x z h. absurd (omega arith))
       (λ v. []) (λ w rest good e a. refl) pieces w sized e z;
 }

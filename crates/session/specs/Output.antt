@@ -9,7 +9,7 @@ use Rattle.protocol.specs.Pick.{if_then_else_}
 use Rattle.pieces.specs.Pieces.{linesFrom, restFrom}
 use Rattle.printing.specs.Printing.{feedBytes}
 use Rattle.bench_lines.specs.Bench.{benchOf}
-use Rattle.session.specs.Session.{World, world, Sized, startOf, nextPiece, takeOf, endOf}
+use Rattle.session.specs.Session.{World, world, heldBytes, Sized, startOf, nextPiece, takeOf, endOf}
 
 -- lines as they are written: each in upper-case hexadecimal, with its line feed
 unfoldable pub feeds : List (List ℕ) → List ℕ
@@ -59,5 +59,5 @@ concat (piece ∷ pieces) = piece ++ concat pieces
 -- it holds no line back: what the whole lines so far give is written before more is read. (A line longer than any that is valid is answered early.)
 pub record WholeBench : Type 0 where
   pub whole : (pieces : List (List ℕ)) (w : World) → Sized w → w .session ≡ startOf → bytesOut pieces w ≡ printed (concat pieces)
-  pub at-once : (pieces : List (List ℕ)) (w : World) → Sized w → w .session ≡ startOf → length (restFrom [] (concat pieces)) ≤ 16404
+  pub at-once : (pieces : List (List ℕ)) (w : World) → Sized w → w .session ≡ startOf → length (restFrom [] (concat pieces)) ≤ heldBytes
       → bytesSoFar pieces w ≡ printedSoFar (concat pieces)

@@ -30,9 +30,13 @@ pub record World : Type 0 where
 abbrev pub world : Session → List ℕ → List ℕ → List ℕ → List ℕ → List ℕ → World
 world s held request reply buffer out = record { session = s; held = held; request = request; reply = reply; buffer = buffer; out = out }
 
+-- the digits of the longest line that is valid, a request's of 8,202 bytes
+abbrev pub heldBytes : ℕ
+heldBytes = 16404
+
 -- the sizes of what is lent, which the types of `take` have
 pub record Sized (w : World) : Type 0 where
-  pub held : length (w .held) ≡ 16404
+  pub held : length (w .held) ≡ heldBytes
   pub request : length (w .request) ≡ 8202
   pub reply : length (w .reply) ≡ 8193
   pub buffer : length (w .buffer) ≡ 8192

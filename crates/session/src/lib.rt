@@ -147,7 +147,12 @@ pub fn take(
 }
 
 // The input has ended.
-pub fn end(session: Session, request: &[u8], buffer: &[u8], out: &mut [u8]) -> Session
+pub fn end(
+    session: Session,
+    request: &[u8; REQUEST_BYTES],
+    buffer: &[u8; BUFFER_BYTES],
+    out: &mut [u8; OUT_BYTES],
+) -> Session
     ensures { λ r. ⌜ (r ≡ printOf (closeOf (session .run) (session .have)) (session .at) (now (request .entry)) (now (buffer .entry)) (length (now (out .entry)))) × (now (out .exit) ≡ printOut (closeOf (session .run) (session .have)) (now (request .entry)) (now (buffer .entry)) (now (out .entry))) ⌝ }
 {
     let run = session.run;

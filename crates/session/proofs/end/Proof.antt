@@ -10,11 +10,8 @@ close-requires c κs = search needs
 print-requires : tie.Need-print-requires
 print-requires c κs = search needs
 
-same-length : tie.Need-same-length
-same-length c = search needs
-
 returns : tie.Need-returns
-returns c = rw (← c .before .before .before .before .close .ensures) (c .before .before .print .ensures)
+returns c = rw (← c .before .before .before .before .close .ensures) (c .print .ensures)
 
 pub end-spec : {M : Type 1} → statement M
-end-spec = tie.close (tie.spec close-requires print-requires same-length returns)
+end-spec = tie.close (tie.spec close-requires print-requires returns)
