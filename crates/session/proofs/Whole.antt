@@ -1,27 +1,28 @@
 -- The bench as bytes: turn by turn over each piece, and piece by piece over the input.
 -- Assumes nothing.
-use Prim.Native.Nat.{ℕ, zero, suc, _+_, _≤_, _<_}
+use Prim.Native.Nat.{ℕ, zero, suc, _+_, _-_, _≤_, _<_}
 use mathlib.Core.Path.{_≡_, refl, sym, ap, subst, _∙_}
 use mathlib.Core.Bool.{Bool, true, false}
 use mathlib.Core.List.{List, [], _∷_, _++_, append-nil}
 use native.Mathlib.Omega.{arith}
 use lib.ListN.{length, take, drop, drop-of-length-le}
 use lib.Seq.{length-take-le, take-nil}
-use lib.Dec.{ltb}
+use lib.Dec.{ltb, leb}
 use borrow.Author.Tests.{ltb-true, ltb-false}
 use Rattle.protocol.specs.Pick.{if_then_else_}
 use Rattle.protocol.proofs.Cases.{is-true}
 use Rattle.printing.specs.Printing.{feedBytes}
-use Rattle.pieces.specs.Pieces.{linesFrom, restFrom}
+use Rattle.pieces.specs.Pieces.{beforeFeed, judgeOf, tookOf, lineTook, linesFrom, restFrom}
+use Rattle.pieces.specs.declared.Took.the-variants as took
 use Rattle.bench_stage.specs.Stage as stage
 use Rattle.bench_stage.specs.declared.Run.{Run}
 use Rattle.bench_stage.specs.declared.Run.the-variants as run
 use Rattle.bench_lines.specs.Bench.{machineOf, benchOf}
 use Rattle.bench_lines.proofs.Whole.{whole}
-use Rattle.bench_lines.specs.Saying.{bytesSaid}
+use Rattle.bench_lines.specs.Saying.{Saying, asked, last, bytesSaid, saidOf}
 use Rattle.bench_lines.proofs.Room.{Short, AllShort, all-short}
 use Rattle.session.specs.declared.Session.{Session}
-use Rattle.session.specs.Session.{World, world, heldBytes, Sized, startOf, nextPiece, printOf, printOut, laidOf, takeOf, endOf}
+use Rattle.session.specs.Session.{World, world, heldBytes, Sized, startOf, nextPiece, moreOf, saidSession, printOf, printOut, laidOf, lineOf, takeBy, takeOf, endOf}
 use Rattle.session.specs.Output.{feeds, printed, printedSoFar, written, pieceOut, piecesOut, bytesOut, bytesSoFar, concat, WholeBench}
 use Rattle.session.proofs.Kept.{Fits}
 use Rattle.session.proofs.Long.{saying}
@@ -113,6 +114,27 @@ none-so-far : (lines : List (List ℕ)) → feeds (take (length lines) []) ≡ [
 unfolding feeds
 none-so-far lines = rw (take-nil {A = List ℕ} (length lines))
 
+at-said : (s : Saying) (room : ℕ) (r : Run) (at : ℕ) → saidSession (saidOf s room) r at .at ≡ at
+unfolding saidSession saidOf
+at-said (asked s) room r at = refl
+at-said (last s) room r at = refl
+
+-- a turn goes past a line feed, or to the end of the piece
+uses : (piece : List ℕ) (w : World) → w .session .at < length piece → w .session .at < takeOf piece w .session .at
+unfolding takeOf takeBy lineOf laidOf printOf moreOf tookOf judgeOf if_then_else_
+uses piece w h =
+    by (ltb (length (w .held)) (w .session .have + length (beforeFeed (drop (w .session .at) piece))))
+    (leb (length piece - w .session .at) (length (beforeFeed (drop (w .session .at) piece))))
+  where
+    k : ℕ
+    k = length (beforeFeed (drop (w .session .at) piece))
+
+    by : (f g : Bool)
+        → w .session .at < takeBy (if f then took.Long else if g then took.More (w .session .have + k) else took.Line (w .session .have + k) (w .session .at + k + 1)) (length piece) (lineTook piece (w .session .at) (w .held) (w .session .have)) w .session .at
+    by true g = rw at-said h
+    by false true = h
+    by false false = rw at-said (omega arith)
+
 -- the statement
 pub whole-bench : WholeBench
 unfolding bytesOut bytesSoFar printed printedSoFar feeds
@@ -123,4 +145,5 @@ whole-bench = record {
   at-once = λ pieces w sized e z.
       gives-bench (λ lines more. feeds (take (length lines) more)) (λ rest. length rest ≤ heldBytes) (λ line x lines more. refl) none-so-far (λ rest x z h. absurd (omega arith))
       (λ v. []) (λ w rest good e a. refl) pieces w sized e z;
+  advances = uses;
 }

@@ -1,6 +1,6 @@
 -- The whole bench as bytes: those of the input to those of the output. (01, The bench program)
 -- Assumes nothing.
-use Prim.Native.Nat.{ℕ, zero, suc, _≤_}
+use Prim.Native.Nat.{ℕ, zero, suc, _≤_, _<_}
 use mathlib.Core.Path.{_≡_}
 use mathlib.Core.List.{List, [], _∷_, _++_}
 use lib.ListN.{length, take}
@@ -28,7 +28,7 @@ printedSoFar input = feeds (take (length (linesFrom [] input)) (benchOf (linesFr
 unfoldable pub written : World → List ℕ
 written w = take (w .session .printed) (w .out)
 
--- a piece, turn by turn while the run goes on and the piece lasts, and then what follows it. A turn uses a byte at least, so that one for each byte is enough.
+-- a piece, turn by turn while the run goes on and the piece lasts, and then what follows it. One turn for each byte is enough (`advances`).
 unfoldable pub pieceOut : ℕ → List ℕ → World → (World → List ℕ) → List ℕ
 pieceOut zero piece w more = more w
 pieceOut (suc turns) piece w more =
@@ -57,7 +57,9 @@ concat (piece ∷ pieces) = piece ++ concat pieces
 
 -- however the input is cut into pieces, and whatever the lent arrays hold at first, the program writes what document 01 says of the whole input; and
 -- it holds no line back: what the whole lines so far give is written before more is read. (A line longer than any that is valid is answered early.)
+-- Each turn uses a byte at least, so that a piece comes to its end.
 pub record WholeBench : Type 0 where
   pub whole : (pieces : List (List ℕ)) (w : World) → Sized w → w .session ≡ startOf → bytesOut pieces w ≡ printed (concat pieces)
   pub at-once : (pieces : List (List ℕ)) (w : World) → Sized w → w .session ≡ startOf → length (restFrom [] (concat pieces)) ≤ heldBytes
       → bytesSoFar pieces w ≡ printedSoFar (concat pieces)
+  pub advances : (piece : List ℕ) (w : World) → w .session .at < length piece → w .session .at < takeOf piece w .session .at
