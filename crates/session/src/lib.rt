@@ -11,7 +11,7 @@ use requests::request::MOST_BYTES;
 ghost use mathlib.Core.Path.{_≡_};
 ghost use lib.ListN.{length};
 ghost use Rattle.bench_stage.specs.Stage.{closeOf};
-ghost use Rattle.session.specs.Session.{world, Sized, startOf, nextPiece, moreOf, printOf, printOut, takeOf};
+ghost use Rattle.session.specs.Session.{world, Sized, startOf, nextPiece, printOf, printOut, takeOf};
 
 // The sizes of what is lent. Each has room for the longest that it may hold: a line's digits, the bytes of a request and of an outcome, and a reading
 // call's buffer.
@@ -66,19 +66,6 @@ pub fn next_piece(session: Session) -> Session
     }
 }
 
-// A piece of so many bytes that is used up, with `have` bytes of a line held.
-fn more(run: Run, have: usize, len: usize) -> Session
-    ensures { λ r. ⌜ r ≡ moreOf run have len ⌝ }
-{
-    Session {
-        run,
-        have,
-        at: len,
-        printed: 0,
-        on: true,
-    }
-}
-
 // The line of a stage is laid, and the piece goes on at `at`.
 fn print(stage: Stage, at: usize, request: &[u8], buffer: &[u8], out: &mut [u8]) -> Session
     ensures { λ r. ⌜ (r ≡ printOf stage at (now (request .entry)) (now (buffer .entry)) (length (now (out .entry)))) × (now (out .exit) ≡ printOut stage (now (request .entry)) (now (buffer .entry)) (now (out .entry))) ⌝ }
@@ -120,7 +107,13 @@ fn turn(
             let stage = bench_stage::feed(run, bytes::front(held, len), request, reply, buffer);
             print(stage, next, request, buffer, out)
         }
-        Took::More(have) => more(run, have, piece.len()),
+        Took::More(have) => Session {
+            run,
+            have,
+            at: piece.len(),
+            printed: 0,
+            on: true,
+        },
         Took::Long => print(
             bench_stage::close(run, 1),
             piece.len(),

@@ -1,7 +1,8 @@
 -- `session::turn` meets its contract: each arm is a case of `takeBy`.
 -- Assumes nothing.
+use mathlib.Core.Path.{refl}
 use borrow.Author.Needs.{needs}
-use Rattle.session.specs.Session.{world}
+use Rattle.session.specs.Session.{world, moreOf}
 use Rattle.session.proofs.Laws.{took-line, took-more, took-long}
 use Rattle.session.proofs.turn.Statement.{statement}
 use Rattle.session.proofs.turn.Tie as tie
@@ -23,9 +24,6 @@ print-requires c κs = search needs
 
 enum-known-have : tie.Need-enum-known-have
 enum-known-have c = search needs
-
-more-requires : tie.Need-more-requires
-more-requires c κs = search needs
 
 enum-told : tie.Need-enum-told
 enum-told c = search needs
@@ -62,9 +60,10 @@ same-length-6 : tie.Need-same-length-6
 same-length-6 c = search needs
 
 returns-2 : tie.Need-returns-2
+unfolding moreOf
 returns-2 c =
-    let t = c .before .before .before .before .before .before .take .ensures in
-    took-more _ (world _ _ _ _ _ _) _ _ (t .0) (t .1) _ _ (c .before .before .have .given .1) (c .more .ensures)
+    let t = c .before .before .before .before .before .take .ensures in
+    took-more _ (world _ _ _ _ _ _) _ _ (t .0) (t .1) _ _ (c .before .have .given .1) refl
 
 same-length-7 : tie.Need-same-length-7
 same-length-7 c = search needs
@@ -94,7 +93,6 @@ turn-spec =
     feed-requires
     print-requires
     enum-known-have
-    more-requires
     enum-told
     close-requires
     print-requires-2
