@@ -1,4 +1,4 @@
-// The bench program without its reads and writes: the line that is printed at a stage of a run. Pieces of input become lines in `pieces`, lines stages in `bench_stage`.
+// The line that is printed at a stage of a run of the bench program.
 use bench_stage::End;
 use bench_stage::Run;
 use bench_stage::Stage;
