@@ -9,7 +9,6 @@ use lib.ListN.{length, take, drop, replicate, length-append, length-take, length
 use lib.Seq.{drop-append-le, take-append-seam}
 use lib.Dec.{ltb, leb, eqb}
 use borrow.Author.Tests.{ltb-false, leb-true, leb-false, le-leb}
-use Rattle.hex.specs.Pick as hex-pick
 use Rattle.hex.specs.Hex.{bytesOf, outDecoded}
 use Rattle.hex.proofs.Inverse.{length-bytes}
 use Rattle.protocol.specs.Pick.{if_then_else_}
@@ -24,17 +23,17 @@ use Rattle.reading.specs.declared.call.Verdict.the-variants as verdict
 use Rattle.bench_stage.specs.Stage.{filled}
 
 pub length-decoded : (s out : List ℕ) → length (outDecoded s out) ≡ length out
-unfolding outDecoded hex-pick.if_then_else_
+unfolding outDecoded if_then_else_
 length-decoded s out = by₁ (eqb (length s % 2) 1)
   where
-    by₂ : (t : Bool) → ltb (length out) (length s / 2) ≡ t → length (hex-pick.if_then_else_ t out (bytesOf s ++ drop (length (bytesOf s)) out)) ≡ length out
+    by₂ : (t : Bool) → ltb (length out) (length s / 2) ≡ t → length (if t then out else bytesOf s ++ drop (length (bytesOf s)) out) ≡ length out
     by₂ true e = refl
     by₂ false e =
         let h : length s / 2 ≤ length out = ltb-false (length out) (length s / 2) e in
         let k : length (bytesOf s) ≤ length out = omega (arith, length-bytes s) in
         rw (length-append, length-drop) (omega arith)
 
-    by₁ : (t : Bool) → length (hex-pick.if_then_else_ t out (hex-pick.if_then_else_ (ltb (length out) (length s / 2)) out (bytesOf s ++ drop (length (bytesOf s)) out))) ≡ length out
+    by₁ : (t : Bool) → length (if t then out else if ltb (length out) (length s / 2) then out else bytesOf s ++ drop (length (bytesOf s)) out) ≡ length out
     by₁ true = refl
     by₁ false = by₂ (ltb (length out) (length s / 2)) refl
 
@@ -42,7 +41,7 @@ length-block-in : (most : ℕ) (b w : List ℕ) → length (blockIn most b w) �
 unfolding blockIn
 length-block-in most b w = length-over (take (min most (min (length b) (length w))) b) w (rw length-take (omega arith))
 
-length-stored : (at most : ℕ) (b w : List ℕ) → length (storedAt at most b w) ≡ length w
+pub length-stored : (at most : ℕ) (b w : List ℕ) → length (storedAt at most b w) ≡ length w
 unfolding storedAt if_then_else_
 length-stored at most b w = by (leb at (length w)) refl
   where

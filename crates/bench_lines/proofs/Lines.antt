@@ -13,7 +13,6 @@ use borrow.Author.Tests.{ltb-true, ltb-false, eqb-true, eqb-false}
 use Rattle.hex.specs.Hex.{bytesOf, decodedOf, outDecoded}
 use Rattle.hex.specs.declared.Decoded.{Decoded}
 use Rattle.hex.specs.declared.Decoded.the-variants as decoded
-use Rattle.hex.proofs.Cases.{cases as hex-cases}
 use Rattle.hex.proofs.Inverse.{length-bytes}
 use Rattle.protocol.proofs.Cases.{cases}
 use Rattle.bench_stage.specs.Stage.{countIn, byteCount, bytesIn}
@@ -22,23 +21,23 @@ use Rattle.bench_lines.specs.Bench.{lineBytes}
 module _ (s : List ℕ) (room : ℕ) where
   odd : length s % 2 ≡ 1 → decodedOf s room ≡ decoded.Bad
   unfolding decodedOf
-  odd h = sym (search hex-cases)
+  odd h = sym (search cases)
 
   long : (length s % 2 ≡ 1 → ⊥) → room < length s / 2 → decodedOf s room ≡ decoded.TooLong
   unfolding decodedOf
-  long h l = sym (search hex-cases)
+  long h l = sym (search cases)
 
   short : (length s % 2 ≡ 1 → ⊥) → length s / 2 ≤ room → length (bytesOf s) < length s / 2 → decodedOf s room ≡ decoded.Bad
   unfolding decodedOf
-  short h l k = sym (search hex-cases)
+  short h l k = sym (search cases)
 
   whole : (length s % 2 ≡ 1 → ⊥) → length s / 2 ≤ room → length s / 2 ≤ length (bytesOf s) → decodedOf s room ≡ decoded.Bytes (length s / 2)
   unfolding decodedOf
-  whole h l k = sym (search hex-cases)
+  whole h l k = sym (search cases)
 
 laid : (s out : List ℕ) → (length s % 2 ≡ 1 → ⊥) → length s / 2 ≤ length out → outDecoded s out ≡ bytesOf s ++ drop (length (bytesOf s)) out
 unfolding outDecoded
-laid s out h l = sym (search hex-cases)
+laid s out h l = sym (search cases)
 
 -- no bytes come of a line that is not decoded
 none : (s out : List ℕ) (d : Decoded) → decodedOf s (length out) ≡ d → countIn d ≡ 0 → bytesIn s out ≡ []

@@ -1,9 +1,10 @@
-// The bench program without its reads and writes: the line that is printed at a stage of a run. Pieces of input become lines in `pieces`, lines stages in `bench_stage`.
+// The line that is printed at a stage of a run of the bench program.
 use bench_stage::End;
 use bench_stage::Run;
 use bench_stage::Stage;
 use engine::bus::Transfer;
 use protocol::bytes;
+use protocol::consts::LEAST_WORK_BUFFER;
 use protocol::error::Answer;
 use reading::call::ReadCall;
 use writing::call::WriteCall;
@@ -49,7 +50,7 @@ fn show_write(call: WriteCall, payload: &[u8], out: &mut [u8]) -> Said
     ensures { λ r. ⌜ (r ≡ saidOf (showWrite call (now (payload .entry))) (length (now (out .entry)))) × (now (out .exit) ≡ outPrinted (bytesSaid (showWrite call (now (payload .entry)))) (now (out .entry))) ⌝ }
 {
     let tally = call.tally;
-    let mut work = [0u8; 39];
+    let mut work = [0u8; LEAST_WORK_BUFFER];
     let transfer = call.next(payload, &mut work);
     let frame = call.to_send(payload, &work, size(transfer));
     tell(transfer, frame, tally.waits, b"", out)
@@ -60,7 +61,7 @@ fn show_read(call: ReadCall, buffer: &[u8], out: &mut [u8]) -> Said
     ensures { λ r. ⌜ (r ≡ saidOf (showRead call (now (buffer .entry))) (length (now (out .entry)))) × (now (out .exit) ≡ outPrinted (bytesSaid (showRead call (now (buffer .entry)))) (now (out .entry))) ⌝ }
 {
     let tally = call.tally;
-    let mut work = [0u8; 39];
+    let mut work = [0u8; LEAST_WORK_BUFFER];
     let transfer = call.next(buffer, &mut work);
     let frame = call.to_send(&work, size(transfer));
     tell(transfer, frame, tally.waits, buffer, out)

@@ -72,14 +72,14 @@ beginRead kind n line lent = readStage (readStart kind (configOf line) (length (
 unfoldable pub beginBy : Request → List ℕ → ℕ → Stage
 beginBy (request.Write kind at) line lent = beginWrite kind at line
 beginBy (request.Read kind n) line lent = beginRead kind n line lent
-beginBy request.Bad line lent = fresh
+beginBy request.Bad line lent = record { run = run.Nothing; end = end.Stopped answer.BadLine }
 
 unfoldable pub fillBy : Request → List ℕ → List ℕ
 fillBy (request.Write kind at) buffer = buffer
 fillBy (request.Read kind n) buffer = filled n buffer
 fillBy request.Bad buffer = buffer
 
--- the bytes of a request line begin a run
+-- the bytes of a request line begin a run, or stop it
 unfoldable pub beginOf : List ℕ → ℕ → Stage
 beginOf line lent = beginBy (requestLine line) line lent
 

@@ -1,6 +1,7 @@
 // A run of the bench program, line by line.
 use hex::Decoded;
 use protocol::bytes;
+use protocol::consts::LEAST_WORK_BUFFER;
 use protocol::error::Answer;
 use reading::call::ReadCall;
 use reading::call::ReadReported;
@@ -8,6 +9,7 @@ use requests::fields;
 use requests::outcome;
 use requests::outcome::Told;
 use requests::request;
+use requests::request::INPUT_AT;
 use requests::request::ReadKind;
 use requests::request::Request;
 use requests::request::WriteKind;
@@ -39,7 +41,7 @@ pub enum Run {
 pub enum End {
     // It does, as far as its call does.
     Open,
-    // An outcome line ended it, with 9 or 11.
+    // It was stopped: with 11 by a bad line, with 9 by a wrong reply, or with 8 where less is lent than its buffer has.
     Stopped(Answer),
     // No outcomes are left.
     Cut,
@@ -108,32 +110,35 @@ fn fill(buffer: &mut [u8], n: usize)
 fn begin_write(kind: WriteKind, at: usize, line: &[u8]) -> Stage
     ensures { λ r. ⌜ r ≡ beginWrite kind at (now (line .entry)) ⌝ }
 {
-    let work = [0u8; 39];
+    let work = [0u8; LEAST_WORK_BUFFER];
     let payload = fields::rest(line, at);
     let call = bench_calls::start_write(kind, request::config(line), payload, &work);
     writes(call, at, payload.len(), End::Open)
 }
 
-// A reading call starts, with a buffer of `len` bytes A5.
+// A reading call starts. Its buffer is `len` bytes A5, or as many as are lent.
 fn begin_read(kind: ReadKind, len: usize, line: &[u8], buffer: &mut [u8]) -> Stage
     ensures { λ r. ⌜ (r ≡ beginRead kind len (now (line .entry)) (length (now (buffer .entry)))) × (now (buffer .exit) ≡ filled len (now (buffer .entry))) ⌝ }
 {
     fill(buffer, len);
-    let work = [0u8; 39];
+    let work = [0u8; LEAST_WORK_BUFFER];
     let lent = bytes::front(buffer, len);
-    let input = fields::rest(line, 10);
+    let input = fields::rest(line, INPUT_AT);
     let call = bench_calls::start_read(kind, request::config(line), input, lent, &work);
     reads(call, len, End::Open)
 }
 
-// The bytes of a request line begin a run.
+// The bytes of a request line begin a run, or stop it.
 fn begin(line: &[u8], buffer: &mut [u8]) -> Stage
     ensures { λ r. ⌜ (r ≡ beginOf (now (line .entry)) (length (now (buffer .entry)))) × (now (buffer .exit) ≡ beginBuffer (now (line .entry)) (now (buffer .entry))) ⌝ }
 {
     match request::read(line) {
         Request::Write(kind, at) => begin_write(kind, at, line),
         Request::Read(kind, len) => begin_read(kind, len, line, buffer),
-        Request::Bad => start(),
+        Request::Bad => Stage {
+            run: Run::Nothing,
+            end: End::Stopped(Answer::BadLine),
+        },
     }
 }
 
@@ -151,7 +156,7 @@ fn wrote(reported: WriteReported, at: usize, len: usize) -> Stage
 fn go_write(call: WriteCall, at: usize, line: &[u8], payload: &[u8]) -> Stage
     ensures { λ r. ⌜ r ≡ goWrite call at (now (line .entry)) (length (now (payload .entry))) ⌝ }
 {
-    let work = [0u8; 39];
+    let work = [0u8; LEAST_WORK_BUFFER];
     let reply = fields::rest(line, 1);
     match outcome::read(line) {
         Told::Outcome(outcome) => wrote(
@@ -177,7 +182,7 @@ fn got(reported: ReadReported, len: usize) -> Stage
 fn heard_read(call: ReadCall, line: &[u8], buffer: &mut [u8]) -> Stage
     ensures { λ r. ⌜ (r ≡ heardRead call (now (line .entry)) (length (now (buffer .entry)))) × (now (buffer .exit) ≡ heardBuffer call (now (line .entry)) (now (buffer .entry))) ⌝ }
 {
-    let work = [0u8; 39];
+    let work = [0u8; LEAST_WORK_BUFFER];
     let len = buffer.len();
     let reply = fields::rest(line, 1);
     match outcome::read(line) {

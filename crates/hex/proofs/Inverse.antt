@@ -8,7 +8,7 @@ use native.Mathlib.Omega.{arith}
 use lib.ListN.{length, getD}
 use lib.Dec.{ltb, eqb}
 use borrow.Author.Tests.{ltb-true, ltb-false, eqb-false}
-use Rattle.hex.specs.Pick.{if_then_else_}
+use Rattle.protocol.specs.Pick.{if_then_else_}
 use Rattle.hex.specs.Hex.{valueOf, pairOf, bytesOf, decodedOf, digitOf, hexOf}
 use Rattle.hex.specs.declared.Decoded.the-variants as decoded
 use Rattle.hex.proofs.Cases.{cases}

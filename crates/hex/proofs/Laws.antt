@@ -9,7 +9,7 @@ use native.Mathlib.Omega.{arith}
 use lib.ListN.{length, take, drop, getD, set, length-append, length-take, length-drop, length-set, take-append-drop, drop-of-length-le}
 use lib.Seq.{length-take-le, drop-cons, take-suc, take-suc-set, drop-set-lt, drop-drop, set-at, take-length, append-snoc, getD-drop}
 use borrow.Author.Tests.{lt-ltb, le-ltb}
-use Rattle.hex.specs.Pick.{if_then_else_}
+use Rattle.protocol.specs.Pick.{if_then_else_}
 use Rattle.hex.specs.Hex.{valueOf, pairOf, bytesOf, digitOf, hexOf}
 
 -- two values that calls gave, as a byte

@@ -4,7 +4,7 @@ use Prim.Native.Nat.{ℕ, _+_, _-_, _*_, _/_, _%_}
 use mathlib.Core.List.{List, [], _∷_, _++_}
 use lib.ListN.{length, drop}
 use lib.Dec.{ltb, eqb}
-use Rattle.hex.specs.Pick.{if_then_else_}
+use Rattle.protocol.specs.Pick.{if_then_else_}
 use Rattle.hex.specs.declared.Decoded.{Decoded}
 use Rattle.hex.specs.declared.Decoded.the-variants as decoded
 use Rattle.hex.specs.declared.Encoded.{Encoded}

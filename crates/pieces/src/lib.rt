@@ -10,7 +10,7 @@ pub enum Took {
     Line { len: usize, next: usize },
     // The piece is used up, and so many bytes of a line are held.
     More(usize),
-    // A line that has no room, longer than any that is valid.
+    // A line has no room in what holds it; as much of it is held as has room.
     Long,
 }
 

@@ -8,7 +8,7 @@ use native.Mathlib.Omega.{arith}
 use lib.ListN.{length, take, drop, set, length-append, length-take, length-drop}
 use lib.Seq.{take-all}
 use borrow.Author.Tests.{le-ltb}
-use Rattle.hex.specs.Pick.{if_then_else_}
+use Rattle.protocol.specs.Pick.{if_then_else_}
 use Rattle.hex.specs.Hex.{hexOf, outEncoded}
 use Rattle.hex.proofs.Laws.{hex-append, length-hex}
 use Rattle.protocol.specs.Bytes.{over}

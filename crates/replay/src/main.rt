@@ -10,6 +10,10 @@ use bench_stage::Stage;
 use libc::STDOUT_FILENO;
 use protocol::bytes;
 use requests::fields;
+use session::BUFFER_BYTES;
+use session::OUT_BYTES;
+use session::REPLY_BYTES;
+use session::REQUEST_BYTES;
 
 // A case that runs: the call, whether it is over, and whether all that was printed is what the list has.
 struct Case {
@@ -150,10 +154,10 @@ fn run_case(
     put: &mut [u8; 65536],
     wanted_piece: &mut [u8; 65536],
     wanted: &mut [u8; 65536],
-    request: &mut [u8; 8202],
-    reply: &mut [u8; 8193],
-    buffer: &mut [u8; 8192],
-    out: &mut [u8; 16401],
+    request: &mut [u8; REQUEST_BYTES],
+    reply: &mut [u8; REPLY_BYTES],
+    buffer: &mut [u8; BUFFER_BYTES],
+    out: &mut [u8; OUT_BYTES],
 ) -> Ran {
     let mut a = input;
     let mut b = expected;
@@ -226,10 +230,10 @@ fn next_case(
     put: &mut [u8; 65536],
     wanted_piece: &mut [u8; 65536],
     wanted: &mut [u8; 65536],
-    request: &mut [u8; 8202],
-    reply: &mut [u8; 8193],
-    buffer: &mut [u8; 8192],
-    out: &mut [u8; 16401],
+    request: &mut [u8; REQUEST_BYTES],
+    reply: &mut [u8; REPLY_BYTES],
+    buffer: &mut [u8; BUFFER_BYTES],
+    out: &mut [u8; OUT_BYTES],
     words: &mut [u8; 4096],
 ) -> Session {
     let tally = session.tally;
@@ -294,10 +298,10 @@ fn replay(first: i32, second: i32) {
     let mut put = io::large_buffer();
     let mut wanted_piece = io::large_buffer();
     let mut wanted = io::large_buffer();
-    let mut request = [0u8; 8202];
-    let mut reply = [0u8; 8193];
-    let mut buffer = [0u8; 8192];
-    let mut out = [0u8; 16401];
+    let mut request = [0u8; REQUEST_BYTES];
+    let mut reply = [0u8; REPLY_BYTES];
+    let mut buffer = [0u8; BUFFER_BYTES];
+    let mut out = [0u8; OUT_BYTES];
     let mut words = io::buffer();
     let mut session = Session {
         input: reader::open(first),

@@ -1,8 +1,12 @@
 // An outcome line: 00 and any reply, 01 and a code, 02.
 use crate::fields;
+use crate::request::MOST_BYTES;
 use engine::bus::Outcome;
 ghost use mathlib.Core.Path.{_≡_};
 ghost use Rattle.requests.specs.Outcome.{acknowledgedLine, errorLine, timeoutLine, outcomeLine};
+
+// The longest outcome line is 00 and a reply.
+pub const LONGEST_OUTCOME: usize = MOST_BYTES + 1;
 
 // What an outcome line says.
 pub enum Told {
@@ -16,7 +20,7 @@ pub enum Told {
 fn acknowledged(len: usize) -> Told
     ensures { λ r. ⌜ r ≡ acknowledgedLine len ⌝ }
 {
-    if 8193 < len {
+    if LONGEST_OUTCOME < len {
         Told::Bad
     } else {
         Told::Outcome(Outcome::Acknowledged)

@@ -3,9 +3,21 @@ use crate::fields::byte;
 use crate::fields::pair;
 use crate::fields::quad;
 use protocol::common::Config;
+use protocol::consts::AUTH_KEY_DATA_LEN_BYTES;
+use protocol::consts::CHRG_VOLTAGE_OVERRIDE_SIZE_BYTES;
+use protocol::consts::SECURITY_KEYS_R5_DATA_LEN_BYTES;
 ghost use mathlib.Core.Path.{_≡_};
 ghost use lib.ListN.{length};
 ghost use Rattle.requests.specs.Request.{configOf, writesOf, wholeOf, readsOf, commandOf, writeLine, readLine, requestLine};
+
+// A payload, an input, a buffer and a reply have at most so many bytes.
+pub const MOST_BYTES: usize = 8192;
+
+// Where a command's input starts in its line.
+pub const INPUT_AT: usize = 10;
+
+// The longest request line is a command's.
+pub const LONGEST_REQUEST: usize = INPUT_AT + MOST_BYTES;
 
 // A writing call of the bench program, with its arguments but for the payload.
 pub enum WriteKind {
@@ -40,7 +52,7 @@ pub enum ReadKind {
 pub enum Request {
     // A writing call, whose payload is the line from this byte on.
     Write(WriteKind, usize),
-    // A reading call with a buffer of so many bytes. A command's input is the line from byte 10 on.
+    // A reading call with a buffer of so many bytes. A command's input is the line from `INPUT_AT` on.
     Read(ReadKind, usize),
     // Nothing: a bad line.
     Bad,
@@ -58,14 +70,14 @@ pub fn config(line: &[u8]) -> Config
     }
 }
 
-// A writing call whose payload is the rest of a line of `len` bytes, at most 8,192.
+// A writing call whose payload is the rest of a line of `len` bytes, at most `MOST_BYTES`.
 fn writes(call: WriteKind, at: usize, len: usize) -> Request
     ensures { λ r. ⌜ r ≡ writesOf call at len ⌝ }
 {
     if len < at {
         return Request::Bad;
     }
-    if 8192 < len - at {
+    if MOST_BYTES < len - at {
         return Request::Bad;
     }
     Request::Write(call, at)
@@ -82,11 +94,11 @@ fn whole(call: WriteKind, at: usize, whole: usize, len: usize) -> Request
     }
 }
 
-// A reading call of at most 8,192 bytes, in a line of exactly `whole` bytes.
+// A reading call of at most `MOST_BYTES`, in a line of exactly `whole` bytes.
 fn reads(call: ReadKind, length: u16, whole: usize, len: usize) -> Request
     ensures { λ r. ⌜ r ≡ readsOf call length whole len ⌝ }
 {
-    if 8192 < length {
+    if MOST_BYTES < length as usize {
         return Request::Bad;
     }
     if len == whole {
@@ -96,17 +108,17 @@ fn reads(call: ReadKind, length: u16, whole: usize, len: usize) -> Request
     }
 }
 
-// A command with its output's length, whose input is the rest of the line, each at most 8,192.
+// A command with its output's length, whose input is the rest of the line, each at most `MOST_BYTES`.
 fn command(address: u32, length: u16, len: usize) -> Request
     ensures { λ r. ⌜ r ≡ commandOf address length len ⌝ }
 {
-    if 8192 < length {
+    if MOST_BYTES < length as usize {
         return Request::Bad;
     }
-    if len < 10 {
+    if len < INPUT_AT {
         return Request::Bad;
     }
-    if 8192 < len - 10 {
+    if MOST_BYTES < len - INPUT_AT {
         return Request::Bad;
     }
     Request::Read(ReadKind::Command(address), length as usize)
@@ -122,8 +134,18 @@ fn read_line(line: &[u8]) -> Request
         0x04 => reads(ReadKind::Register(byte(line, 4)), pair(line, 5), 7, len),
         0x05 => command(quad(line, 4), pair(line, 8), len),
         0x06 => reads(ReadKind::Buffer(byte(line, 4)), pair(line, 5), 7, len),
-        0x08 => reads(ReadKind::SecurityKeys, 28, 4, len),
-        0x0A => reads(ReadKind::AuthenticationKey, 16, 4, len),
+        0x08 => reads(
+            ReadKind::SecurityKeys,
+            SECURITY_KEYS_R5_DATA_LEN_BYTES as u16,
+            4,
+            len,
+        ),
+        0x0A => reads(
+            ReadKind::AuthenticationKey,
+            AUTH_KEY_DATA_LEN_BYTES as u16,
+            4,
+            len,
+        ),
         0x0C => reads(
             ReadKind::RegisterUnchecked(byte(line, 4)),
             pair(line, 5),
@@ -132,7 +154,12 @@ fn read_line(line: &[u8]) -> Request
         ),
         0x0F => reads(ReadKind::MfgInfoC, pair(line, 4), 6, len),
         0x11 => reads(ReadKind::MfgInfo, pair(line, 4), 6, len),
-        0x13 => reads(ReadKind::ChargingVoltageOverride, 10, 4, len),
+        0x13 => reads(
+            ReadKind::ChargingVoltageOverride,
+            CHRG_VOLTAGE_OVERRIDE_SIZE_BYTES as u16,
+            4,
+            len,
+        ),
         _ => Request::Bad,
     }
 }
@@ -167,7 +194,12 @@ fn write_line(line: &[u8]) -> Request
             len,
         ),
         0x12 => writes(WriteKind::MfgInfo, 4, len),
-        0x14 => whole(WriteKind::ChargingVoltageOverride, 4, 14, len),
+        0x14 => whole(
+            WriteKind::ChargingVoltageOverride,
+            4,
+            4 + CHRG_VOLTAGE_OVERRIDE_SIZE_BYTES,
+            len,
+        ),
         0x15 => writes(WriteKind::Plain, 4, len),
         _ => read_line(line),
     }

@@ -5,10 +5,11 @@ use Rattle.bench.proofs.main.Statement.{statement}
 use Rattle.bench.proofs.main.Tie as tie
 
 abbrev Inv-loop : tie.InvT-loop
-Inv-loop piece₀ held₀ request₀ reply₀ buffer₀ out₀ session₀ turns₀ piece held request reply buffer out session turns = Unit {0}
+Inv-loop piece₀ held₀ request₀ reply₀ buffer₀ out₀ session₀ n₀ turns₀ piece held request reply buffer out session n turns =
+    Unit {0}
 
 abbrev μ-loop : tie.MeasureT-loop
-μ-loop piece₀ held₀ request₀ reply₀ buffer₀ out₀ session₀ turns₀ piece held request reply buffer out session turns = turns
+μ-loop piece₀ held₀ request₀ reply₀ buffer₀ out₀ session₀ n₀ turns₀ piece held request reply buffer out session n turns = turns
 
 large-buffer-requires : tie.Need-large-buffer-requires Inv-loop μ-loop
 large-buffer-requires c κs = tt
@@ -19,8 +20,23 @@ start-requires c κs = tt
 loop-holds : tie.Need-loop-holds Inv-loop μ-loop
 loop-holds c = tt
 
-turn-requires : tie.Need-turn-requires Inv-loop μ-loop
-turn-requires c κs = tt
+take-requires : tie.Need-take-requires Inv-loop μ-loop
+take-requires c κs = tt
+
+read-requires : tie.Need-read-requires Inv-loop μ-loop
+read-requires c κs = tt
+
+end-requires : tie.Need-end-requires Inv-loop μ-loop
+end-requires c κs = tt
+
+next-piece-requires : tie.Need-next-piece-requires Inv-loop μ-loop
+next-piece-requires c κs = tt
+
+write-requires : tie.Need-write-requires Inv-loop μ-loop
+write-requires c κs = tt
+
+returns : tie.Need-returns Inv-loop μ-loop
+returns c = tt
 
 sub-turns : tie.Need-sub-turns Inv-loop μ-loop
 sub-turns c = omega arith
@@ -31,11 +47,11 @@ loop-less c = omega arith
 loop-again : tie.Need-loop-again Inv-loop μ-loop
 loop-again c = tt
 
-returns : tie.Need-returns Inv-loop μ-loop
-returns c = tt
-
 returns-2 : tie.Need-returns-2 Inv-loop μ-loop
 returns-2 c = tt
+
+returns-3 : tie.Need-returns-3 Inv-loop μ-loop
+returns-3 c = tt
 
 pub main-spec : {M : Type 1} → statement M
 main-spec =
@@ -46,9 +62,14 @@ main-spec =
     large-buffer-requires
     start-requires
     loop-holds
-    turn-requires
+    take-requires
+    read-requires
+    end-requires
+    next-piece-requires
+    write-requires
+    returns
     sub-turns
     loop-less
     loop-again
-    returns
-    returns-2)
+    returns-2
+    returns-3)

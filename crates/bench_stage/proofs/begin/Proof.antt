@@ -24,9 +24,6 @@ begin-read-requires c κs = search needs
 enum-told : tie.Need-enum-told
 enum-told c = search needs
 
-start-requires : tie.Need-start-requires
-start-requires c κs = search needs
-
 returns : tie.Need-returns
 unfolding beginOf beginBuffer beginBy fillBy
 returns c = rw (← c .before .before .before .before .read .ensures, c .before .before .kind .given .1) (c .begin-write .ensures, refl)
@@ -40,7 +37,7 @@ returns-2 c = rw (← c .before .before .before .before .before .before .before 
 
 returns-3 : tie.Need-returns-3
 unfolding beginOf beginBuffer beginBy fillBy
-returns-3 c = rw (← c .before .before .before .read .ensures, c .before .enum-told .given .1) (c .start .ensures, refl)
+returns-3 c = rw (← c .before .before .read .ensures, c .enum-told .given .1) (refl, refl)
 
 pub begin-spec : {M : Type 1} → statement M
 begin-spec =
@@ -52,7 +49,6 @@ begin-spec =
     enum-known-kind-2
     begin-read-requires
     enum-told
-    start-requires
     returns
     same-length
     returns-2

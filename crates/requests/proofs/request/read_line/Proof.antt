@@ -47,8 +47,14 @@ pair-requires-5 c κs = search needs
 reads-requires-3 : tie.Need-reads-requires-3
 reads-requires-3 c κs = search needs
 
+cast-reads : tie.Need-cast-reads
+cast-reads c = search needs
+
 reads-requires-4 : tie.Need-reads-requires-4
 reads-requires-4 c κs = search needs
+
+cast-reads-2 : tie.Need-cast-reads-2
+cast-reads-2 c = search needs
 
 reads-requires-5 : tie.Need-reads-requires-5
 reads-requires-5 c κs = search needs
@@ -73,6 +79,9 @@ pair-requires-8 c κs = search needs
 
 reads-requires-8 : tie.Need-reads-requires-8
 reads-requires-8 c κs = search needs
+
+cast-reads-3 : tie.Need-cast-reads-3
+cast-reads-3 c = search needs
 
 reads-requires-9 : tie.Need-reads-requires-9
 reads-requires-9 c κs = search needs
@@ -149,7 +158,9 @@ read-line-spec =
     byte-requires-3
     pair-requires-5
     reads-requires-3
+    cast-reads
     reads-requires-4
+    cast-reads-2
     reads-requires-5
     byte-requires-4
     pair-requires-6
@@ -158,6 +169,7 @@ read-line-spec =
     reads-requires-7
     pair-requires-8
     reads-requires-8
+    cast-reads-3
     reads-requires-9
     returns
     returns-2

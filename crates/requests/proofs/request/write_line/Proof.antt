@@ -62,6 +62,9 @@ writes-requires-7 c κs = search needs
 writes-requires-8 : tie.Need-writes-requires-8
 writes-requires-8 c κs = search needs
 
+add-whole : tie.Need-add-whole
+add-whole c = search needs
+
 whole-requires-2 : tie.Need-whole-requires-2
 whole-requires-2 c κs = search needs
 
@@ -153,6 +156,7 @@ write-line-spec =
     pair-requires-5
     writes-requires-7
     writes-requires-8
+    add-whole
     whole-requires-2
     writes-requires-9
     read-line-requires

@@ -1,8 +1,0 @@
--- The choice by a test, in the words of the code.
--- Assumes nothing.
-use mathlib.Core.Bool.{Bool, true, false}
-
-infixr 10 if_then_else_
-unfoldable pub if_then_else_ : {A : Type 0} → Bool → A → A → A
-if true then x else y = x
-if false then x else y = y
