@@ -1,20 +1,10 @@
 // The reading calls.
+use crate::marks;
 use crate::say;
-use crate::writes;
 use engine::bus::Transfer;
 use protocol::bytes;
-use protocol::common::Config;
 use reading::call::ReadCall;
 use reading::call::ReadReported;
-
-// One retry, with and without PEC on reads.
-fn config(pec: bool) -> Config {
-    Config {
-        max_bus_retries: 1,
-        pec_write: false,
-        pec_read: pec,
-    }
-}
 
 // The bytes 10, 11, .. hex.
 fn count_up(reply: &mut [u8]) {
@@ -49,11 +39,11 @@ fn show(call: ReadCall, buffer: &[u8], work: &mut [u8]) -> usize {
             count
         }
         Transfer::Refused(a) => {
-            say::refusal(a);
+            say::instead(b" !", a);
             0
         }
-        Transfer::Ended(_) => {
-            say::words(b" -");
+        Transfer::Ended(a) => {
+            say::instead(b" -", a);
             0
         }
     }
@@ -62,11 +52,6 @@ fn show(call: ReadCall, buffer: &[u8], work: &mut [u8]) -> usize {
 // The command that a reply's PEC is worked out with: for p another one.
 fn covered(mark: u8, command: u8) -> u8 {
     if mark == b'p' { command ^ 1 } else { command }
-}
-
-// How many bytes a mark brings where n were asked for: r too many.
-fn asked(mark: u8, n: usize) -> usize {
-    if mark == b'r' { 50 } else { n }
 }
 
 // The call that a report hands back; a refusal is said.
@@ -81,16 +66,28 @@ fn taken(reported: ReadReported) -> ReadCall {
 }
 
 // One transfer and its outcome.
-fn step(call: ReadCall, mark: u8, command: u8, buffer: &mut [u8], work: &mut [u8]) -> ReadCall {
+fn turn(call: ReadCall, mark: u8, command: u8, buffer: &mut [u8], work: &mut [u8]) -> ReadCall {
     let mut reply = [0u8; 64];
     let count = show(call, buffer, work);
     fill(&mut reply, count, covered(mark, command));
     taken(call.report(
-        writes::outcome(mark),
-        bytes::front(&reply, asked(mark, count)),
+        marks::outcome(mark),
+        bytes::front(&reply, marks::reply(mark, count)),
         buffer,
-        writes::lent(mark, work),
+        work,
     ))
+}
+
+// One transfer and its outcome, with what the mark lends: l another buffer.
+fn step(call: ReadCall, mark: u8, command: u8, buffer: &mut [u8]) -> ReadCall {
+    let mut work = [0u8; 39];
+    let n = bytes::least(marks::work(mark), 39);
+    if mark == b'l' {
+        let mut other = [0u8; 3];
+        turn(call, mark, command, &mut other, &mut work[..n])
+    } else {
+        turn(call, mark, command, buffer, &mut work[..n])
+    }
 }
 
 // The buffer as it is before a call.
@@ -101,12 +98,12 @@ fn clear(buffer: &mut [u8]) {
 }
 
 // A call over a script, on a line, with the buffer at the end.
-fn run(start: ReadCall, command: u8, buffer: &mut [u8], work: &mut [u8], script: &[u8]) {
+fn run(start: ReadCall, command: u8, buffer: &mut [u8], script: &[u8]) {
     let mut call = start;
     clear(buffer);
     say::words(script);
     for i in 0..script.len() {
-        call = step(call, script[i], command, buffer, work);
+        call = step(call, script[i], command, buffer);
     }
     let phase = call.phase;
     say::end(phase, call.tally.waits);
@@ -114,16 +111,19 @@ fn run(start: ReadCall, command: u8, buffer: &mut [u8], work: &mut [u8], script:
     say::words(b"\n");
 }
 
+// The line of the script that begins here, if one does.
+fn line(call: ReadCall, command: u8, buffer: &mut [u8], scripts: &[u8], at: usize) {
+    if marks::begins(scripts, at) {
+        run(call, command, buffer, marks::script(scripts, at));
+    }
+}
+
 // A call through success, retries, each failure and the refusals of a step, with this buffer.
 fn scripts(call: ReadCall, command: u8, buffer: &mut [u8]) {
-    let mut work = [0u8; 39];
-    run(call, command, buffer, &mut work, b"");
-    run(call, command, buffer, &mut work, b"aaaa");
-    run(call, command, buffer, &mut work, b"aeaaaa");
-    run(call, command, buffer, &mut work, b"ee");
-    run(call, command, buffer, &mut work, b"aapat");
-    run(call, command, buffer, &mut work, b"tpp");
-    run(call, command, buffer, &mut work, b"rsa");
+    let scripts = b",aaasl,aeaaaa,ef,tt,te,tat,aapat,tpp,qrslba,aqrba";
+    for i in 0..scripts.len() {
+        line(call, command, buffer, scripts, i);
+    }
 }
 
 // A call by name with a buffer of n bytes.
@@ -140,7 +140,7 @@ fn all_of(name: &[u8], call: ReadCall, command: u8, n: usize) {
 fn registers(pec: bool) {
     let work = [0u8; 39];
     let room = [0u8; 40];
-    let c = config(pec);
+    let c = marks::settings(!pec);
     all_of(
         b"read_register",
         interface::read_register(c, 0x12, &room[..2], &work),
@@ -165,7 +165,7 @@ fn registers(pec: bool) {
 fn commands(pec: bool) {
     let work = [0u8; 39];
     let room = [0u8; 40];
-    let c = config(pec);
+    let c = marks::settings(!pec);
     all_of(
         b"dispatch_command 443500, 2",
         interface::dispatch_command(c, 0x443500, b"", &room[..2], &work),
@@ -190,7 +190,7 @@ fn commands(pec: bool) {
 fn keys(pec: bool) {
     let work = [0u8; 39];
     let room = [0u8; 40];
-    let c = config(pec);
+    let c = marks::settings(!pec);
     all_of(
         b"read_security_keys",
         r5::read_security_keys(c, &room[..28], &work),
@@ -215,7 +215,7 @@ fn keys(pec: bool) {
 fn infos_and_flash(pec: bool) {
     let work = [0u8; 39];
     let room = [0u8; 40];
-    let c = config(pec);
+    let c = marks::settings(!pec);
     all_of(
         b"read_mfg_info_c",
         r5::read_mfg_info_c(c, &room[..2], &work),
@@ -236,7 +236,7 @@ fn infos_and_flash(pec: bool) {
     );
 }
 
-// The calls with this PEC setting.
+// The calls with this `pec_read`.
 fn with(pec: bool) {
     registers(pec);
     commands(pec);
@@ -244,7 +244,7 @@ fn with(pec: bool) {
     infos_and_flash(pec);
 }
 
-// Everything.
+// Everything, without PEC and with it.
 pub(crate) fn all() {
     with(false);
     with(true);

@@ -34,11 +34,17 @@ pub(crate) fn read(command: u8, count: usize) {
     io::print_decimal(STDOUT_FILENO, count as u64);
 }
 
-// A refusal of a step.
+// A refused report.
 pub(crate) fn refusal(a: Answer) {
     words(b" (");
     io::print_decimal(STDOUT_FILENO, a.number() as u64);
     words(b")");
+}
+
+// An answer in place of a transfer: after a dash that of an ended call, after ! why the showing is refused.
+pub(crate) fn instead(sign: &[u8], a: Answer) {
+    words(sign);
+    io::print_decimal(STDOUT_FILENO, a.number() as u64);
 }
 
 // How a call stands: its answer with the detail, or that it waits; and its waits.

@@ -1,52 +1,24 @@
 // The writing calls.
+use crate::marks;
 use crate::say;
-use engine::bus::Outcome;
 use engine::bus::Transfer;
 use protocol::bytes;
-use protocol::common::Config;
 use writing::call::WriteCall;
 use writing::call::WriteReported;
-
-// One retry, with and without PEC.
-fn config(pec: bool) -> Config {
-    Config {
-        max_bus_retries: 1,
-        pec_write: pec,
-        pec_read: false,
-    }
-}
-
-// The outcome that a digit of a script stands for: e is bus error 5, t a timeout, all others are acknowledged.
-pub(crate) fn outcome(mark: u8) -> Outcome {
-    match mark {
-        b'e' => Outcome::BusError(5),
-        b't' => Outcome::Timeout,
-        _ => Outcome::Acknowledged,
-    }
-}
 
 // Shows the transfer that is due.
 fn show(call: WriteCall, payload: &[u8], work: &mut [u8]) {
     match call.next(payload, work) {
         Transfer::Write(n) => say::write(call.to_send(payload, work, n)),
         Transfer::Read(command, count) => say::read(command, count),
-        Transfer::Refused(a) => say::refusal(a),
-        Transfer::Ended(_) => say::words(b" -"),
+        Transfer::Refused(a) => say::instead(b" !", a),
+        Transfer::Ended(a) => say::instead(b" -", a),
     }
 }
 
-// How long a reply a mark brings: r one that no write has.
-fn extra(mark: u8) -> usize {
-    if mark == b'r' { 1 } else { 0 }
-}
-
-// The work buffer that a mark lends: s a shorter one.
-pub(crate) fn lent(mark: u8, work: &[u8]) -> &[u8] {
-    if mark == b's' {
-        bytes::front(work, 5)
-    } else {
-        work
-    }
+// The payload that a mark lends: l another one.
+fn lent<'a>(mark: u8, payload: &'a [u8], other: &'a [u8]) -> &'a [u8] {
+    if mark == b'l' { other } else { payload }
 }
 
 // The call that a report hands back; a refusal is said.
@@ -61,42 +33,49 @@ fn taken(reported: WriteReported) -> WriteCall {
 }
 
 // One transfer and its outcome.
-fn step(call: WriteCall, mark: u8, payload: &[u8], work: &mut [u8]) -> WriteCall {
+fn turn(call: WriteCall, mark: u8, payload: &[u8], work: &mut [u8]) -> WriteCall {
     show(call, payload, work);
-    let reply = bytes::front(b"!", extra(mark));
-    taken(call.report(outcome(mark), reply, payload, lent(mark, work)))
+    let reply = bytes::front(b"!", marks::reply(mark, 0));
+    taken(call.report(marks::outcome(mark), reply, payload, work))
+}
+
+// One transfer and its outcome, with what the mark lends.
+fn step(call: WriteCall, mark: u8, payload: &[u8]) -> WriteCall {
+    let other = [0u8; 3];
+    let mut work = [0u8; 39];
+    let n = bytes::least(marks::work(mark), 39);
+    turn(call, mark, lent(mark, payload, &other), &mut work[..n])
 }
 
 // A call over a script, on a line.
-fn run(start: WriteCall, payload: &[u8], work: &mut [u8], script: &[u8]) {
+fn run(start: WriteCall, payload: &[u8], script: &[u8]) {
     let mut call = start;
     say::words(script);
     for i in 0..script.len() {
-        call = step(call, script[i], payload, work);
+        call = step(call, script[i], payload);
     }
     let phase = call.phase;
     say::end(phase, call.tally.waits);
     say::words(b"\n");
 }
 
-// A call through success, retries, both failures and the refusals of a step.
+// A call through success, retries, each failure and the refusals of a step.
 fn all_of(name: &[u8], call: WriteCall, payload: &[u8]) {
-    let mut work = [0u8; 39];
+    let scripts = b",aaasl,eataea,ef,tt,te,att,aef,rslba";
     say::words(name);
     say::words(b"\n");
-    run(call, payload, &mut work, b"");
-    run(call, payload, &mut work, b"aaa");
-    run(call, payload, &mut work, b"eataea");
-    run(call, payload, &mut work, b"ee");
-    run(call, payload, &mut work, b"att");
-    run(call, payload, &mut work, b"rsa");
+    for i in 0..scripts.len() {
+        if marks::begins(scripts, i) {
+            run(call, payload, marks::script(scripts, i));
+        }
+    }
 }
 
 // Plain, register and buffer writes.
 fn plain(pec: bool) {
     let work = [0u8; 39];
     let two = b"\xAA\xBB";
-    let c = config(pec);
+    let c = marks::settings(pec);
     all_of(
         b"write_with_retries",
         interface::write_with_retries(c, two, &work),
@@ -118,7 +97,7 @@ fn plain(pec: bool) {
 fn unchecked_and_keys(pec: bool) {
     let work = [0u8; 39];
     let two = b"\xAA\xBB";
-    let c = config(pec);
+    let c = marks::settings(pec);
     let keys = [0xDDu8; 28];
     all_of(
         b"write_register_unchecked",
@@ -140,7 +119,7 @@ fn unchecked_and_keys(pec: bool) {
 // The override, and access keys.
 fn keys_and_access(pec: bool) {
     let work = [0u8; 39];
-    let c = config(pec);
+    let c = marks::settings(pec);
     let keys = [0xDDu8; 28];
     all_of(
         b"write_charging_voltage_override",
@@ -159,7 +138,7 @@ fn keys_and_access(pec: bool) {
 fn infos_and_flash(pec: bool) {
     let work = [0u8; 39];
     let two = b"\xAA\xBB";
-    let c = config(pec);
+    let c = marks::settings(pec);
     let long = [0xCCu8; 33];
     all_of(
         b"write_mfg_info_c",
@@ -174,7 +153,7 @@ fn infos_and_flash(pec: bool) {
     );
 }
 
-// The calls with this PEC setting.
+// The calls with this `pec_write`.
 fn with(pec: bool) {
     plain(pec);
     unchecked_and_keys(pec);
@@ -182,7 +161,7 @@ fn with(pec: bool) {
     infos_and_flash(pec);
 }
 
-// Everything.
+// Everything, without PEC and with it.
 pub(crate) fn all() {
     with(false);
     with(true);

@@ -1,122 +1,272 @@
-// The reading calls, on each side of a limit.
+// The reading calls, each with a buffer of n bytes, a work buffer of so many and this PEC setting.
 use crate::say;
-use crate::say::settings;
+use engine::bus::Outcome;
+use engine::bus::Transfer;
+use protocol::bytes;
 use reading::call::ReadCall;
+use reading::call::ReadReported;
 
-// A call as it stands at its start.
-fn row(name: &[u8], call: ReadCall) {
+// Shows the transfer that is due, and says whether it is a frame.
+fn show(call: ReadCall, buffer: &[u8], work: &mut [u8]) -> bool {
+    match call.next(buffer, work) {
+        Transfer::Write(n) => {
+            say::frame(call.to_send(work, n));
+            true
+        }
+        Transfer::Read(command, count) => {
+            say::read(command, count);
+            false
+        }
+        Transfer::Refused(_) => {
+            say::words(b" !");
+            false
+        }
+        Transfer::Ended(_) => false,
+    }
+}
+
+// The call after its frame was acknowledged.
+fn heard(call: ReadCall, buffer: &mut [u8], work: &[u8]) -> ReadCall {
+    match call.report(Outcome::Acknowledged, b"", buffer, work) {
+        ReadReported::Refused(_, same) => same,
+        ReadReported::Taken(next) => next,
+    }
+}
+
+// The first transfer, and the one after an acknowledged frame.
+fn transfers(call: ReadCall, buffer: &mut [u8]) {
+    let mut work = [0u8; 39];
+    if show(call, buffer, &mut work) {
+        show(heard(call, buffer, &work), buffer, &mut work);
+    }
+}
+
+// How a call stands, and its first transfers.
+fn row(call: ReadCall, lent: &[u8]) {
+    let mut room = [0u8; 40];
+    let n = lent.len();
     let phase = call.phase;
-    say::row(name, phase);
+    say::stand(phase);
+    if n <= 40 {
+        transfers(call, &mut room[..n]);
+    }
+    say::words(b"\n");
 }
 
-// Registers and buffers at their limits.
-fn register_starts() {
-    let work = [0u8; 39];
-    let s = [0u8; 40];
-    let c = settings(true);
+// A register read.
+fn read_register(n: usize, work: usize, pec: bool) {
+    let room = [0u8; 39];
+    let source = [0xDDu8; 40];
+    let c = say::settings(pec);
+    let lent = bytes::front(&source, n);
+    say::title(b"read_register ", n, work, pec);
     row(
-        b"read_register 32",
-        interface::read_register(c, 1, &s[..32], &work),
-    );
-    row(
-        b"read_register 33",
-        interface::read_register(c, 1, &s[..33], &work),
-    );
-    row(
-        b"read_register 33, work 38",
-        interface::read_register(c, 1, &s[..33], &work[..38]),
-    );
-    row(b"read_buffer 40", interface::read_buffer(c, 1, &s, &work));
-}
-
-// Commands with too much, or with input.
-fn command_starts() {
-    let work = [0u8; 39];
-    let s = [0u8; 40];
-    let t = [0u8; 33];
-    let c = settings(true);
-    row(
-        b"dispatch_command input 33",
-        interface::dispatch_command(c, 1, &t, &s[..1], &work),
-    );
-    row(
-        b"dispatch_command output 33",
-        interface::dispatch_command(c, 1, b"", &s[..33], &work),
-    );
-    row(
-        b"dispatch_command input 1",
-        interface::dispatch_command(c, 1, b"!", &s[..1], &work),
-    );
-    row(
-        b"dispatch_command input 1, output 33",
-        interface::dispatch_command(c, 1, b"!", &s[..33], &work),
+        interface::read_register(c, 1, lent, bytes::front(&room, work)),
+        lent,
     );
 }
 
-// Keys of other lengths, and info C.
-fn key_starts() {
-    let work = [0u8; 39];
-    let s = [0u8; 40];
-    let c = settings(true);
+// A buffer read.
+fn read_buffer(n: usize, work: usize, pec: bool) {
+    let room = [0u8; 39];
+    let source = [0xDDu8; 40];
+    let c = say::settings(pec);
+    let lent = bytes::front(&source, n);
+    say::title(b"read_buffer ", n, work, pec);
     row(
-        b"read_security_keys 29",
-        r5::read_security_keys(c, &s[..29], &work),
-    );
-    row(
-        b"read_authentication_key 15",
-        r5::read_authentication_key(c, &s[..15], &work),
-    );
-    row(
-        b"read_charging_voltage_override 11",
-        r5::read_charging_voltage_override(c, &s[..11], &work),
-    );
-    row(
-        b"read_mfg_info_c 32",
-        r5::read_mfg_info_c(c, &s[..32], &work),
+        interface::read_buffer(c, 1, lent, bytes::front(&room, work)),
+        lent,
     );
 }
 
-// Manufacturer info, and the window.
-fn info_starts() {
-    let work = [0u8; 39];
-    let s = [0u8; 40];
-    let c = settings(true);
+// The unchecked register read.
+fn read_register_unchecked(n: usize, work: usize, pec: bool) {
+    let room = [0u8; 39];
+    let source = [0xDDu8; 40];
+    let c = say::settings(pec);
+    let lent = bytes::front(&source, n);
+    say::title(b"read_register_unchecked ", n, work, pec);
     row(
-        b"read_mfg_info_c 33",
-        r5::read_mfg_info_c(c, &s[..33], &work),
+        r5::read_register_unchecked(c, 1, lent, bytes::front(&room, work)),
+        lent,
     );
-    row(b"read_mfg_info 33", r5::read_mfg_info(c, &s[..33], &work));
-    row(b"read_mfg_info 34", r5::read_mfg_info(c, &s[..34], &work));
+}
+
+// The security keys.
+fn read_security_keys(n: usize, work: usize, pec: bool) {
+    let room = [0u8; 39];
+    let source = [0xDDu8; 40];
+    let c = say::settings(pec);
+    let lent = bytes::front(&source, n);
+    say::title(b"read_security_keys ", n, work, pec);
     row(
-        b"read_dataflash 3FFF 1",
-        r5::read_dataflash(c, 0x3FFF, &s[..1], &work),
+        r5::read_security_keys(c, lent, bytes::front(&room, work)),
+        lent,
     );
+}
+
+// The authentication key.
+fn read_authentication_key(n: usize, work: usize, pec: bool) {
+    let room = [0u8; 39];
+    let source = [0xDDu8; 40];
+    let c = say::settings(pec);
+    let lent = bytes::front(&source, n);
+    say::title(b"read_authentication_key ", n, work, pec);
+    row(
+        r5::read_authentication_key(c, lent, bytes::front(&room, work)),
+        lent,
+    );
+}
+
+// The charging voltage override.
+fn read_charging_voltage_override(n: usize, work: usize, pec: bool) {
+    let room = [0u8; 39];
+    let source = [0xDDu8; 40];
+    let c = say::settings(pec);
+    let lent = bytes::front(&source, n);
+    say::title(b"read_charging_voltage_override ", n, work, pec);
+    row(
+        r5::read_charging_voltage_override(c, lent, bytes::front(&room, work)),
+        lent,
+    );
+}
+
+// Manufacturer info C.
+fn read_mfg_info_c(n: usize, work: usize, pec: bool) {
+    let room = [0u8; 39];
+    let source = [0xDDu8; 40];
+    let c = say::settings(pec);
+    let lent = bytes::front(&source, n);
+    say::title(b"read_mfg_info_c ", n, work, pec);
+    row(
+        r5::read_mfg_info_c(c, lent, bytes::front(&room, work)),
+        lent,
+    );
+}
+
+// Manufacturer info.
+fn read_mfg_info(n: usize, work: usize, pec: bool) {
+    let room = [0u8; 39];
+    let source = [0xDDu8; 40];
+    let c = say::settings(pec);
+    let lent = bytes::front(&source, n);
+    say::title(b"read_mfg_info ", n, work, pec);
+    row(r5::read_mfg_info(c, lent, bytes::front(&room, work)), lent);
+}
+
+// Data flash from an address on.
+fn read_dataflash(address: u16, n: usize, work: usize, pec: bool) {
+    let room = [0u8; 39];
+    let source = [0xDDu8; 40];
+    let c = say::settings(pec);
+    let lent = bytes::front(&source, n);
+    say::address(b"read_dataflash ", address);
+    say::title(b" ", n, work, pec);
+    row(
+        r5::read_dataflash(c, address, lent, bytes::front(&room, work)),
+        lent,
+    );
+}
+
+// Command 443500 with so many bytes of input, and n of output.
+fn dispatch_command(input: usize, n: usize, work: usize, pec: bool) {
+    let room = [0u8; 39];
+    let source = [0xDDu8; 40];
+    let c = say::settings(pec);
+    let lent = bytes::front(&source, n);
+    say::number(b"dispatch_command input ", input);
+    say::title(b", output ", n, work, pec);
+    row(
+        interface::dispatch_command(
+            c,
+            0x443500,
+            bytes::front(&source, input),
+            lent,
+            bytes::front(&room, work),
+        ),
+        lent,
+    );
+}
+
+// Registers, and buffers, which have no limit.
+fn register_rows() {
+    read_register(32, 39, true);
+    read_register(33, 39, true);
+    read_register(33, 38, true);
+    read_register(0, 39, false);
+    read_register(0, 39, true);
+    read_buffer(40, 39, true);
+    read_buffer(40, 38, true);
+    read_buffer(0, 39, false);
+    read_buffer(0, 39, true);
+    read_register_unchecked(40, 39, true);
+    read_register_unchecked(40, 38, true);
+    read_register_unchecked(0, 39, false);
+    read_register_unchecked(0, 39, true);
+}
+
+// Commands: with input they are none.
+fn command_rows() {
+    dispatch_command(0, 32, 39, true);
+    dispatch_command(0, 33, 39, true);
+    dispatch_command(32, 1, 39, true);
+    dispatch_command(33, 1, 39, true);
+    dispatch_command(1, 1, 39, true);
+    dispatch_command(1, 33, 39, true);
+    dispatch_command(1, 1, 38, true);
+    dispatch_command(33, 33, 38, true);
+    dispatch_command(0, 0, 39, false);
+    dispatch_command(0, 0, 39, true);
+}
+
+// Keys and the override: their exact length alone.
+fn key_rows() {
+    read_security_keys(27, 39, true);
+    read_security_keys(28, 39, true);
+    read_security_keys(29, 39, true);
+    read_security_keys(28, 38, true);
+    read_authentication_key(15, 39, true);
+    read_authentication_key(16, 39, true);
+    read_authentication_key(17, 39, true);
+    read_authentication_key(16, 38, true);
+    read_charging_voltage_override(9, 39, true);
+    read_charging_voltage_override(10, 39, true);
+    read_charging_voltage_override(11, 39, true);
+    read_charging_voltage_override(10, 38, true);
+}
+
+// Manufacturer info.
+fn info_rows() {
+    read_mfg_info_c(32, 39, true);
+    read_mfg_info_c(33, 39, true);
+    read_mfg_info_c(33, 38, true);
+    read_mfg_info_c(0, 39, false);
+    read_mfg_info_c(0, 39, true);
+    read_mfg_info(33, 39, true);
+    read_mfg_info(34, 39, true);
+    read_mfg_info(34, 38, true);
+    read_mfg_info(0, 39, false);
+    read_mfg_info(0, 39, true);
 }
 
 // The window.
-fn flash_starts() {
-    let work = [0u8; 39];
-    let s = [0u8; 40];
-    let c = settings(true);
-    row(
-        b"read_dataflash 5FFF 1",
-        r5::read_dataflash(c, 0x5FFF, &s[..1], &work),
-    );
-    row(
-        b"read_dataflash 5FFF 2",
-        r5::read_dataflash(c, 0x5FFF, &s[..2], &work),
-    );
-    row(
-        b"read_dataflash FFFF 0",
-        r5::read_dataflash(c, 0xFFFF, b"", &work),
-    );
+fn flash_rows() {
+    read_dataflash(0x3FFF, 1, 39, true);
+    read_dataflash(0x3FFF, 1, 38, true);
+    read_dataflash(0x4000, 1, 39, true);
+    read_dataflash(0x5FFF, 1, 39, false);
+    read_dataflash(0x5FFF, 1, 39, true);
+    read_dataflash(0x5FFF, 2, 39, true);
+    read_dataflash(0xFFFF, 0, 39, true);
+    read_dataflash(0xFFFF, 0, 38, true);
+    read_dataflash(0xFFFF, 2, 39, true);
 }
 
 // Everything.
 pub(crate) fn all() {
-    register_starts();
-    command_starts();
-    key_starts();
-    info_starts();
-    flash_starts();
+    register_rows();
+    command_rows();
+    key_rows();
+    info_rows();
+    flash_rows();
 }

@@ -8,17 +8,61 @@ pub(crate) fn words(text: &[u8]) {
     io::write_all(STDOUT_FILENO, text);
 }
 
-// A row: what was started, and how it stands.
-pub(crate) fn row(name: &[u8], phase: Phase) {
-    words(name);
-    match phase {
-        Phase::Waiting => words(b" : waits\n"),
-        Phase::Ended(answer) => {
-            words(b" : ");
-            io::print_decimal(STDOUT_FILENO, answer.number() as u64);
-            words(b"\n");
-        }
+// A number after a word.
+pub(crate) fn number(word: &[u8], n: usize) {
+    words(word);
+    io::print_decimal(STDOUT_FILENO, n as u64);
+}
+
+// An address after a word.
+pub(crate) fn address(word: &[u8], address: u16) {
+    words(word);
+    io::print_hex(STDOUT_FILENO, address as u64, 4);
+}
+
+// What is started: the call, the length of its payload or buffer, a work buffer that is not of 39 bytes, and whether there is no PEC.
+pub(crate) fn title(name: &[u8], length: usize, work: usize, pec: bool) {
+    number(name, length);
+    if work != 39 {
+        number(b", work ", work);
     }
+    if !pec {
+        words(b" without PEC");
+    }
+}
+
+// How a call stands at its start.
+pub(crate) fn stand(phase: Phase) {
+    match phase {
+        Phase::Waiting => words(b" : waits"),
+        Phase::Ended(answer) => number(b" : ", answer.number() as usize),
+    }
+}
+
+// A byte as two digits.
+fn byte(b: u8) {
+    io::print_hex(STDOUT_FILENO, b as u64, 2);
+}
+
+// Bytes as digits.
+fn bytes(s: &[u8]) {
+    for i in 0..s.len() {
+        byte(s[i]);
+    }
+}
+
+// A frame.
+pub(crate) fn frame(sent: &[u8]) {
+    words(b" [");
+    bytes(sent);
+    words(b"]");
+}
+
+// A read: its command and the number of bytes asked.
+pub(crate) fn read(command: u8, count: usize) {
+    words(b" ");
+    byte(command);
+    number(b"?", count);
 }
 
 // No retries, with and without PEC both ways.

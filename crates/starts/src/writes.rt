@@ -1,132 +1,272 @@
-// The writing calls, on each side of a limit.
+// The writing calls, each with a payload of n bytes, a work buffer of so many and this PEC setting.
 use crate::say;
-use crate::say::settings;
+use engine::bus::Outcome;
+use engine::bus::Transfer;
+use protocol::bytes;
 use writing::call::WriteCall;
+use writing::call::WriteReported;
 
-// A call as it stands at its start.
-fn row(name: &[u8], call: WriteCall) {
-    let phase = call.phase;
-    say::row(name, phase);
+// Shows the frame that is due.
+fn show(call: WriteCall, payload: &[u8], work: &mut [u8]) {
+    match call.next(payload, work) {
+        Transfer::Write(n) => say::frame(call.to_send(payload, work, n)),
+        Transfer::Read(command, count) => say::read(command, count),
+        Transfer::Refused(_) => say::words(b" !"),
+        Transfer::Ended(_) => say::words(b""),
+    }
 }
 
-// Plain and register writes at their limits.
-fn plain_starts() {
-    let work = [0u8; 39];
-    let s = [0u8; 40];
-    let c = settings(true);
-    let bare = settings(false);
-    row(
-        b"write_with_retries 38",
-        interface::write_with_retries(c, &s[..38], &work),
-    );
-    row(
-        b"write_with_retries 39",
-        interface::write_with_retries(c, &s[..39], &work),
-    );
-    row(
-        b"write_with_retries 39 without PEC",
-        interface::write_with_retries(bare, &s[..39], &work),
-    );
-    row(
-        b"write_register 32",
-        interface::write_register(c, 1, &s[..32], &work),
-    );
+// The call after its frame was acknowledged; one that has ended stays as it is.
+fn heard(call: WriteCall, payload: &[u8], work: &[u8]) -> WriteCall {
+    match call.report(Outcome::Acknowledged, b"", payload, work) {
+        WriteReported::Refused(_, same) => same,
+        WriteReported::Taken(next) => next,
+    }
 }
 
-// A short work buffer, buffer writes and the unchecked write.
-fn buffer_starts() {
-    let work = [0u8; 39];
-    let s = [0u8; 40];
-    let c = settings(true);
+// How a call stands, and its frames, of which it has three at most.
+fn row(first: WriteCall, payload: &[u8]) {
+    let mut work = [0u8; 39];
+    let phase = first.phase;
+    say::stand(phase);
+    show(first, payload, &mut work);
+    let second = heard(first, payload, &work);
+    show(second, payload, &mut work);
+    let third = heard(second, payload, &work);
+    show(third, payload, &mut work);
+    say::words(b"\n");
+}
+
+// A plain write.
+fn write_with_retries(n: usize, work: usize, pec: bool) {
+    let room = [0u8; 39];
+    let source = [0xDDu8; 40];
+    let c = say::settings(pec);
+    let lent = bytes::front(&source, n);
+    say::title(b"write_with_retries ", n, work, pec);
     row(
-        b"write_register 33",
-        interface::write_register(c, 1, &s[..33], &work),
-    );
-    row(
-        b"write_register 33, work 38",
-        interface::write_register(c, 1, &s[..33], &work[..38]),
-    );
-    row(
-        b"write_buffer 33",
-        interface::write_buffer(c, 1, &s[..33], &work),
-    );
-    row(
-        b"write_buffer 34",
-        interface::write_buffer(c, 1, &s[..34], &work),
+        interface::write_with_retries(c, lent, bytes::front(&room, work)),
+        lent,
     );
 }
 
-// Keys of other lengths.
-fn key_starts() {
-    let work = [0u8; 39];
-    let s = [0u8; 40];
-    let c = settings(true);
+// A register write.
+fn write_register(n: usize, work: usize, pec: bool) {
+    let room = [0u8; 39];
+    let source = [0xDDu8; 40];
+    let c = say::settings(pec);
+    let lent = bytes::front(&source, n);
+    say::title(b"write_register ", n, work, pec);
     row(
-        b"write_register_unchecked 33",
-        r5::write_register_unchecked(c, 1, &s[..33], &work),
-    );
-    row(
-        b"write_security_keys 27",
-        r5::write_security_keys(c, &s[..27], &work),
-    );
-    row(
-        b"write_authentication_key 17",
-        r5::write_authentication_key(c, &s[..17], &work),
-    );
-    row(
-        b"write_charging_voltage_override 9",
-        r5::write_charging_voltage_override(c, &s[..9], &work),
+        interface::write_register(c, 1, lent, bytes::front(&room, work)),
+        lent,
     );
 }
 
-// Manufacturer info at its limits, and the window.
-fn info_starts() {
-    let work = [0u8; 39];
-    let s = [0u8; 40];
-    let c = settings(true);
+// A buffer write.
+fn write_buffer(n: usize, work: usize, pec: bool) {
+    let room = [0u8; 39];
+    let source = [0xDDu8; 40];
+    let c = say::settings(pec);
+    let lent = bytes::front(&source, n);
+    say::title(b"write_buffer ", n, work, pec);
     row(
-        b"send_access_key, work 38",
-        r5::send_access_key(c, 1, 2, &work[..38]),
+        interface::write_buffer(c, 1, lent, bytes::front(&room, work)),
+        lent,
     );
+}
+
+// The unchecked register write.
+fn write_register_unchecked(n: usize, work: usize, pec: bool) {
+    let room = [0u8; 39];
+    let source = [0xDDu8; 40];
+    let c = say::settings(pec);
+    let lent = bytes::front(&source, n);
+    say::title(b"write_register_unchecked ", n, work, pec);
     row(
-        b"write_mfg_info_c 33",
-        r5::write_mfg_info_c(c, 1, 2, &s[..33], &work),
+        r5::write_register_unchecked(c, 1, lent, bytes::front(&room, work)),
+        lent,
     );
-    row(b"write_mfg_info 33", r5::write_mfg_info(c, &s[..33], &work));
+}
+
+// The security keys.
+fn write_security_keys(n: usize, work: usize, pec: bool) {
+    let room = [0u8; 39];
+    let source = [0xDDu8; 40];
+    let c = say::settings(pec);
+    let lent = bytes::front(&source, n);
+    say::title(b"write_security_keys ", n, work, pec);
     row(
-        b"write_dataflash 3FFF 1",
-        r5::write_dataflash(c, 0x3FFF, &s[..1], &work),
+        r5::write_security_keys(c, lent, bytes::front(&room, work)),
+        lent,
     );
+}
+
+// The authentication key.
+fn write_authentication_key(n: usize, work: usize, pec: bool) {
+    let room = [0u8; 39];
+    let source = [0xDDu8; 40];
+    let c = say::settings(pec);
+    let lent = bytes::front(&source, n);
+    say::title(b"write_authentication_key ", n, work, pec);
+    row(
+        r5::write_authentication_key(c, lent, bytes::front(&room, work)),
+        lent,
+    );
+}
+
+// The charging voltage override.
+fn write_charging_voltage_override(n: usize, work: usize, pec: bool) {
+    let room = [0u8; 39];
+    let source = [0xDDu8; 40];
+    let c = say::settings(pec);
+    let lent = bytes::front(&source, n);
+    say::title(b"write_charging_voltage_override ", n, work, pec);
+    row(
+        r5::write_charging_voltage_override(c, lent, bytes::front(&room, work)),
+        lent,
+    );
+}
+
+// Manufacturer info C, after both halves of the access key.
+fn write_mfg_info_c(n: usize, work: usize, pec: bool) {
+    let room = [0u8; 39];
+    let source = [0xDDu8; 40];
+    let c = say::settings(pec);
+    let lent = bytes::front(&source, n);
+    say::title(b"write_mfg_info_c ", n, work, pec);
+    row(
+        r5::write_mfg_info_c(c, 1, 2, lent, bytes::front(&room, work)),
+        lent,
+    );
+}
+
+// Manufacturer info.
+fn write_mfg_info(n: usize, work: usize, pec: bool) {
+    let room = [0u8; 39];
+    let source = [0xDDu8; 40];
+    let c = say::settings(pec);
+    let lent = bytes::front(&source, n);
+    say::title(b"write_mfg_info ", n, work, pec);
+    row(r5::write_mfg_info(c, lent, bytes::front(&room, work)), lent);
+}
+
+// Data flash from an address on.
+fn write_dataflash(address: u16, n: usize, work: usize, pec: bool) {
+    let room = [0u8; 39];
+    let source = [0xDDu8; 40];
+    let c = say::settings(pec);
+    let lent = bytes::front(&source, n);
+    say::address(b"write_dataflash ", address);
+    say::title(b" ", n, work, pec);
+    row(
+        r5::write_dataflash(c, address, lent, bytes::front(&room, work)),
+        lent,
+    );
+}
+
+// The access key, which has no payload.
+fn send_access_key(work: usize, pec: bool) {
+    let room = [0u8; 39];
+    let c = say::settings(pec);
+    say::title(b"send_access_key ", 0, work, pec);
+    row(r5::send_access_key(c, 1, 2, bytes::front(&room, work)), b"");
+}
+
+// The access key under its other name.
+fn unseal_fg(work: usize, pec: bool) {
+    let room = [0u8; 39];
+    let c = say::settings(pec);
+    say::title(b"unseal_fg ", 0, work, pec);
+    row(r5::unseal_fg(c, 1, 2, bytes::front(&room, work)), b"");
+}
+
+// Plain writes: without PEC they have no limit.
+fn plain_rows() {
+    write_with_retries(38, 39, true);
+    write_with_retries(39, 39, true);
+    write_with_retries(39, 39, false);
+    write_with_retries(39, 38, true);
+    write_with_retries(0, 39, false);
+    write_with_retries(0, 39, true);
+}
+
+// Registers and buffers.
+fn register_rows() {
+    write_register(32, 39, true);
+    write_register(33, 39, true);
+    write_register(33, 38, true);
+    write_register(0, 39, false);
+    write_register(0, 39, true);
+    write_buffer(33, 39, true);
+    write_buffer(34, 39, true);
+    write_buffer(34, 38, true);
+    write_buffer(0, 39, false);
+    write_buffer(0, 39, true);
+    write_register_unchecked(32, 39, true);
+    write_register_unchecked(33, 39, true);
+    write_register_unchecked(33, 38, true);
+    write_register_unchecked(0, 39, false);
+    write_register_unchecked(0, 39, true);
+}
+
+// Keys and the override: their exact length alone.
+fn key_rows() {
+    write_security_keys(27, 39, true);
+    write_security_keys(28, 39, true);
+    write_security_keys(29, 39, true);
+    write_security_keys(28, 38, true);
+    write_authentication_key(15, 39, true);
+    write_authentication_key(16, 39, true);
+    write_authentication_key(17, 39, true);
+    write_authentication_key(16, 38, true);
+    write_charging_voltage_override(9, 39, true);
+    write_charging_voltage_override(10, 39, true);
+    write_charging_voltage_override(11, 39, true);
+    write_charging_voltage_override(10, 38, true);
+}
+
+// Access keys.
+fn access_rows() {
+    send_access_key(39, true);
+    send_access_key(38, true);
+    unseal_fg(39, true);
+    unseal_fg(38, true);
+}
+
+// Manufacturer info.
+fn info_rows() {
+    write_mfg_info_c(32, 39, true);
+    write_mfg_info_c(33, 39, true);
+    write_mfg_info_c(33, 38, true);
+    write_mfg_info_c(0, 39, false);
+    write_mfg_info_c(0, 39, true);
+    write_mfg_info(32, 39, true);
+    write_mfg_info(33, 39, true);
+    write_mfg_info(33, 38, true);
+    write_mfg_info(0, 39, false);
+    write_mfg_info(0, 39, true);
 }
 
 // The window.
-fn flash_starts() {
-    let work = [0u8; 39];
-    let s = [0u8; 40];
-    let c = settings(true);
-    row(
-        b"write_dataflash 5FFF 1",
-        r5::write_dataflash(c, 0x5FFF, &s[..1], &work),
-    );
-    row(
-        b"write_dataflash 5FFF 2",
-        r5::write_dataflash(c, 0x5FFF, &s[..2], &work),
-    );
-    row(
-        b"write_dataflash FFFF 0",
-        r5::write_dataflash(c, 0xFFFF, &s[..0], &work),
-    );
-    row(
-        b"write_dataflash FFFF 2",
-        r5::write_dataflash(c, 0xFFFF, &s[..2], &work),
-    );
+fn flash_rows() {
+    write_dataflash(0x3FFF, 1, 39, true);
+    write_dataflash(0x3FFF, 1, 38, true);
+    write_dataflash(0x4000, 1, 39, true);
+    write_dataflash(0x5FFF, 1, 39, false);
+    write_dataflash(0x5FFF, 1, 39, true);
+    write_dataflash(0x5FFF, 2, 39, true);
+    write_dataflash(0xFFFF, 0, 39, true);
+    write_dataflash(0xFFFF, 0, 38, true);
+    write_dataflash(0xFFFF, 2, 39, true);
 }
 
 // Everything.
 pub(crate) fn all() {
-    plain_starts();
-    buffer_starts();
-    key_starts();
-    info_starts();
-    flash_starts();
+    plain_rows();
+    register_rows();
+    key_rows();
+    access_rows();
+    info_rows();
+    flash_rows();
 }

@@ -1,6 +1,5 @@
 -- `drive::reads::all_of` meets its contract: every part is within what it is of.
 -- Assumes nothing.
-use Prim.Native.Nat.{_-_}
 use mathlib.Core.Path.{sym}
 use borrow.Author.Needs.{needs}
 use lib.Seq.{length-take-le}

@@ -9,10 +9,10 @@ use Rattle.drive.proofs.reads.run.Statement.{statement}
 use Rattle.drive.proofs.reads.run.Tie as tie
 
 abbrev Inv-loop : tie.InvT-loop
-Inv-loop command buffer₀ work₀ script call₀ i₀ t9 i-end buffer work call i = (i ≤ i-end) × ((i-end ≡ length script) × ((length work ≡ length work₀) × (length buffer ≡ length buffer₀)))
+Inv-loop command buffer₀ script call₀ i₀ t8 i-end buffer call i = (i ≤ i-end) × ((i-end ≡ length script) × (length buffer ≡ length buffer₀))
 
 abbrev μ-loop : tie.MeasureT-loop
-μ-loop command buffer₀ work₀ script call₀ i₀ t9 i-end buffer work call i = i-end - i
+μ-loop command buffer₀ script call₀ i₀ t8 i-end buffer call i = i-end - i
 
 clear-requires : tie.Need-clear-requires Inv-loop μ-loop
 clear-requires c κs = search needs
@@ -30,7 +30,7 @@ step-requires : tie.Need-step-requires Inv-loop μ-loop
 step-requires c κs = search needs
 
 add-i : tie.Need-add-i Inv-loop μ-loop
-add-i c = omega (arith, c .before .before .before .before .before .before .before .before .loop-test .taken, c .before .before .before .before .before .before .before .before .before .loop .inv .1 .0, c .before .before .before .before .before .before .before .before .before .before .before .before .before .before .before .before .before .before .good .1 .1 .1 .1 .0)
+add-i c = omega (arith, c .before .before .before .before .before .loop-test .taken, c .before .before .before .before .before .before .loop .inv .1 .0, c .before .before .before .before .before .before .before .before .before .before .before .before .before .before .good .1 .1 .1 .0)
 
 loop-less : tie.Need-loop-less Inv-loop μ-loop
 loop-less c = search needs
@@ -52,9 +52,6 @@ words-requires-2 c κs = search needs
 
 same-length : tie.Need-same-length Inv-loop μ-loop
 same-length c = search needs
-
-same-length-2 : tie.Need-same-length-2 Inv-loop μ-loop
-same-length-2 c = search needs
 
 returns : tie.Need-returns Inv-loop μ-loop
 returns c = search needs
@@ -78,5 +75,4 @@ run-spec =
     slice-aggregate-words
     words-requires-2
     same-length
-    same-length-2
     returns)

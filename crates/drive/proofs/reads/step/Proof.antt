@@ -1,66 +1,61 @@
 -- `drive::reads::step` meets its contract: every part is within what it is of.
 -- Assumes nothing.
+use mathlib.Core.Path.{sym}
+use lib.Seq.{length-take-le}
+use native.Mathlib.Omega.{arith}
 use borrow.Author.Needs.{needs}
 use Rattle.drive.proofs.reads.step.Statement.{statement}
 use Rattle.drive.proofs.reads.step.Tie as tie
 
-show-requires : tie.Need-show-requires
-show-requires c κs = search needs
+work-requires : tie.Need-work-requires
+work-requires c κs = search needs
 
-slice-aggregate-fill : tie.Need-slice-aggregate-fill
-slice-aggregate-fill c = search needs
+least-requires : tie.Need-least-requires
+least-requires c κs = search needs
 
-covered-requires : tie.Need-covered-requires
-covered-requires c κs = search needs
+slice-aggregate-turn : tie.Need-slice-aggregate-turn
+slice-aggregate-turn c = search needs
 
-fill-requires : tie.Need-fill-requires
-fill-requires c κs = search needs
+array-borrow-prefix-work : tie.Need-array-borrow-prefix-work
+array-borrow-prefix-work c = search needs
 
-outcome-requires : tie.Need-outcome-requires
-outcome-requires c κs = search needs
+slice-aggregate-turn-2 : tie.Need-slice-aggregate-turn-2
+slice-aggregate-turn-2 c = sym (length-take-le _ _ (omega (arith, c .before .before .before .least .ensures)))
 
-slice-aggregate-front : tie.Need-slice-aggregate-front
-slice-aggregate-front c = search needs
+turn-requires : tie.Need-turn-requires
+turn-requires c κs = search needs
 
-asked-requires : tie.Need-asked-requires
-asked-requires c κs = search needs
+array-borrow-prefix-work-2 : tie.Need-array-borrow-prefix-work-2
+array-borrow-prefix-work-2 c = search needs
 
-front-requires : tie.Need-front-requires
-front-requires c κs = search needs
+slice-aggregate-turn-3 : tie.Need-slice-aggregate-turn-3
+slice-aggregate-turn-3 c = sym (length-take-le _ _ (omega (arith, c .before .before .before .least .ensures)))
 
-lent-requires : tie.Need-lent-requires
-lent-requires c κs = search needs
+turn-requires-2 : tie.Need-turn-requires-2
+turn-requires-2 c κs = search needs
 
-report-requires : tie.Need-report-requires
-report-requires c κs = search needs
-
-taken-requires : tie.Need-taken-requires
-taken-requires c κs = search needs
+returns : tie.Need-returns
+returns c = search needs
 
 same-length : tie.Need-same-length
 same-length c = search needs
 
-same-length-2 : tie.Need-same-length-2
-same-length-2 c = c .before .before .before .before .before .before .before .before .before .before .before .before .before .before .before .before .before .show .kept .1 .1 .0
-
-returns : tie.Need-returns
-returns c = search needs
+returns-2 : tie.Need-returns-2
+returns-2 c = search needs
 
 pub step-spec : {M : Type 1} → statement M
 step-spec =
     tie.close
     (tie.spec
-    show-requires
-    slice-aggregate-fill
-    covered-requires
-    fill-requires
-    outcome-requires
-    slice-aggregate-front
-    asked-requires
-    front-requires
-    lent-requires
-    report-requires
-    taken-requires
+    work-requires
+    least-requires
+    slice-aggregate-turn
+    array-borrow-prefix-work
+    slice-aggregate-turn-2
+    turn-requires
+    array-borrow-prefix-work-2
+    slice-aggregate-turn-3
+    turn-requires-2
+    returns
     same-length
-    same-length-2
-    returns)
+    returns-2)

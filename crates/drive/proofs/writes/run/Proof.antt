@@ -3,16 +3,15 @@
 use Prim.Native.Nat.{_-_, _≤_}
 use mathlib.Core.Path.{_≡_}
 use lib.ListN.{length}
-use native.Mathlib.Omega.{arith}
 use borrow.Author.Needs.{needs}
 use Rattle.drive.proofs.writes.run.Statement.{statement}
 use Rattle.drive.proofs.writes.run.Tie as tie
 
 abbrev Inv-loop : tie.InvT-loop
-Inv-loop payload work₀ script call₀ i₀ t8 i-end work call i = (i ≤ i-end) × ((i-end ≡ length script) × (length work ≡ length work₀))
+Inv-loop payload script call₀ i₀ t7 i-end call i = (i ≤ i-end) × (i-end ≡ length script)
 
 abbrev μ-loop : tie.MeasureT-loop
-μ-loop payload work₀ script call₀ i₀ t8 i-end work call i = i-end - i
+μ-loop payload script call₀ i₀ t7 i-end call i = i-end - i
 
 words-requires : tie.Need-words-requires Inv-loop μ-loop
 words-requires c κs = search needs
@@ -27,7 +26,7 @@ step-requires : tie.Need-step-requires Inv-loop μ-loop
 step-requires c κs = search needs
 
 add-i : tie.Need-add-i Inv-loop μ-loop
-add-i c = omega (arith, c .before .before .before .before .before .loop-test .taken, c .before .before .before .before .before .before .loop .inv .1 .0, c .before .before .before .before .before .before .before .before .before .before .before .good .1 .1 .1 .0)
+add-i c = search needs
 
 loop-less : tie.Need-loop-less Inv-loop μ-loop
 loop-less c = search needs
@@ -43,9 +42,6 @@ slice-aggregate-words c = search needs
 
 words-requires-2 : tie.Need-words-requires-2 Inv-loop μ-loop
 words-requires-2 c κs = search needs
-
-same-length : tie.Need-same-length Inv-loop μ-loop
-same-length c = search needs
 
 returns : tie.Need-returns Inv-loop μ-loop
 returns c = search needs
@@ -66,5 +62,4 @@ run-spec =
     end-requires
     slice-aggregate-words
     words-requires-2
-    same-length
     returns)
