@@ -15,6 +15,10 @@ use Rattle.model_gauge.specs.declared.gauge.Event.{Event}
 use Rattle.model_gauge.specs.declared.gauge.Event.the-variants as event
 use Rattle.model_gauge.specs.declared.gauge.Gauge.{Gauge}
 
+not-taken : (frame : List ℕ) → readFrame frame ≡ form.Other → takes frame ≡ false
+unfolding takes takesForm
+not-taken frame e = rw e
+
 stores-none : (f : Form) (frame flash : List ℕ) → takesForm f ≡ false → storedForm f frame flash ≡ flash
 unfolding takesForm storedForm if_then_else_
 stores-none (form.BlockWrite address count) frame flash e = rw e
@@ -59,6 +63,7 @@ not-replied command count t = rw t
 -- what is not taken changes nothing
 pub untaken : Untaken
 untaken = record {
+  other = not-taken;
   frames = λ e frame flash gauge t. (flash-kept e frame flash t, gauge-kept e frame gauge t, not-heard frame t);
   reads = λ e command count gauge t. (read-kept e command count gauge t, not-replied command count t);
 }
