@@ -1,3 +1,4 @@
 pub mod Cases
 pub mod Courses
 pub mod Steps
+pub mod Figures
