@@ -1,8 +1,9 @@
--- Demand 3: stop anywhere, with any work buffer; go on; and the overlay and the bytes agree.
+-- Demand 3: stop anywhere, with the frames of the blocks and any work buffer; go on; and the overlay and the bytes agree.
 -- Assumes nothing.
 use Rattle.promises.specs.Demand3.{Demand3}
 use Rattle.promises.proofs.Bytes.{agree}
 use Rattle.promises.proofs.Stopped.{stopped}
+use Rattle.promises.proofs.Handed.{frames}
 use Rattle.promises.proofs.Work.{any-work}
 use Rattle.promises.proofs.Resumed.{resumed, unbroken}
 
@@ -11,6 +12,7 @@ pub demand3 : Demand3
 demand3 =
     record {
       stopped = stopped;
+      frames = frames;
       any-work = any-work;
       resumed = resumed;
       unbroken = unbroken;

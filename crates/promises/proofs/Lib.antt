@@ -7,6 +7,7 @@ pub mod Bytes
 pub mod Frames
 pub mod Machine
 pub mod Stopped
+pub mod Handed
 pub mod Resumed
 pub mod Work
 pub mod Demand3

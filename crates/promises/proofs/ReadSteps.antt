@@ -101,7 +101,7 @@ module _ (config : Config) (address size n : ℕ) where
   module _ (i : ℕ) (b : Budget) (t : Tally) (g : Gauge) (buffer work flash : List ℕ) (fits : length buffer ≡ size) (long : length work ≡ n) (room : 39 ≤ n) where
     -- ---- the head is due
 
-    shows-head : nextOf (readAt phase.Waiting true i b t) (length buffer) (length work) ≡ transfer.Write (length (headOf i))
+    pub shows-head : nextOf (readAt phase.Waiting true i b t) (length buffer) (length work) ≡ transfer.Write (length (headOf i))
     unfolding nextOf case_waiting_ended_ fitsOf shownOf shownHead flashRead headBytes laidOf writeOf if_then_else_ macBytes pairOf
     shows-head = rw (eq-eqb (length buffer) size fits, eq-eqb (length work) n long, lt-ltb 4 (length work) (omega arith))
 
@@ -121,7 +121,7 @@ module _ (config : Config) (address size n : ℕ) where
 
     -- ---- a read is due
 
-    shows-read : nextOf (readAt phase.Waiting false i b t) (length buffer) (length work) ≡ transfer.Read 0x44 (countOf (blockAsk (size - i * 32) (config .«pec_read»)))
+    pub shows-read : nextOf (readAt phase.Waiting false i b t) (length buffer) (length work) ≡ transfer.Read 0x44 (countOf (blockAsk (size - i * 32) (config .«pec_read»)))
     unfolding nextOf case_waiting_ended_ fitsOf shownOf dueAsk askOf flashRead if_then_else_
     shows-read = rw (eq-eqb (length buffer) size fits, eq-eqb (length work) n long, ask-command)
 

@@ -22,7 +22,7 @@ use Rattle.engine.specs.declared.budget.Tally.{Tally}
 use Rattle.engine.specs.declared.bus.Phase.{Phase}
 use Rattle.engine.specs.declared.bus.Phase.the-variants as phase
 use Rattle.reading.specs.Parts.{hasHead}
-use Rattle.reading.specs.Reading.{startOf}
+use Rattle.reading.specs.Reading.{startOf, nextOf}
 use Rattle.r5.specs.Plans.{flashRead}
 use Rattle.model_gauge.specs.declared.gauge.Event.{Event}
 use Rattle.model_gauge.specs.declared.gauge.Event.the-variants as event
@@ -33,11 +33,11 @@ use Rattle.courses.specs.ReadRun.{World, Left, stepOf, driveOf, endedOf, leftOf
 use Rattle.courses.specs.declared.course.End.the-variants as end
 use Rattle.promises.specs.Flash.{placeOf, store}
 use Rattle.promises.specs.Demand3.{clean, Accepted}
-use Rattle.promises.specs.Courses.{ran, RanWell}
-use Rattle.promises.specs.Reading.{flashBytes, readBegan, readRan, read-over, ReadsTrue}
+use Rattle.promises.specs.Courses.{ran, endIn, RanWell}
+use Rattle.promises.specs.Reading.{flashBytes, readBegan, readRan, read-over, readShows, ReadsTrue}
 use Rattle.promises.proofs.Window.{within}
 use Rattle.promises.proofs.Courses.{run-leaves, events-both, sound-both, heard-events, heard-sound, unbroken}
-use Rattle.promises.proofs.ReadSteps.{readWorld, headOf, head-long, step-head, step-read, ended-stays}
+use Rattle.promises.proofs.ReadSteps.{readWorld, headOf, head-long, shows-head, shows-read, step-head, step-read, ended-stays}
 use Rattle.promises.proofs.Reading.{buffer-long, head-sent, Kept, blockAfter, read-heard, block-after, Reading, reading-run, all-received}
 
 -- an accepted read waits with its head due, or is done where nothing is to be read
@@ -145,6 +145,36 @@ module _ (config : Config) (address : ℕ) (buffer work flash : List ℕ) (a : A
       by false t =
           let some : length buffer ≡ 0 → ⊥ = eqb-false _ _ t in
           reads-some course (omega arith)
+
+  -- ---- how a run ends
+
+  ended-at : (p : Phase) (h : Bool) (i : ℕ) (b : Budget) (t : Tally) (g : Gauge) (now work′ : List ℕ) → length now ≡ length buffer → length work′ ≡ length work
+      → leftOf (readWorld config address (length buffer) (length work) p h i b t g now work′ flash) .run .end
+      ≡ endIn (readShows (readWorld config address (length buffer) (length work) p h i b t g now work′ flash))
+  unfolding leftOf endedOf endOf nextOf case_waiting_ended_ fitsOf if_then_else_
+  ended-at phase.Waiting true i b t g now work′ fits long =
+      rw (shows-head config address (length buffer) (length work) i b t g now work′ flash fits long (a .room), eq-eqb (length now) (length buffer) fits, eq-eqb (length work′) (length work) long)
+  ended-at phase.Waiting false i b t g now work′ fits long =
+      rw (shows-read config address (length buffer) (length work) i b t g now work′ flash fits long (a .room), eq-eqb (length now) (length buffer) fits, eq-eqb (length work′) (length work) long)
+  ended-at (phase.Ended a) h i b t g now work′ fits long = refl
+
+  -- a run that left this ended as it shows
+  abbrev EndsSo : World → Type 0
+  EndsSo w = leftOf w .run .end ≡ endIn (readShows w)
+
+  pub run-ends : (course : List ℕ) → soundOf course ≡ true
+      → readRan config address buffer work flash gauge course .run .end ≡ endIn (readShows (read-over (readRan config address buffer work flash gauge course)))
+  unfolding leftOf endedOf
+  run-ends course sound = rw (run-is course sound) (by (eqb (length buffer) 0) refl)
+    where
+      by : (t : Bool) → eqb (length buffer) 0 ≡ t → EndsSo (driveOf (eventsOf course) (readBegan gauge config address buffer work flash))
+      by true t = rw (drive-empty (eventsOf course) (eqb-true _ _ t)) (ended-at (phase.Ended answer.Done) true 0 _ nothing gauge buffer work refl refl)
+      by false t =
+          let some : length buffer ≡ 0 → ⊥ = eqb-false _ _ t in
+          let w = within address (length buffer) (a .window) (omega arith) in
+          let r = reading (omega arith) (w .0) (w .1) (eventsOf course) in
+          rw (r .is) (ended-at (r .at) (r .head) (r .i) (r .b) (r .t) (r .gauge) (r .buffer) (r .work)
+          (buffer-long config address (length work) buffer flash (a .room) (a .whole) (w .0) (w .1) (r .i) (r .buffer) (r .front)) (r .long))
 
 -- ---- running on
 
@@ -263,6 +293,7 @@ pub reads-true : ReadsTrue
 reads-true =
     record {
       reads = λ config address buffer work flash a gauge course sound. reads config address buffer work flash a gauge course sound;
+      ends = λ config address buffer work flash a gauge course sound. run-ends config address buffer work flash a gauge course sound;
       runs-on = runs-on;
       reads-back = reads-back;
     }

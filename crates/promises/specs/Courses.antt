@@ -84,7 +84,8 @@ pub data Go (config : Config) (address : ℕ) (payload work flash : List ℕ) (g
       → Go config address payload work flash gauge (runOf payload course (left-over left))
 
 -- goes one after the other, each with settings, a work buffer, a gauge and courses of its own: from a flash to what the last go leaves, which ended well.
--- After an error the next go sends only the bytes past the count; a call that was cut and is not run on is followed by one that sends all of them again
+-- After an error the next go sends only the bytes past the count, to the address that many further on; a call that was cut and is not run on is
+-- followed by one that sends all of them again, to the same address
 pub data GoesOn : ℕ → List ℕ → List ℕ → List ℕ → Type 0 where
   ended-well : {address : ℕ} {payload flash : List ℕ} (config : Config) (work : List ℕ) (gauge : Gauge) (left : Left) → 39 ≤ length work
       → Go config address payload work flash gauge left → RanWell (left .run .end) → GoesOn address payload flash (left .flash)

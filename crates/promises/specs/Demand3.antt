@@ -3,6 +3,7 @@
 -- What is supposed of the gauge: it reads the frames that the step machine shows, and stores their bytes, as the model does (model_gauge, `stored`);
 -- it has stored whole every block that it acknowledged; and a failed transfer did nothing or its full work unheard. Nothing is supposed of the bus, the
 -- retries or the PEC: the list of events says what becomes of each transfer, and any list will do.
+-- The frames are those of demand 2 (`Equal` in crate `original`); `frames` below spells them out.
 -- Assumes nothing.
 use Prim.Native.Nat.{ℕ, suc, _+_, _*_, _≤_, _<_}
 use mathlib.Core.Path.{_≡_}
@@ -13,6 +14,7 @@ use lib.ListN.{length, drop, replicate}
 use lib.Dec.{eqb}
 use Rattle.protocol.specs.Pick.{if_then_else_}
 use Rattle.protocol.specs.Answer.{numberOf, detailOf}
+use Rattle.protocol.specs.Frame.{sealed}
 use Rattle.protocol.specs.Window.{inWindow}
 use Rattle.protocol.specs.declared.common.Config.{Config}
 use Rattle.protocol.specs.declared.error.Answer.{Answer}
@@ -20,6 +22,7 @@ use Rattle.engine.specs.declared.bus.Outcome.{Outcome}
 use Rattle.engine.specs.declared.bus.Outcome.the-variants as outcome
 use Rattle.engine.specs.declared.bus.Transfer.{Transfer}
 use Rattle.engine.specs.declared.bus.Transfer.the-variants as transfer
+use Rattle.writing.specs.Frames.{blockBytes}
 use Rattle.writing.specs.Writing.{startOf, nextOf, workAfter, partOf}
 use Rattle.writing.specs.declared.call.WriteCall.{WriteCall}
 use Rattle.r5.specs.Plans.{flashWrite}
@@ -93,6 +96,10 @@ holding work w = record { call = w .call; work = work; flash = w .flash; acked =
 abbrev pub shows : List ℕ → World → Transfer
 shows payload w = nextOf (w .call) payload (length (w .work))
 
+-- the n bytes that it hands out where it shows a write of n bytes
+abbrev pub handed : List ℕ → ℕ → World → List ℕ
+handed payload n w = partOf (w .call) payload (workAfter (w .call) payload (w .work)) n
+
 -- one transfer, as the machine shows it. Where it shows no write, nothing goes out and nothing is heard
 unfoldable pub step : List ℕ → Event → World → World
 step payload e w =
@@ -132,7 +139,7 @@ abbrev pub clean : ℕ → List ℕ → List ℕ → List ℕ
 clean address payload flash = store flash (placeOf address) payload
 
 -- what an answer says of i acknowledged blocks of k bytes, of n bytes in all: 0, all are; 6, its count is theirs, a nonzero multiple of k below n;
--- 1 or 2, no count is given and there is none
+-- 1 or 2, no count is given and no block was acknowledged
 pub data Answered (k n i : ℕ) (a : Answer) : Type 0 where
   all-acked : numberOf a ≡ 0 → n ≤ i * k → Answered k n i a
   some-acked : numberOf a ≡ 6 → detailOf a ≡ i * k → 0 < i → i * k < n → Answered k n i a
@@ -163,7 +170,8 @@ abbrev pub countOf : Answer → ℕ
 countOf a = if eqb (numberOf a) 6 then detailOf a else 0
 
 -- goes one after the other, each with settings, a work buffer and events of its own: from a flash to what the last go leaves, which ended well.
--- After an error the next go sends only the bytes past the count; after a stop in the middle it sends all of them again
+-- After an error the next go sends only the bytes past the count, to the address that many further on; after a stop in the middle it sends all of
+-- them again, to the same address
 pub data Goes : ℕ → List ℕ → List ℕ → List ℕ → Type 0 where
   ended-well : {address : ℕ} {payload flash : List ℕ} (config : Config) (work : List ℕ) (es : List Event) → 39 ≤ length work
       → EndedWell (shows payload (run payload es (began config address payload work flash)))
@@ -188,11 +196,17 @@ pub record Demand3 : Type 0 where
   -- stop anywhere and know every byte, and what the count says
   pub stopped : (config : Config) (address : ℕ) (payload work flash : List ℕ) → Accepted address payload work flash → (es : List Event)
       → Promised address payload flash (run payload es (began config address payload work flash))
+  -- wherever a write is shown, the bytes handed out are the frame of the block that is due: 44, count + 2, the block's address low byte first, its
+  -- data, the PEC where it is on
+  pub frames : (config : Config) (address : ℕ) (payload work flash : List ℕ) → Accepted address payload work flash → (es : List Event) (n : ℕ)
+      → shows payload (run payload es (began config address payload work flash)) ≡ transfer.Write n
+      → handed payload n (run payload es (began config address payload work flash))
+      ≡ sealed (config .«pec_write») (blockBytes address (run payload es (began config address payload work flash) .acked) payload)
   -- the bytes of the work buffer do not matter: the host may lend another one of that length for each transfer
   pub any-work : (config : Config) (address : ℕ) (payload work flash : List ℕ) → Accepted address payload work flash
       → (steps : List (Event × List ℕ)) → Lends (length work) steps
       → Alike (runLent payload steps (began config address payload work flash)) (run payload (events steps) (began config address payload work flash))
-  -- go on, any number of times
+  -- go on from the count, any number of times
   pub resumed : (address : ℕ) (payload flash after : List ℕ) → inWindow address (length payload) ≡ true → length flash ≡ 8192
       → Goes address payload flash after → after ≡ clean address payload flash
   -- and that is what a write leaves whose every transfer is acknowledged: it ends well

@@ -6,7 +6,7 @@ use mathlib.Core.Logic.{_⊎_}
 use mathlib.Core.List.{List, _++_}
 use lib.ListN.{length, take, drop, getD}
 
--- where an address lies in the flash: the byte of 4000 hex is first
+-- where an address lies in the flash: the byte of 4000 hex is first. The demand has a place of its own and does not borrow the model's (`offsetOf`)
 abbrev pub placeOf : ℕ → ℕ
 placeOf address = address - 0x4000
 

@@ -7,14 +7,15 @@ use mathlib.Core.List.{List, _++_}
 use lib.ListN.{length, take, drop, replicate}
 use Rattle.protocol.specs.Bytes.{blocksOf}
 use Rattle.protocol.specs.declared.common.Config.{Config}
-use Rattle.reading.specs.Reading.{startOf}
+use Rattle.engine.specs.declared.bus.Transfer.{Transfer}
+use Rattle.reading.specs.Reading.{startOf, nextOf}
 use Rattle.r5.specs.Plans.{flashRead}
 use Rattle.model_gauge.specs.declared.gauge.Gauge.{Gauge}
 use Rattle.courses.specs.Course.{soundOf}
 use Rattle.courses.specs.ReadRun.{World, Left, world, runOf}
 use Rattle.promises.specs.Flash.{placeOf}
 use Rattle.promises.specs.Demand3.{Accepted}
-use Rattle.promises.specs.Courses.{ran, RanWell}
+use Rattle.promises.specs.Courses.{ran, endIn, RanWell}
 
 -- the n bytes of the flash from an address on
 abbrev pub flashBytes : ℕ → ℕ → List ℕ → List ℕ
@@ -33,6 +34,10 @@ readRan config address buffer work flash gauge course = runOf course (readBegan 
 abbrev pub read-over : Left → World
 read-over l = world (l .run .reader) (l .buffer) (l .work) (l .flash)
 
+-- what the call shows
+abbrev pub readShows : World → Transfer
+readShows w = nextOf (w .reader .call) (length (w .buffer)) (length (w .work))
+
 pub record ReadsTrue : Type 0 where
   -- over every course, with a PEC or without, from whatever pointer: no read changes the flash, and one that ends well returns its bytes
   pub reads : (config : Config) (address : ℕ) (buffer work flash : List ℕ) → Accepted address buffer work flash
@@ -40,6 +45,10 @@ pub record ReadsTrue : Type 0 where
       → (readRan config address buffer work flash gauge course .flash ≡ flash)
       × (RanWell (readRan config address buffer work flash gauge course .run .end)
       → readRan config address buffer work flash gauge course .buffer ≡ flashBytes address (length buffer) flash)
+  -- a run is cut where the call then shows a transfer, and else has the answer that it shows
+  pub ends : (config : Config) (address : ℕ) (buffer work flash : List ℕ) → Accepted address buffer work flash
+      → (gauge : Gauge) (course : List ℕ) → soundOf course ≡ true
+      → readRan config address buffer work flash gauge course .run .end ≡ endIn (readShows (read-over (readRan config address buffer work flash gauge course)))
   -- a read that was cut and is run on over a further course is the read run over both
   pub runs-on : (config : Config) (address : ℕ) (buffer work flash : List ℕ) → Accepted address buffer work flash
       → (gauge : Gauge) (course further : List ℕ) → soundOf course ≡ true → soundOf further ≡ true
