@@ -1,6 +1,6 @@
 #!/usr/bin/env python3
 """gauge_courses.py: what the program gauge_courses must print, by document 01 alone: a three-block data-flash write against the model gauge over
-every course of up to seven transfers, gone on with where it stopped. It shares nothing with the Rattle sources."""
+every course of up to seven transfers, what stands where it stopped, and what is left once it was gone on with. It shares nothing with the Rattle sources."""
 from itertools import product
 
 ADDRESS, PAYLOAD = 0x5000, b"Three blocks of history for one pack: two of thirty-two bytes, and six"
@@ -57,16 +57,26 @@ class Write:
         return self.answer or "cut"
 
 old = bytes(i % 251 for i in range(8192))
-clean = bytearray(old)
-clean[ADDRESS - 0x4000:ADDRESS - 0x4000 + len(PAYLOAD)] = PAYLOAD
+
+def laid(n):
+    """the old flash with the first n bytes of the payload over it"""
+    part, place = PAYLOAD[:n], ADDRESS - 0x4000
+    return old[:place] + part + old[place + len(part):]
+
 for retries in range(3):
     for check in (False, True):
-        counts = {"runs": 0, "cuts": 0, "done": 0, "bus errors": 0, "timeouts": 0, "partial": 0, "others": 0, "clean": 0}
+        counts = {"runs": 0, "cuts": 0, "done": 0, "bus errors": 0, "timeouts": 0, "partial": 0, "others": 0, "next old": 0,
+                  "next new": 0, "new without a 2": 0, "clean": 0}
         for length in range(8):
             for course in product((0, 1, 2), repeat=length):
                 flash, call = bytearray(old), Write(ADDRESS, PAYLOAD, check, retries)
                 end = call.run(flash, course)
                 counts["runs"] += 1
+                if end == "cut" or end[0]:
+                    acked = 32 * call.sent if end == "cut" else end[1] if end[0] == 6 else 0
+                    counts["next old"] += flash == laid(acked)
+                    counts["next new"] += flash == laid(acked + 32)
+                    counts["new without a 2"] += flash == laid(acked + 32) and 2 not in course
                 if end == "cut":
                     counts["cuts"] += 1
                     call.run(flash, [0] * 7)
@@ -75,5 +85,5 @@ for retries in range(3):
                     past = end[1] if end[0] == 6 else 0
                     if end[0]:
                         Write(ADDRESS + past, PAYLOAD[past:], check, retries).run(flash, [0] * 7)
-                counts["clean"] += flash == clean
+                counts["clean"] += flash == laid(len(PAYLOAD))
         print(f"retries {retries} pec {int(check)}: " + " ".join(f"{k} {v}" for k, v in counts.items()))

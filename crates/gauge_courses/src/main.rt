@@ -1,7 +1,8 @@
 // Runs a data-flash write of three blocks against the model gauge over every course of up to seven transfers, with a PEC and without, and with 0 to 2
 // retries. Each run that stops is gone on with: a cut call over a heard course, an error by a second call with the bytes past its count. A line for
-// each setting has the runs, how they ended, and how many flashes then equal that of one clean write. The file `stdout` comes from
-// tests/gauge_courses.py, a program of its own that goes by document 01.
+// each setting has the runs, how they ended, at how many stops the block that is due was all old, at how many all new and at how many of these the
+// course has no 2, and how many flashes in the end had the payload over the old bytes and no other change. What a flash is compared with is laid
+// without the gauge. The file `stdout` comes from tests/gauge_courses.py, a program of its own that goes by document 01.
 use courses::course::End;
 use courses::write_run::WriteRun;
 use courses::write_run::Writer;
@@ -16,6 +17,9 @@ ghost use Prim.Native.Nat.{_≤_};
 
 const ADDRESS: u16 = 0x5000;
 
+// Where the flash has the byte of that address.
+const PLACE: usize = 0x1000;
+
 const PAYLOAD: [u8; 70] =
     *b"Three blocks of history for one pack: two of thirty-two bytes, and six";
 
@@ -26,14 +30,14 @@ fn main() {
     let mut old = [0u8; 8192];
     fill(&mut old);
     let mut clean = [0u8; 8192];
-    write_clean(&old, &mut clean);
+    lay(&old, 70, &mut clean);
     for retries in 0..3u16 {
         setting(retries, false, &old, &clean);
         setting(retries, true, &old, &clean);
     }
 }
 
-// How runs ended, and what they left once they were gone on with.
+// How runs ended, what they left, and what was left once they were gone on with.
 struct Counts {
     runs: u32,
     cuts: u32,
@@ -42,6 +46,9 @@ struct Counts {
     timeouts: u32,
     partial: u32,
     others: u32,
+    next_old: u32,
+    next_new: u32,
+    new_without: u32,
     clean: u32,
 }
 
@@ -55,6 +62,9 @@ impl Counts {
             timeouts: 0,
             partial: 0,
             others: 0,
+            next_old: 0,
+            next_new: 0,
+            new_without: 0,
             clean: 0,
         }
     }
@@ -93,6 +103,20 @@ impl Counts {
         self
     }
 
+    // One stop more, at which the block that is due is all old, all new or neither, after a course with a 2 in it or none.
+    fn stopped(mut self, old: bool, new: bool, none_after: bool) -> Counts {
+        if old {
+            self.next_old = budget::more(self.next_old);
+        }
+        if new {
+            self.next_new = budget::more(self.next_new);
+            if none_after {
+                self.new_without = budget::more(self.new_without);
+            }
+        }
+        self
+    }
+
     // One flash more that is as the clean write leaves it, or not.
     fn compared(mut self, equal: bool) -> Counts {
         if equal {
@@ -109,12 +133,18 @@ fn fill(flash: &mut [u8]) {
     }
 }
 
-// The flash that one clean write leaves.
-fn write_clean(old: &[u8], clean: &mut [u8]) {
-    let mut work = [0u8; 39];
-    bytes::copy_block(clean, old, FLASH_BYTES);
-    let config = Config::new();
-    send(config, 0, clean, &mut work);
+// The old flash with the first n bytes of the payload over it, laid there without the gauge.
+fn lay(old: &[u8], n: usize, flash: &mut [u8]) {
+    let payload = PAYLOAD;
+    bytes::copy_block(flash, old, FLASH_BYTES);
+    bytes::store_block(flash, PLACE, bytes::front(&payload, n), n);
+}
+
+// Whether a flash is that.
+fn holds(flash: &[u8], old: &[u8], n: usize) -> bool {
+    let mut laid = [0u8; 8192];
+    lay(old, n, &mut laid);
+    check::same(flash, &laid)
 }
 
 // A call with the bytes past the first `past`, over a heard course.
@@ -138,6 +168,46 @@ fn count_of(answer: Answer) -> usize {
     } else {
         0
     }
+}
+
+// The bytes of the blocks that were acknowledged before a run stopped.
+fn acknowledged(run: WriteRun) -> usize {
+    let end = run.end;
+    let writer = run.writer;
+    let call = writer.call;
+    match end {
+        End::Cut => bytes::least(call.sent as usize, 3) * 32,
+        End::Answered(answer) => count_of(answer),
+    }
+}
+
+// Whether a run stopped before its call had ended well.
+fn has_stopped(end: End) -> bool {
+    match end {
+        End::Cut => true,
+        End::Answered(answer) => answer.number() != 0,
+    }
+}
+
+// Whether no transfer of a course is lost after the gauge acts.
+fn none_after(course: &[u8]) -> bool {
+    for i in 0..course.len() {
+        if course[i] == 2 {
+            return false;
+        }
+    }
+    true
+}
+
+// What stands at a stop where the block that is due goes.
+fn at_stop(run: WriteRun, course: &[u8], flash: &[u8], old: &[u8], counts: Counts) -> Counts {
+    let end = run.end;
+    if has_stopped(end) {
+        let n = bytes::least(acknowledged(run), 70);
+        let new = holds(flash, old, n + 32);
+        return counts.stopped(holds(flash, old, n), new, none_after(course));
+    }
+    counts
 }
 
 // A run that stopped is gone on with.
@@ -170,10 +240,11 @@ fn run(config: Config, course: &[u8], old: &[u8], clean: &[u8], counts: Counts) 
         gauge: Gauge::new(),
     };
     let run = writer.run(&payload, &mut work, &mut flash, course);
+    let counted = at_stop(run, course, &flash, old, counts);
     go_on(config, run, &mut flash, &mut work);
     let equal = check::same(&flash, clean);
     let end = run.end;
-    counts.ended(end).compared(equal)
+    counted.ended(end).compared(equal)
 }
 
 // The course of a number: its digits in base 3, lowest first.
@@ -245,6 +316,9 @@ fn print(retries: u16, pec: bool, counts: Counts) {
     item(b" timeouts ", counts.timeouts);
     item(b" partial ", counts.partial);
     item(b" others ", counts.others);
+    item(b" next old ", counts.next_old);
+    item(b" next new ", counts.next_new);
+    item(b" new without a 2 ", counts.new_without);
     item(b" clean ", counts.clean);
     io::write_all(STDOUT_FILENO, b"\n");
 }

@@ -17,14 +17,14 @@ slice-aggregate-fill c = search needs
 fill-requires : tie.Need-fill-requires Inv-loop μ-loop
 fill-requires c κs = search needs
 
-slice-aggregate-write-clean : tie.Need-slice-aggregate-write-clean Inv-loop μ-loop
-slice-aggregate-write-clean c = search needs
+slice-aggregate-lay : tie.Need-slice-aggregate-lay Inv-loop μ-loop
+slice-aggregate-lay c = search needs
 
-slice-aggregate-write-clean-2 : tie.Need-slice-aggregate-write-clean-2 Inv-loop μ-loop
-slice-aggregate-write-clean-2 c = search needs
+slice-aggregate-lay-2 : tie.Need-slice-aggregate-lay-2 Inv-loop μ-loop
+slice-aggregate-lay-2 c = search needs
 
-write-clean-requires : tie.Need-write-clean-requires Inv-loop μ-loop
-write-clean-requires c κs = search needs
+lay-requires : tie.Need-lay-requires Inv-loop μ-loop
+lay-requires c κs = search needs
 
 loop-holds : tie.Need-loop-holds Inv-loop μ-loop
 loop-holds c = search needs
@@ -67,9 +67,9 @@ main-spec =
     μ-loop
     slice-aggregate-fill
     fill-requires
-    slice-aggregate-write-clean
-    slice-aggregate-write-clean-2
-    write-clean-requires
+    slice-aggregate-lay
+    slice-aggregate-lay-2
+    lay-requires
     loop-holds
     slice-aggregate-setting
     slice-aggregate-setting-2
