@@ -34,8 +34,9 @@ use Rattle.courses.specs.declared.course.End.{End}
 use Rattle.courses.specs.declared.course.End.the-variants as end
 use Rattle.courses.proofs.Cases.{at-write}
 use Rattle.promises.specs.Flash.{placeOf, blockOf}
-use Rattle.promises.specs.Demand3 as demand
-use Rattle.promises.specs.Demand3.{World, began, shows, step, run, clean, Answered, Told, EndedWell, countOf, Accepted}
+use Rattle.promises.specs.Writes as written
+use Rattle.promises.specs.Writes.{World, began, shows, step, run}
+use Rattle.promises.specs.Demand3.{clean, Answered, Told, EndedWell, countOf, Accepted}
 use Rattle.promises.specs.Courses.{eventIn, eventsIn, beside, ran, ranIn, left-over, endIn, Tells, Leaves, RanWell, Go, started, ran-on, GoesOn, ended-well, went-on, started-over, OnCourses}
 use Rattle.promises.proofs.Overlay.{overlaid-all}
 use Rattle.promises.proofs.Window.{within}
@@ -45,14 +46,14 @@ use Rattle.promises.proofs.Stopped.{ToldAt, Going, going-step, going, r
 use Rattle.promises.proofs.Resumed.{done-all, rest-goes, over-goes, unbroken as whole-write}
 
 -- what the gauge does to the flash is what the demand supposes
-same-flash : (e : ModelEvent) (frame flash : List ℕ) → flashAfter e frame flash ≡ demand.flashAfter (eventIn e) frame flash
+same-flash : (e : ModelEvent) (frame flash : List ℕ) → flashAfter e frame flash ≡ written.flashAfter (eventIn e) frame flash
 unfolding flashAfter
 same-flash model.Heard frame flash = refl
 same-flash model.LostBefore frame flash = refl
 same-flash model.LostAfter frame flash = refl
 
 -- of a frame that it takes the host hears what the demand says
-same-outcome : (e : ModelEvent) (frame : List ℕ) → takes frame ≡ true → outcomeOf e frame ≡ demand.outcomeOf (eventIn e)
+same-outcome : (e : ModelEvent) (frame : List ℕ) → takes frame ≡ true → outcomeOf e frame ≡ written.outcomeOf (eventIn e)
 unfolding outcomeOf heardOf if_then_else_
 same-outcome model.Heard frame t = rw t
 same-outcome model.LostBefore frame t = refl
@@ -287,9 +288,9 @@ unfolding soundOf if_then_else_
 heard-sound zero = refl
 heard-sound (suc n) = heard-sound n
 
-heard-in : (n : ℕ) → eventsIn (replicate n model.Heard) ≡ replicate n demand.acknowledged
+heard-in : (n : ℕ) → eventsIn (replicate n model.Heard) ≡ replicate n written.acknowledged
 heard-in zero = refl
-heard-in (suc n) = ap (λ (es : List demand.Event). demand.acknowledged ∷ es) (heard-in n)
+heard-in (suc n) = ap (λ (es : List written.Event). written.acknowledged ∷ es) (heard-in n)
 
 end-well : (t : Transfer) → EndedWell t → RanWell (endIn t)
 end-well (transfer.Write count) w = absurd w
@@ -303,7 +304,7 @@ pub unbroken : (config : Config) (address : ℕ) (payload work flash : List ℕ)
     × (ran config address payload work flash gauge (replicate n 0) .flash ≡ clean address payload flash)
 unbroken config address payload work flash a gauge n l =
     let u = whole-write config address payload work flash a n l in
-    let events : eventsIn (eventsOf (replicate n 0)) ≡ replicate n demand.acknowledged = ap eventsIn (heard-events n) ∙ heard-in n in
+    let events : eventsIn (eventsOf (replicate n 0)) ≡ replicate n written.acknowledged = ap eventsIn (heard-events n) ∙ heard-in n in
     let well : EndedWell (shows payload (ranIn config address payload work flash (replicate n 0))) = rw events (u .0) in
     let ran-well : RanWell (ran config address payload work flash gauge (replicate n 0) .run .end) =
     rw (run-ends config address payload work flash a gauge (replicate n 0) (heard-sound n)) (end-well (shows payload (ranIn config address payload work flash (replicate n 0))) well) in

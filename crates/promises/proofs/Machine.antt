@@ -29,7 +29,7 @@ use Rattle.r5.specs.Plans.{flashWrite}
 use Rattle.courses.specs.Pick.{case_write_read_none_}
 use Rattle.courses.specs.WriteRun.{takenOf, reportedOf}
 use Rattle.courses.proofs.Cases.{at-write}
-use Rattle.promises.specs.Demand3.{Cause, busError, timedOut, Event, acknowledged, failed, unheard, causeOf, outcomeOf, flashAfter, ackedAfter, World, sent, step}
+use Rattle.promises.specs.Writes.{Cause, busError, timedOut, Event, acknowledged, failed, unheard, causeOf, outcomeOf, flashAfter, ackedAfter, World, sent, step}
 
 -- a failed transfer, with the answer that it would end the call with
 abbrev pub whyOf : Cause → Answer

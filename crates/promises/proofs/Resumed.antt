@@ -30,7 +30,8 @@ use Rattle.writing.specs.Writing.{nextOf}
 use Rattle.writing.specs.declared.call.WriteCall.{WriteCall}
 use Rattle.model_gauge.specs.Gauge.{stored}
 use Rattle.promises.specs.Flash.{placeOf, Overlaid}
-use Rattle.promises.specs.Demand3.{acknowledged, World, began, shows, run, clean, Answered, all-acked, some-acked, none-acked, Told, Promised, EndedWell, countOf, Goes, ended-well, went-on, started-over, Accepted}
+use Rattle.promises.specs.Writes.{acknowledged, World, began, shows, run}
+use Rattle.promises.specs.Demand3.{clean, Answered, all-acked, some-acked, none-acked, Told, Promised, EndedWell, countOf, Goes, ended-well, went-on, started-over, Accepted}
 use Rattle.promises.proofs.Overlay.{overlaid-all, overlaid-rest}
 use Rattle.promises.proofs.Store.{store-empty}
 use Rattle.promises.proofs.Window.{within, window-rest}

@@ -28,7 +28,8 @@ use Rattle.writing.specs.Writing.{planOf, startOf, gaveUp, retryOf, endOf, fail
 use Rattle.r5.specs.Plans.{flashWrite}
 use Rattle.model_gauge.specs.Gauge.{stored}
 use Rattle.promises.specs.Flash.{placeOf, blockOf, upto, Overlaid}
-use Rattle.promises.specs.Demand3.{Cause, busError, timedOut, Event, acknowledged, failed, unheard, World, began, shows, step, run, Answered, all-acked, some-acked, none-acked, Told, Promised, Accepted}
+use Rattle.promises.specs.Writes.{Cause, busError, timedOut, Event, acknowledged, failed, unheard, World, began, shows, step, run}
+use Rattle.promises.specs.Demand3.{Answered, all-acked, some-acked, none-acked, Told, Promised, Accepted}
 use Rattle.promises.proofs.Overlay.{overlaid-long, overlaid-none, landed}
 use Rattle.promises.proofs.Store.{store-nothing}
 use Rattle.promises.proofs.Window.{within}

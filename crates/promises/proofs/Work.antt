@@ -16,7 +16,8 @@ use Rattle.engine.specs.declared.budget.Budget.{Budget}
 use Rattle.engine.specs.declared.budget.Tally.{Tally}
 use Rattle.engine.specs.declared.bus.Phase.{Phase}
 use Rattle.engine.specs.declared.bus.Phase.the-variants as phase
-use Rattle.promises.specs.Demand3.{Event, World, began, holding, step, run, runLent, events, Lends, Alike, Accepted}
+use Rattle.promises.specs.Writes.{Event, World, began, holding, step, run, runLent, events, Lends, Alike}
+use Rattle.promises.specs.Demand3.{Accepted}
 use Rattle.promises.proofs.Window.{within}
 use Rattle.promises.proofs.Machine.{worldAt, frameOf, laid-long, step-sent, step-ended}
 use Rattle.promises.proofs.Stopped.{Going, going-step, going, run-empty}

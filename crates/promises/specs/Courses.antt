@@ -19,7 +19,8 @@ use Rattle.courses.specs.WriteRun.{World as ModelWorld, Left, world, leftOf, ru
 use Rattle.courses.specs.declared.course.End.{End}
 use Rattle.courses.specs.declared.course.End.the-variants as end
 use Rattle.promises.specs.Flash.{placeOf, Overlaid, Stands}
-use Rattle.promises.specs.Demand3.{Event, acknowledged, failed, unheard, timedOut, World, began, shows, run, clean, Answered, countOf, Accepted}
+use Rattle.promises.specs.Writes.{Event, acknowledged, failed, unheard, timedOut, World, began, shows, run}
+use Rattle.promises.specs.Demand3.{clean, Answered, countOf, Accepted}
 
 -- ---- a run over a course
 

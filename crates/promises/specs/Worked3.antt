@@ -20,7 +20,7 @@ use Rattle.writing.specs.Writing.{planOf, startOf, ownBytes, dueBytes, shownOf,
 use Rattle.r5.specs.Plans.{flashWrite}
 use Rattle.courses.specs.Pick.{case_write_read_none_}
 use Rattle.courses.specs.WriteRun.{takenOf, reportedOf}
-use Rattle.promises.specs.Demand3.{busError, timedOut, Event, acknowledged, failed, unheard, began, sent, shows, step, run}
+use Rattle.promises.specs.Writes.{busError, timedOut, Event, acknowledged, failed, unheard, began, sent, shows, step, run}
 
 -- what the machine shows of 33 bytes at 4000 hex, with a PEC, over a flash of FF
 abbrev pub worked : List Event → Transfer
