@@ -25,12 +25,17 @@ fn show(call: ReadCall, buffer: &[u8], work: &mut [u8]) -> bool {
     }
 }
 
-// The call after its frame was acknowledged.
-fn heard(call: ReadCall, buffer: &mut [u8], work: &[u8]) -> ReadCall {
-    match call.report(Outcome::Acknowledged, b"", buffer, work) {
+// The call that a report hands back.
+fn taken(reported: ReadReported) -> ReadCall {
+    match reported {
         ReadReported::Refused(_, same) => same,
         ReadReported::Taken(next) => next,
     }
+}
+
+// The call after its frame was acknowledged.
+fn heard(call: ReadCall, buffer: &mut [u8], work: &[u8]) -> ReadCall {
+    taken(call.report(Outcome::Acknowledged, b"", buffer, work))
 }
 
 // The first transfer, and the one after an acknowledged frame.
@@ -59,7 +64,8 @@ fn read_register(n: usize, work: usize, pec: bool) {
     let source = [0xDDu8; 40];
     let c = say::settings(pec);
     let lent = bytes::front(&source, n);
-    say::title(b"read_register ", n, work, pec);
+    say::words(b"read_register");
+    say::title(b" ", n, work, pec);
     row(
         interface::read_register(c, 1, lent, bytes::front(&room, work)),
         lent,
@@ -72,7 +78,8 @@ fn read_buffer(n: usize, work: usize, pec: bool) {
     let source = [0xDDu8; 40];
     let c = say::settings(pec);
     let lent = bytes::front(&source, n);
-    say::title(b"read_buffer ", n, work, pec);
+    say::words(b"read_buffer");
+    say::title(b" ", n, work, pec);
     row(
         interface::read_buffer(c, 1, lent, bytes::front(&room, work)),
         lent,
@@ -85,7 +92,8 @@ fn read_register_unchecked(n: usize, work: usize, pec: bool) {
     let source = [0xDDu8; 40];
     let c = say::settings(pec);
     let lent = bytes::front(&source, n);
-    say::title(b"read_register_unchecked ", n, work, pec);
+    say::words(b"read_register_unchecked");
+    say::title(b" ", n, work, pec);
     row(
         r5::read_register_unchecked(c, 1, lent, bytes::front(&room, work)),
         lent,
@@ -98,7 +106,8 @@ fn read_security_keys(n: usize, work: usize, pec: bool) {
     let source = [0xDDu8; 40];
     let c = say::settings(pec);
     let lent = bytes::front(&source, n);
-    say::title(b"read_security_keys ", n, work, pec);
+    say::words(b"read_security_keys");
+    say::title(b" ", n, work, pec);
     row(
         r5::read_security_keys(c, lent, bytes::front(&room, work)),
         lent,
@@ -111,7 +120,8 @@ fn read_authentication_key(n: usize, work: usize, pec: bool) {
     let source = [0xDDu8; 40];
     let c = say::settings(pec);
     let lent = bytes::front(&source, n);
-    say::title(b"read_authentication_key ", n, work, pec);
+    say::words(b"read_authentication_key");
+    say::title(b" ", n, work, pec);
     row(
         r5::read_authentication_key(c, lent, bytes::front(&room, work)),
         lent,
@@ -124,7 +134,8 @@ fn read_charging_voltage_override(n: usize, work: usize, pec: bool) {
     let source = [0xDDu8; 40];
     let c = say::settings(pec);
     let lent = bytes::front(&source, n);
-    say::title(b"read_charging_voltage_override ", n, work, pec);
+    say::words(b"read_charging_voltage_override");
+    say::title(b" ", n, work, pec);
     row(
         r5::read_charging_voltage_override(c, lent, bytes::front(&room, work)),
         lent,
@@ -137,7 +148,8 @@ fn read_mfg_info_c(n: usize, work: usize, pec: bool) {
     let source = [0xDDu8; 40];
     let c = say::settings(pec);
     let lent = bytes::front(&source, n);
-    say::title(b"read_mfg_info_c ", n, work, pec);
+    say::words(b"read_mfg_info_c");
+    say::title(b" ", n, work, pec);
     row(
         r5::read_mfg_info_c(c, lent, bytes::front(&room, work)),
         lent,
@@ -150,7 +162,8 @@ fn read_mfg_info(n: usize, work: usize, pec: bool) {
     let source = [0xDDu8; 40];
     let c = say::settings(pec);
     let lent = bytes::front(&source, n);
-    say::title(b"read_mfg_info ", n, work, pec);
+    say::words(b"read_mfg_info");
+    say::title(b" ", n, work, pec);
     row(r5::read_mfg_info(c, lent, bytes::front(&room, work)), lent);
 }
 

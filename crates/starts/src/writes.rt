@@ -16,12 +16,17 @@ fn show(call: WriteCall, payload: &[u8], work: &mut [u8]) {
     }
 }
 
-// The call after its frame was acknowledged; one that has ended stays as it is.
-fn heard(call: WriteCall, payload: &[u8], work: &[u8]) -> WriteCall {
-    match call.report(Outcome::Acknowledged, b"", payload, work) {
+// The call that a report hands back.
+fn taken(reported: WriteReported) -> WriteCall {
+    match reported {
         WriteReported::Refused(_, same) => same,
         WriteReported::Taken(next) => next,
     }
+}
+
+// The call after its frame was acknowledged; one that has ended stays as it is.
+fn heard(call: WriteCall, payload: &[u8], work: &[u8]) -> WriteCall {
+    taken(call.report(Outcome::Acknowledged, b"", payload, work))
 }
 
 // How a call stands, and its frames, of which it has three at most.
@@ -43,7 +48,8 @@ fn write_with_retries(n: usize, work: usize, pec: bool) {
     let source = [0xDDu8; 40];
     let c = say::settings(pec);
     let lent = bytes::front(&source, n);
-    say::title(b"write_with_retries ", n, work, pec);
+    say::words(b"write_with_retries");
+    say::title(b" ", n, work, pec);
     row(
         interface::write_with_retries(c, lent, bytes::front(&room, work)),
         lent,
@@ -56,7 +62,8 @@ fn write_register(n: usize, work: usize, pec: bool) {
     let source = [0xDDu8; 40];
     let c = say::settings(pec);
     let lent = bytes::front(&source, n);
-    say::title(b"write_register ", n, work, pec);
+    say::words(b"write_register");
+    say::title(b" ", n, work, pec);
     row(
         interface::write_register(c, 1, lent, bytes::front(&room, work)),
         lent,
@@ -69,7 +76,8 @@ fn write_buffer(n: usize, work: usize, pec: bool) {
     let source = [0xDDu8; 40];
     let c = say::settings(pec);
     let lent = bytes::front(&source, n);
-    say::title(b"write_buffer ", n, work, pec);
+    say::words(b"write_buffer");
+    say::title(b" ", n, work, pec);
     row(
         interface::write_buffer(c, 1, lent, bytes::front(&room, work)),
         lent,
@@ -82,7 +90,8 @@ fn write_register_unchecked(n: usize, work: usize, pec: bool) {
     let source = [0xDDu8; 40];
     let c = say::settings(pec);
     let lent = bytes::front(&source, n);
-    say::title(b"write_register_unchecked ", n, work, pec);
+    say::words(b"write_register_unchecked");
+    say::title(b" ", n, work, pec);
     row(
         r5::write_register_unchecked(c, 1, lent, bytes::front(&room, work)),
         lent,
@@ -95,7 +104,8 @@ fn write_security_keys(n: usize, work: usize, pec: bool) {
     let source = [0xDDu8; 40];
     let c = say::settings(pec);
     let lent = bytes::front(&source, n);
-    say::title(b"write_security_keys ", n, work, pec);
+    say::words(b"write_security_keys");
+    say::title(b" ", n, work, pec);
     row(
         r5::write_security_keys(c, lent, bytes::front(&room, work)),
         lent,
@@ -108,7 +118,8 @@ fn write_authentication_key(n: usize, work: usize, pec: bool) {
     let source = [0xDDu8; 40];
     let c = say::settings(pec);
     let lent = bytes::front(&source, n);
-    say::title(b"write_authentication_key ", n, work, pec);
+    say::words(b"write_authentication_key");
+    say::title(b" ", n, work, pec);
     row(
         r5::write_authentication_key(c, lent, bytes::front(&room, work)),
         lent,
@@ -121,7 +132,8 @@ fn write_charging_voltage_override(n: usize, work: usize, pec: bool) {
     let source = [0xDDu8; 40];
     let c = say::settings(pec);
     let lent = bytes::front(&source, n);
-    say::title(b"write_charging_voltage_override ", n, work, pec);
+    say::words(b"write_charging_voltage_override");
+    say::title(b" ", n, work, pec);
     row(
         r5::write_charging_voltage_override(c, lent, bytes::front(&room, work)),
         lent,
@@ -134,7 +146,8 @@ fn write_mfg_info_c(n: usize, work: usize, pec: bool) {
     let source = [0xDDu8; 40];
     let c = say::settings(pec);
     let lent = bytes::front(&source, n);
-    say::title(b"write_mfg_info_c ", n, work, pec);
+    say::words(b"write_mfg_info_c");
+    say::title(b" ", n, work, pec);
     row(
         r5::write_mfg_info_c(c, 1, 2, lent, bytes::front(&room, work)),
         lent,
@@ -147,7 +160,8 @@ fn write_mfg_info(n: usize, work: usize, pec: bool) {
     let source = [0xDDu8; 40];
     let c = say::settings(pec);
     let lent = bytes::front(&source, n);
-    say::title(b"write_mfg_info ", n, work, pec);
+    say::words(b"write_mfg_info");
+    say::title(b" ", n, work, pec);
     row(r5::write_mfg_info(c, lent, bytes::front(&room, work)), lent);
 }
 
@@ -169,7 +183,8 @@ fn write_dataflash(address: u16, n: usize, work: usize, pec: bool) {
 fn send_access_key(work: usize, pec: bool) {
     let room = [0u8; 39];
     let c = say::settings(pec);
-    say::title(b"send_access_key ", 0, work, pec);
+    say::words(b"send_access_key");
+    say::title(b" ", 0, work, pec);
     row(r5::send_access_key(c, 1, 2, bytes::front(&room, work)), b"");
 }
 
@@ -177,7 +192,8 @@ fn send_access_key(work: usize, pec: bool) {
 fn unseal_fg(work: usize, pec: bool) {
     let room = [0u8; 39];
     let c = say::settings(pec);
-    say::title(b"unseal_fg ", 0, work, pec);
+    say::words(b"unseal_fg");
+    say::title(b" ", 0, work, pec);
     row(r5::unseal_fg(c, 1, 2, bytes::front(&room, work)), b"");
 }
 
