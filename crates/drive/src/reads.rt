@@ -236,6 +236,18 @@ fn infos_and_flash(pec: bool) {
     );
 }
 
+// A call that was refused at its start.
+fn refused() {
+    let work = [0u8; 39];
+    let room = [0u8; 33];
+    all_of(
+        b"read_register, refused",
+        interface::read_register(marks::settings(false), 0x12, &room, &work),
+        0x12,
+        33,
+    );
+}
+
 // The calls with this `pec_read`.
 fn with(pec: bool) {
     registers(pec);
@@ -248,4 +260,5 @@ fn with(pec: bool) {
 pub(crate) fn all() {
     with(false);
     with(true);
+    refused();
 }

@@ -153,6 +153,17 @@ fn infos_and_flash(pec: bool) {
     );
 }
 
+// A call that was refused at its start.
+fn refused() {
+    let work = [0u8; 39];
+    let long = [0xCCu8; 33];
+    all_of(
+        b"write_register, refused",
+        interface::write_register(marks::settings(true), 0x12, &long, &work),
+        &long,
+    );
+}
+
 // The calls with this `pec_write`.
 fn with(pec: bool) {
     plain(pec);
@@ -165,4 +176,5 @@ fn with(pec: bool) {
 pub(crate) fn all() {
     with(false);
     with(true);
+    refused();
 }
