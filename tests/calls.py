@@ -103,6 +103,12 @@ class Call:
         return self.reads(None, self.pec_read, parts, 0x44)
 
 
+def too_large(call):
+    """A call that was refused at its start."""
+    return 4, 0
+    yield
+
+
 def word(number):
     return [number & 255, number >> 8]
 
@@ -164,7 +170,10 @@ def reply_of(count, covered):
 def line(script, make, call, covered=0):
     """A call over a script: what each mark is shown, the answer, its detail and the waits, and a reading call's buffer."""
     run, words, answer = make(call), [script], None
-    transfer = next(run)
+    try:
+        transfer = next(run)
+    except StopIteration as end:
+        answer = end.value
     for mark in script:
         other = mark in "slb"  # lent lengths that are not those of the start
         if answer:
@@ -188,15 +197,25 @@ def line(script, make, call, covered=0):
     return " ".join(words)
 
 
+def show_write(name, make, on):
+    print(name)
+    for script in ",aaasl,eataea,ef,tt,te,att,aef,rslba".split(","):
+        print(line(script, make, Call(1, on, not on)))
+
+
+def show_read(name, n, covered, make, on):
+    print(name)
+    for script in ",aaasl,aeaaaa,ef,tt,te,tat,aapat,tpp,qrslba,aqrba".split(","):
+        call = Call(1, not on, on, n)
+        print(line(script, make, call, covered), bytes(call.buffer).hex())
+
+
 if __name__ == "__main__":
     for on in (False, True):
-        for name, make in WRITES:
-            print(name)
-            for script in ",aaasl,eataea,ef,tt,te,att,aef,rslba".split(","):
-                print(line(script, make, Call(1, on, not on)))
+        for row in WRITES:
+            show_write(*row, on)
+    show_write("write_register, refused", too_large, True)
     for on in (False, True):
-        for name, n, covered, make in READS:
-            print(name)
-            for script in ",aaasl,aeaaaa,ef,tt,te,tat,aapat,tpp,qrslba,aqrba".split(","):
-                call = Call(1, not on, on, n)
-                print(line(script, make, call, covered), bytes(call.buffer).hex())
+        for row in READS:
+            show_read(*row, on)
+    show_read("read_register, refused", 33, 0x12, too_large, True)
