@@ -5,6 +5,7 @@ use engine::bus::Transfer;
 use protocol::bytes;
 use reading::call::ReadCall;
 use reading::call::ReadReported;
+use requests::request::ReadKind;
 
 // The bytes 10, 11, .. hex.
 fn count_up(reply: &mut [u8]) {
@@ -136,115 +137,102 @@ fn all_of(name: &[u8], call: ReadCall, command: u8, n: usize) {
     }
 }
 
-// Registers and buffers.
-fn registers(pec: bool) {
+// A call of a kind with a buffer of n bytes, and the command that its PEC covers.
+fn each(name: &[u8], kind: ReadKind, command: u8, n: usize, pec: bool) {
     let work = [0u8; 39];
     let room = [0u8; 40];
-    let c = marks::settings(!pec);
     all_of(
-        b"read_register",
-        interface::read_register(c, 0x12, &room[..2], &work),
-        0x12,
-        2,
+        name,
+        bench_calls::start_read(
+            kind,
+            marks::settings(!pec),
+            b"",
+            bytes::front(&room, n),
+            &work,
+        ),
+        command,
+        n,
     );
-    all_of(
-        b"read_buffer",
-        interface::read_buffer(c, 0x23, &room[..2], &work),
-        0x23,
-        2,
-    );
-    all_of(
+}
+
+// Registers and buffers.
+fn registers(pec: bool) {
+    each(b"read_register", ReadKind::Register(0x12), 0x12, 2, pec);
+    each(b"read_buffer", ReadKind::Buffer(0x23), 0x23, 2, pec);
+    each(
         b"read_register_unchecked",
-        r5::read_register_unchecked(c, 0x12, &room[..0], &work),
+        ReadKind::RegisterUnchecked(0x12),
         0x12,
         0,
+        pec,
     );
 }
 
 // Commands.
 fn commands(pec: bool) {
-    let work = [0u8; 39];
-    let room = [0u8; 40];
-    let c = marks::settings(!pec);
-    all_of(
+    each(
         b"dispatch_command 443500, 2",
-        interface::dispatch_command(c, 0x443500, b"", &room[..2], &work),
+        ReadKind::Command(0x443500),
         0x44,
         2,
+        pec,
     );
-    all_of(
+    each(
         b"dispatch_command FF010203, 0",
-        interface::dispatch_command(c, 0xFF010203, b"", b"", &work),
+        ReadKind::Command(0xFF010203),
         0x44,
         0,
+        pec,
     );
-    all_of(
+    each(
         b"dispatch_command 010203, 1",
-        interface::dispatch_command(c, 0x010203, b"", &room[..1], &work),
+        ReadKind::Command(0x010203),
         0x44,
         1,
+        pec,
     );
 }
 
 // Keys and the override.
 fn keys(pec: bool) {
-    let work = [0u8; 39];
-    let room = [0u8; 40];
-    let c = marks::settings(!pec);
-    all_of(
-        b"read_security_keys",
-        r5::read_security_keys(c, &room[..28], &work),
-        0x44,
-        28,
-    );
-    all_of(
+    each(b"read_security_keys", ReadKind::SecurityKeys, 0x44, 28, pec);
+    each(
         b"read_authentication_key",
-        r5::read_authentication_key(c, &room[..16], &work),
+        ReadKind::AuthenticationKey,
         0x44,
         16,
+        pec,
     );
-    all_of(
+    each(
         b"read_charging_voltage_override",
-        r5::read_charging_voltage_override(c, &room[..10], &work),
+        ReadKind::ChargingVoltageOverride,
         0x44,
         10,
+        pec,
     );
 }
 
 // Manufacturer info and data flash.
 fn infos_and_flash(pec: bool) {
-    let work = [0u8; 39];
-    let room = [0u8; 40];
-    let c = marks::settings(!pec);
-    all_of(
-        b"read_mfg_info_c",
-        r5::read_mfg_info_c(c, &room[..2], &work),
-        0x44,
-        2,
-    );
-    all_of(
-        b"read_mfg_info",
-        r5::read_mfg_info(c, &room[..2], &work),
-        0x70,
-        2,
-    );
-    all_of(
+    each(b"read_mfg_info_c", ReadKind::MfgInfoC, 0x44, 2, pec);
+    each(b"read_mfg_info", ReadKind::MfgInfo, 0x70, 2, pec);
+    each(
         b"read_dataflash",
-        r5::read_dataflash(c, 0x5FDF, &room[..33], &work),
+        ReadKind::DataFlash(0x5FDF),
         0x44,
         33,
+        pec,
     );
 }
 
 // A call that was refused at its start.
 fn refused() {
-    let work = [0u8; 39];
-    let room = [0u8; 33];
-    all_of(
+    each(
         b"read_register, refused",
-        interface::read_register(marks::settings(false), 0x12, &room, &work),
+        ReadKind::Register(0x12),
         0x12,
         33,
+        true,
     );
 }
 

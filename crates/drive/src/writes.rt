@@ -3,6 +3,7 @@ use crate::marks;
 use crate::say;
 use engine::bus::Transfer;
 use protocol::bytes;
+use requests::request::WriteKind;
 use writing::call::WriteCall;
 use writing::call::WriteReported;
 
@@ -71,104 +72,97 @@ fn all_of(name: &[u8], call: WriteCall, payload: &[u8]) {
     }
 }
 
+// A call of a kind with its payload.
+fn each(name: &[u8], kind: WriteKind, payload: &[u8], pec: bool) {
+    let work = [0u8; 39];
+    all_of(
+        name,
+        bench_calls::start_write(kind, marks::settings(pec), payload, &work),
+        payload,
+    );
+}
+
 // Plain, register and buffer writes.
 fn plain(pec: bool) {
-    let work = [0u8; 39];
     let two = b"\xAA\xBB";
-    let c = marks::settings(pec);
-    all_of(
-        b"write_with_retries",
-        interface::write_with_retries(c, two, &work),
-        two,
-    );
-    all_of(
-        b"write_register",
-        interface::write_register(c, 0x12, two, &work),
-        two,
-    );
-    all_of(
-        b"write_buffer",
-        interface::write_buffer(c, 0x23, two, &work),
-        two,
-    );
-}
-
-// The unchecked write, and keys.
-fn unchecked_and_keys(pec: bool) {
-    let work = [0u8; 39];
-    let two = b"\xAA\xBB";
-    let c = marks::settings(pec);
-    let keys = [0xDDu8; 28];
-    all_of(
+    each(b"write_with_retries", WriteKind::Plain, two, pec);
+    each(b"write_register", WriteKind::Register(0x12), two, pec);
+    each(b"write_buffer", WriteKind::Buffer(0x23), two, pec);
+    each(
         b"write_register_unchecked",
-        r5::write_register_unchecked(c, 0x12, two, &work),
+        WriteKind::RegisterUnchecked(0x12),
         two,
-    );
-    all_of(
-        b"write_security_keys",
-        r5::write_security_keys(c, &keys, &work),
-        &keys,
-    );
-    all_of(
-        b"write_authentication_key",
-        r5::write_authentication_key(c, &keys[..16], &work),
-        &keys[..16],
+        pec,
     );
 }
 
-// The override, and access keys.
-fn keys_and_access(pec: bool) {
+// Keys and the override.
+fn keys(pec: bool) {
+    let keys = [0xDDu8; 28];
+    each(b"write_security_keys", WriteKind::SecurityKeys, &keys, pec);
+    each(
+        b"write_authentication_key",
+        WriteKind::AuthenticationKey,
+        &keys[..16],
+        pec,
+    );
+    each(
+        b"write_charging_voltage_override",
+        WriteKind::ChargingVoltageOverride,
+        &keys[..10],
+        pec,
+    );
+}
+
+// Access keys, under both names.
+fn access(pec: bool) {
     let work = [0u8; 39];
     let c = marks::settings(pec);
-    let keys = [0xDDu8; 28];
-    all_of(
-        b"write_charging_voltage_override",
-        r5::write_charging_voltage_override(c, &keys[..10], &work),
-        &keys[..10],
-    );
-    all_of(
+    each(
         b"send_access_key",
-        r5::send_access_key(c, 0x1234, 0x5678, &work),
+        WriteKind::AccessKey {
+            lower: 0x1234,
+            upper: 0x5678,
+        },
         b"",
+        pec,
     );
     all_of(b"unseal_fg", r5::unseal_fg(c, 0x1234, 0x5678, &work), b"");
 }
 
 // Manufacturer info, and data flash.
 fn infos_and_flash(pec: bool) {
-    let work = [0u8; 39];
     let two = b"\xAA\xBB";
-    let c = marks::settings(pec);
     let long = [0xCCu8; 33];
-    all_of(
+    each(
         b"write_mfg_info_c",
-        r5::write_mfg_info_c(c, 0x1234, 0x5678, two, &work),
+        WriteKind::MfgInfoC {
+            lower: 0x1234,
+            upper: 0x5678,
+        },
         two,
+        pec,
     );
-    all_of(b"write_mfg_info", r5::write_mfg_info(c, two, &work), two);
-    all_of(
-        b"write_dataflash",
-        r5::write_dataflash(c, 0x4000, &long, &work),
-        &long,
-    );
+    each(b"write_mfg_info", WriteKind::MfgInfo, two, pec);
+    each(b"write_dataflash", WriteKind::DataFlash(0x4000), &long, pec);
 }
 
 // A call that was refused at its start.
 fn refused() {
-    let work = [0u8; 39];
     let long = [0xCCu8; 33];
-    all_of(
+    each(
         b"write_register, refused",
-        interface::write_register(marks::settings(true), 0x12, &long, &work),
+        WriteKind::Register(0x12),
         &long,
+        true,
     );
 }
 
 // The calls with this `pec_write`.
 fn with(pec: bool) {
     plain(pec);
-    unchecked_and_keys(pec);
-    keys_and_access(pec);
+    keys(pec);
+    access(pec);
     infos_and_flash(pec);
 }
 

@@ -5,6 +5,7 @@ use engine::bus::Transfer;
 use protocol::bytes;
 use reading::call::ReadCall;
 use reading::call::ReadReported;
+use requests::request::ReadKind;
 
 // Shows the transfer that is due, and says whether it is a frame.
 fn show(call: ReadCall, buffer: &[u8], work: &mut [u8]) -> bool {
@@ -58,147 +59,88 @@ fn row(call: ReadCall, lent: &[u8]) {
     say::words(b"\n");
 }
 
-// A register read.
-fn read_register(n: usize, work: usize, pec: bool) {
+// A call of a kind, with so many bytes of input, its buffer, a work buffer and a PEC setting; its title is begun.
+fn start(kind: ReadKind, input: usize, n: usize, work: usize, pec: bool) {
     let room = [0u8; 39];
     let source = [0xDDu8; 40];
-    let c = say::settings(pec);
     let lent = bytes::front(&source, n);
-    say::words(b"read_register");
-    say::title(b" ", n, work, pec);
     row(
-        interface::read_register(c, 1, lent, bytes::front(&room, work)),
-        lent,
-    );
-}
-
-// A buffer read.
-fn read_buffer(n: usize, work: usize, pec: bool) {
-    let room = [0u8; 39];
-    let source = [0xDDu8; 40];
-    let c = say::settings(pec);
-    let lent = bytes::front(&source, n);
-    say::words(b"read_buffer");
-    say::title(b" ", n, work, pec);
-    row(
-        interface::read_buffer(c, 1, lent, bytes::front(&room, work)),
-        lent,
-    );
-}
-
-// The unchecked register read.
-fn read_register_unchecked(n: usize, work: usize, pec: bool) {
-    let room = [0u8; 39];
-    let source = [0xDDu8; 40];
-    let c = say::settings(pec);
-    let lent = bytes::front(&source, n);
-    say::words(b"read_register_unchecked");
-    say::title(b" ", n, work, pec);
-    row(
-        r5::read_register_unchecked(c, 1, lent, bytes::front(&room, work)),
-        lent,
-    );
-}
-
-// The security keys.
-fn read_security_keys(n: usize, work: usize, pec: bool) {
-    let room = [0u8; 39];
-    let source = [0xDDu8; 40];
-    let c = say::settings(pec);
-    let lent = bytes::front(&source, n);
-    say::words(b"read_security_keys");
-    say::title(b" ", n, work, pec);
-    row(
-        r5::read_security_keys(c, lent, bytes::front(&room, work)),
-        lent,
-    );
-}
-
-// The authentication key.
-fn read_authentication_key(n: usize, work: usize, pec: bool) {
-    let room = [0u8; 39];
-    let source = [0xDDu8; 40];
-    let c = say::settings(pec);
-    let lent = bytes::front(&source, n);
-    say::words(b"read_authentication_key");
-    say::title(b" ", n, work, pec);
-    row(
-        r5::read_authentication_key(c, lent, bytes::front(&room, work)),
-        lent,
-    );
-}
-
-// The charging voltage override.
-fn read_charging_voltage_override(n: usize, work: usize, pec: bool) {
-    let room = [0u8; 39];
-    let source = [0xDDu8; 40];
-    let c = say::settings(pec);
-    let lent = bytes::front(&source, n);
-    say::words(b"read_charging_voltage_override");
-    say::title(b" ", n, work, pec);
-    row(
-        r5::read_charging_voltage_override(c, lent, bytes::front(&room, work)),
-        lent,
-    );
-}
-
-// Manufacturer info C.
-fn read_mfg_info_c(n: usize, work: usize, pec: bool) {
-    let room = [0u8; 39];
-    let source = [0xDDu8; 40];
-    let c = say::settings(pec);
-    let lent = bytes::front(&source, n);
-    say::words(b"read_mfg_info_c");
-    say::title(b" ", n, work, pec);
-    row(
-        r5::read_mfg_info_c(c, lent, bytes::front(&room, work)),
-        lent,
-    );
-}
-
-// Manufacturer info.
-fn read_mfg_info(n: usize, work: usize, pec: bool) {
-    let room = [0u8; 39];
-    let source = [0xDDu8; 40];
-    let c = say::settings(pec);
-    let lent = bytes::front(&source, n);
-    say::words(b"read_mfg_info");
-    say::title(b" ", n, work, pec);
-    row(r5::read_mfg_info(c, lent, bytes::front(&room, work)), lent);
-}
-
-// Data flash from an address on.
-fn read_dataflash(address: u16, n: usize, work: usize, pec: bool) {
-    let room = [0u8; 39];
-    let source = [0xDDu8; 40];
-    let c = say::settings(pec);
-    let lent = bytes::front(&source, n);
-    say::address(b"read_dataflash ", address);
-    say::title(b" ", n, work, pec);
-    row(
-        r5::read_dataflash(c, address, lent, bytes::front(&room, work)),
-        lent,
-    );
-}
-
-// Command 443500 with so many bytes of input, and n of output.
-fn dispatch_command(input: usize, n: usize, work: usize, pec: bool) {
-    let room = [0u8; 39];
-    let source = [0xDDu8; 40];
-    let c = say::settings(pec);
-    let lent = bytes::front(&source, n);
-    say::number(b"dispatch_command input ", input);
-    say::title(b", output ", n, work, pec);
-    row(
-        interface::dispatch_command(
-            c,
-            0x443500,
+        bench_calls::start_read(
+            kind,
+            say::settings(pec),
             bytes::front(&source, input),
             lent,
             bytes::front(&room, work),
         ),
         lent,
     );
+}
+
+// A call with no input.
+fn plain(kind: ReadKind, n: usize, work: usize, pec: bool) {
+    say::title(b" ", n, work, pec);
+    start(kind, 0, n, work, pec);
+}
+
+// A register read.
+fn read_register(n: usize, work: usize, pec: bool) {
+    say::words(b"read_register");
+    plain(ReadKind::Register(1), n, work, pec);
+}
+
+// A buffer read.
+fn read_buffer(n: usize, work: usize, pec: bool) {
+    say::words(b"read_buffer");
+    plain(ReadKind::Buffer(1), n, work, pec);
+}
+
+// The unchecked register read.
+fn read_register_unchecked(n: usize, work: usize, pec: bool) {
+    say::words(b"read_register_unchecked");
+    plain(ReadKind::RegisterUnchecked(1), n, work, pec);
+}
+
+// The security keys.
+fn read_security_keys(n: usize, work: usize, pec: bool) {
+    say::words(b"read_security_keys");
+    plain(ReadKind::SecurityKeys, n, work, pec);
+}
+
+// The authentication key.
+fn read_authentication_key(n: usize, work: usize, pec: bool) {
+    say::words(b"read_authentication_key");
+    plain(ReadKind::AuthenticationKey, n, work, pec);
+}
+
+// The charging voltage override.
+fn read_charging_voltage_override(n: usize, work: usize, pec: bool) {
+    say::words(b"read_charging_voltage_override");
+    plain(ReadKind::ChargingVoltageOverride, n, work, pec);
+}
+
+// Manufacturer info C.
+fn read_mfg_info_c(n: usize, work: usize, pec: bool) {
+    say::words(b"read_mfg_info_c");
+    plain(ReadKind::MfgInfoC, n, work, pec);
+}
+
+// Manufacturer info.
+fn read_mfg_info(n: usize, work: usize, pec: bool) {
+    say::words(b"read_mfg_info");
+    plain(ReadKind::MfgInfo, n, work, pec);
+}
+
+// Data flash from an address on.
+fn read_dataflash(address: u16, n: usize, work: usize, pec: bool) {
+    say::address(b"read_dataflash ", address);
+    plain(ReadKind::DataFlash(address), n, work, pec);
+}
+
+// Command 443500 with so many bytes of input, and n of output.
+fn dispatch_command(input: usize, n: usize, work: usize, pec: bool) {
+    say::number(b"dispatch_command input ", input);
+    say::title(b", output ", n, work, pec);
+    start(ReadKind::Command(0x443500), input, n, work, pec);
 }
 
 // Registers, and buffers, which have no limit.

@@ -3,6 +3,7 @@ use crate::say;
 use engine::bus::Outcome;
 use engine::bus::Transfer;
 use protocol::bytes;
+use requests::request::WriteKind;
 use writing::call::WriteCall;
 use writing::call::WriteReported;
 
@@ -42,150 +43,82 @@ fn row(first: WriteCall, payload: &[u8]) {
     say::words(b"\n");
 }
 
-// A plain write.
-fn write_with_retries(n: usize, work: usize, pec: bool) {
+// A call of a kind, with its payload, a work buffer and a PEC setting; its title is begun.
+fn start(kind: WriteKind, n: usize, work: usize, pec: bool) {
     let room = [0u8; 39];
     let source = [0xDDu8; 40];
-    let c = say::settings(pec);
     let lent = bytes::front(&source, n);
-    say::words(b"write_with_retries");
     say::title(b" ", n, work, pec);
     row(
-        interface::write_with_retries(c, lent, bytes::front(&room, work)),
+        bench_calls::start_write(kind, say::settings(pec), lent, bytes::front(&room, work)),
         lent,
     );
+}
+
+// A plain write.
+fn write_with_retries(n: usize, work: usize, pec: bool) {
+    say::words(b"write_with_retries");
+    start(WriteKind::Plain, n, work, pec);
 }
 
 // A register write.
 fn write_register(n: usize, work: usize, pec: bool) {
-    let room = [0u8; 39];
-    let source = [0xDDu8; 40];
-    let c = say::settings(pec);
-    let lent = bytes::front(&source, n);
     say::words(b"write_register");
-    say::title(b" ", n, work, pec);
-    row(
-        interface::write_register(c, 1, lent, bytes::front(&room, work)),
-        lent,
-    );
+    start(WriteKind::Register(1), n, work, pec);
 }
 
 // A buffer write.
 fn write_buffer(n: usize, work: usize, pec: bool) {
-    let room = [0u8; 39];
-    let source = [0xDDu8; 40];
-    let c = say::settings(pec);
-    let lent = bytes::front(&source, n);
     say::words(b"write_buffer");
-    say::title(b" ", n, work, pec);
-    row(
-        interface::write_buffer(c, 1, lent, bytes::front(&room, work)),
-        lent,
-    );
+    start(WriteKind::Buffer(1), n, work, pec);
 }
 
 // The unchecked register write.
 fn write_register_unchecked(n: usize, work: usize, pec: bool) {
-    let room = [0u8; 39];
-    let source = [0xDDu8; 40];
-    let c = say::settings(pec);
-    let lent = bytes::front(&source, n);
     say::words(b"write_register_unchecked");
-    say::title(b" ", n, work, pec);
-    row(
-        r5::write_register_unchecked(c, 1, lent, bytes::front(&room, work)),
-        lent,
-    );
+    start(WriteKind::RegisterUnchecked(1), n, work, pec);
 }
 
 // The security keys.
 fn write_security_keys(n: usize, work: usize, pec: bool) {
-    let room = [0u8; 39];
-    let source = [0xDDu8; 40];
-    let c = say::settings(pec);
-    let lent = bytes::front(&source, n);
     say::words(b"write_security_keys");
-    say::title(b" ", n, work, pec);
-    row(
-        r5::write_security_keys(c, lent, bytes::front(&room, work)),
-        lent,
-    );
+    start(WriteKind::SecurityKeys, n, work, pec);
 }
 
 // The authentication key.
 fn write_authentication_key(n: usize, work: usize, pec: bool) {
-    let room = [0u8; 39];
-    let source = [0xDDu8; 40];
-    let c = say::settings(pec);
-    let lent = bytes::front(&source, n);
     say::words(b"write_authentication_key");
-    say::title(b" ", n, work, pec);
-    row(
-        r5::write_authentication_key(c, lent, bytes::front(&room, work)),
-        lent,
-    );
+    start(WriteKind::AuthenticationKey, n, work, pec);
 }
 
 // The charging voltage override.
 fn write_charging_voltage_override(n: usize, work: usize, pec: bool) {
-    let room = [0u8; 39];
-    let source = [0xDDu8; 40];
-    let c = say::settings(pec);
-    let lent = bytes::front(&source, n);
     say::words(b"write_charging_voltage_override");
-    say::title(b" ", n, work, pec);
-    row(
-        r5::write_charging_voltage_override(c, lent, bytes::front(&room, work)),
-        lent,
-    );
+    start(WriteKind::ChargingVoltageOverride, n, work, pec);
 }
 
 // Manufacturer info C, after both halves of the access key.
 fn write_mfg_info_c(n: usize, work: usize, pec: bool) {
-    let room = [0u8; 39];
-    let source = [0xDDu8; 40];
-    let c = say::settings(pec);
-    let lent = bytes::front(&source, n);
     say::words(b"write_mfg_info_c");
-    say::title(b" ", n, work, pec);
-    row(
-        r5::write_mfg_info_c(c, 1, 2, lent, bytes::front(&room, work)),
-        lent,
-    );
+    start(WriteKind::MfgInfoC { lower: 1, upper: 2 }, n, work, pec);
 }
 
 // Manufacturer info.
 fn write_mfg_info(n: usize, work: usize, pec: bool) {
-    let room = [0u8; 39];
-    let source = [0xDDu8; 40];
-    let c = say::settings(pec);
-    let lent = bytes::front(&source, n);
     say::words(b"write_mfg_info");
-    say::title(b" ", n, work, pec);
-    row(r5::write_mfg_info(c, lent, bytes::front(&room, work)), lent);
+    start(WriteKind::MfgInfo, n, work, pec);
 }
 
 // Data flash from an address on.
 fn write_dataflash(address: u16, n: usize, work: usize, pec: bool) {
-    let room = [0u8; 39];
-    let source = [0xDDu8; 40];
-    let c = say::settings(pec);
-    let lent = bytes::front(&source, n);
     say::address(b"write_dataflash ", address);
-    say::title(b" ", n, work, pec);
-    row(
-        r5::write_dataflash(c, address, lent, bytes::front(&room, work)),
-        lent,
-    );
+    start(WriteKind::DataFlash(address), n, work, pec);
 }
 
 // The access key, which has no payload.
 fn send_access_key(work: usize, pec: bool) {
-    let room = [0u8; 39];
-    let c = say::settings(pec);
     say::words(b"send_access_key");
-    say::title(b" ", 0, work, pec);
-    row(r5::send_access_key(c, 1, 2, bytes::front(&room, work)), b"");
+    start(WriteKind::AccessKey { lower: 1, upper: 2 }, 0, work, pec);
 }
 
 // The access key under its other name.
