@@ -1,4 +1,4 @@
--- Every line of the bench has room in an output of 16,401 bytes, so that it is printed whole.
+-- Every line of the bench has room in 16,401 bytes, so that it is printed whole.
 -- Assumes nothing.
 use Prim.Native.Nat.{ℕ, suc, _+_, _-_, _*_, _≤_, _<_, min}
 use mathlib.Core.Path.{_≡_, refl, sym, ap, subst, _∙_}
@@ -51,7 +51,7 @@ AllShort [] = Unit {0}
 AllShort (s ∷ more) = Short s × AllShort more
 
 -- a short line is printed whole
-pub printed-whole : (s out : List ℕ) → Short s → length out ≡ 16401 → (printedOf s (length out) ≡ length (feedBytes s)) × (take (length (feedBytes s)) (outPrinted s out) ≡ feedBytes s)
+pub printed-whole : (s out : List ℕ) → Short s → 16401 ≤ length out → (printedOf s (length out) ≡ length (feedBytes s)) × (take (length (feedBytes s)) (outPrinted s out) ≡ feedBytes s)
 unfolding printedOf outPrinted if_then_else_
 printed-whole s out h e =
     let fits : length s * 2 + 1 ≤ length out = omega arith in

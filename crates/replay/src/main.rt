@@ -11,7 +11,7 @@ use libc::STDOUT_FILENO;
 use protocol::bytes;
 use requests::fields;
 use session::BUFFER_BYTES;
-use session::OUT_BYTES;
+use session::LINE_BYTES;
 use session::REPLY_BYTES;
 use session::REQUEST_BYTES;
 
@@ -157,7 +157,7 @@ fn run_case(
     request: &mut [u8; REQUEST_BYTES],
     reply: &mut [u8; REPLY_BYTES],
     buffer: &mut [u8; BUFFER_BYTES],
-    out: &mut [u8; OUT_BYTES],
+    out: &mut [u8; LINE_BYTES],
 ) -> Ran {
     let mut a = input;
     let mut b = expected;
@@ -233,7 +233,7 @@ fn next_case(
     request: &mut [u8; REQUEST_BYTES],
     reply: &mut [u8; REPLY_BYTES],
     buffer: &mut [u8; BUFFER_BYTES],
-    out: &mut [u8; OUT_BYTES],
+    out: &mut [u8; LINE_BYTES],
     words: &mut [u8; 4096],
 ) -> Session {
     let tally = session.tally;
@@ -301,7 +301,7 @@ fn replay(first: i32, second: i32) {
     let mut request = [0u8; REQUEST_BYTES];
     let mut reply = [0u8; REPLY_BYTES];
     let mut buffer = [0u8; BUFFER_BYTES];
-    let mut out = [0u8; OUT_BYTES];
+    let mut out = [0u8; LINE_BYTES];
     let mut words = io::buffer();
     let mut session = Session {
         input: reader::open(first),

@@ -6,6 +6,7 @@ use mathlib.Core.Bool.{Bool, true, false}
 use mathlib.Core.List.{List, _++_}
 use native.Mathlib.Omega.{arith}
 use lib.ListN.{length, take, drop, length-append, length-take, length-drop}
+use lib.Seq.{length-take-le}
 use lib.Dec.{leb}
 use borrow.Author.Tests.{leb-true}
 use Rattle.protocol.specs.Pick.{if_then_else_}
@@ -110,13 +111,16 @@ length-buffer (run.Read call len) line R Y B = by (leb len (length B))
     by true = rw (length-append, length-heard, length-take, length-drop) (omega arith)
     by false = refl
 
-pub length-printed : (s out : List ℕ) → length (outPrinted s out) ≡ length out
+length-printed : (s out : List ℕ) → length (outPrinted s out) ≡ length out
 unfolding outPrinted if_then_else_
 length-printed s out = by (leb (length s * 2 + 1) (length out)) refl
   where
     by : (t : Bool) → leb (length s * 2 + 1) (length out) ≡ t → length (if t then over (feedBytes s) out else out) ≡ length out
     by true e = length-over (feedBytes s) out (omega (arith, leb-true (length s * 2 + 1) (length out) e, length-feed s))
     by false e = refl
+
+pub length-laid : (laid : ℕ) (s out : List ℕ) → laid ≤ length out → length (take laid out ++ outPrinted s (drop laid out)) ≡ length out
+length-laid laid s out h = rw (length-append, length-printed, length-take-le laid out h, length-drop) (omega arith)
 
 pub length-held : (piece line : List ℕ) (from have : ℕ) → length (lineTook piece from line have) ≡ length line
 unfolding lineTook

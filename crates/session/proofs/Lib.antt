@@ -1,5 +1,5 @@
 pub mod Laws
 pub mod Kept
 pub mod Long
-pub mod Turns
+pub mod EachTurn
 pub mod Whole

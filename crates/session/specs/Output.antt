@@ -1,7 +1,8 @@
 -- The whole bench as bytes: those of the input to those of the output. (01, The bench program)
 -- Assumes nothing.
-use Prim.Native.Nat.{ℕ, zero, suc, _≤_, _<_}
+use Prim.Native.Nat.{ℕ, zero, suc, _+_, _<_}
 use mathlib.Core.Path.{_≡_}
+use mathlib.Core.Bool.{true}
 use mathlib.Core.List.{List, [], _∷_, _++_}
 use lib.ListN.{length, take}
 use lib.Dec.{ltb}
@@ -20,20 +21,25 @@ feeds (line ∷ lines) = feedBytes line ++ feeds lines
 unfoldable pub printed : List ℕ → List ℕ
 printed input = feeds (benchOf (linesFrom [] input) (restFrom [] input))
 
--- the same for an input that may go on: a line for each line that is whole
-unfoldable pub printedSoFar : List ℕ → List ℕ
-printedSoFar input = feeds (take (length (linesFrom [] input)) (benchOf (linesFrom [] input) (restFrom [] input)))
+-- one line more, where what follows the last line feed is already longer than any line that is valid
+unfoldable pub early : List ℕ → ℕ
+early rest = if ltb heldBytes (length rest) then 1 else 0
 
--- what is written after a turn: the bytes that it laid
+-- the same for an input that may go on: a line for each line that is whole, and for one that is too long already
+unfoldable pub printedSoFar : List ℕ → List ℕ
+printedSoFar input =
+    feeds (take (length (linesFrom [] input) + early (restFrom [] input)) (benchOf (linesFrom [] input) (restFrom [] input)))
+
+-- what is written: the bytes that are laid
 unfoldable pub written : World → List ℕ
 written w = take (w .session .printed) (w .out)
 
--- a piece, turn by turn while the run goes on and the piece lasts, and then what follows it. One turn for each byte is enough (`advances`).
+-- a piece, `take` after `take` while the run goes on and the piece lasts, and then what follows it. One for each byte is enough (`advances`).
 unfoldable pub pieceOut : ℕ → List ℕ → World → (World → List ℕ) → List ℕ
 pieceOut zero piece w more = more w
-pieceOut (suc turns) piece w more =
+pieceOut (suc takes) piece w more =
     if w .session .on then
-    (if ltb (w .session .at) (length piece) then written (takeOf piece w) ++ pieceOut turns piece (takeOf piece w) more else more w)
+    (if ltb (w .session .at) (length piece) then written (takeOf piece w) ++ pieceOut takes piece (takeOf piece w) more else more w)
     else []
 
 -- piece after piece, and `last` once there is none
@@ -56,10 +62,8 @@ concat [] = []
 concat (piece ∷ pieces) = piece ++ concat pieces
 
 -- however the input is cut into pieces, and whatever the lent arrays hold at first, the program writes what document 01 says of the whole input; and
--- it holds no line back: what the whole lines so far give is written before more is read. (A line longer than any that is valid is answered early.)
--- Each turn uses a byte at least, so that a piece comes to its end.
+-- it holds no line back: what the lines so far give is written before more is read. Each `take` uses a byte at least, so that a piece comes to its end.
 pub record WholeBench : Type 0 where
   pub whole : (pieces : List (List ℕ)) (w : World) → Sized w → w .session ≡ startOf → bytesOut pieces w ≡ printed (concat pieces)
-  pub at-once : (pieces : List (List ℕ)) (w : World) → Sized w → w .session ≡ startOf → length (restFrom [] (concat pieces)) ≤ heldBytes
-      → bytesSoFar pieces w ≡ printedSoFar (concat pieces)
-  pub advances : (piece : List ℕ) (w : World) → w .session .at < length piece → w .session .at < takeOf piece w .session .at
+  pub at-once : (pieces : List (List ℕ)) (w : World) → Sized w → w .session ≡ startOf → bytesSoFar pieces w ≡ printedSoFar (concat pieces)
+  pub advances : (piece : List ℕ) (w : World) → Sized w → w .session .on ≡ true → w .session .at < length piece → w .session .at < takeOf piece w .session .at

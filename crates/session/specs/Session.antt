@@ -1,10 +1,12 @@
 -- The bench program without its reads and writes, turn by turn. (01, The bench program)
 -- Assumes nothing.
-use Prim.Native.Nat.{ℕ}
+use Prim.Native.Nat.{ℕ, zero, suc, _+_, _-_}
 use mathlib.Core.Path.{_≡_}
-use mathlib.Core.Bool.{true, false}
-use mathlib.Core.List.{List}
-use lib.ListN.{length, take}
+use mathlib.Core.Bool.{Bool, true, false}
+use mathlib.Core.List.{List, _++_}
+use lib.ListN.{length, take, drop}
+use lib.Dec.{ltb, leb}
+use Rattle.protocol.specs.Pick.{if_then_else_}
 use Rattle.pieces.specs.Pieces.{tookOf, lineTook}
 use Rattle.pieces.specs.declared.Took.{Took}
 use Rattle.pieces.specs.declared.Took.the-variants as took
@@ -34,13 +36,21 @@ world s held request reply buffer out = record { session = s; held = held; reque
 abbrev pub heldBytes : ℕ
 heldBytes = 16404
 
+-- the longest line that is printed, an end of 8,200 bytes with its line feed
+abbrev pub lineBytes : ℕ
+lineBytes = 16401
+
+-- where lines are gathered
+abbrev pub outBytes : ℕ
+outBytes = 65536
+
 -- the sizes of what is lent, which the types of `take` have
 pub record Sized (w : World) : Type 0 where
   pub held : length (w .held) ≡ heldBytes
   pub request : length (w .request) ≡ 8202
   pub reply : length (w .reply) ≡ 8193
   pub buffer : length (w .buffer) ≡ 8192
-  pub out : length (w .out) ≡ 16401
+  pub out : length (w .out) ≡ outBytes
 
 -- nothing read yet
 unfoldable pub startOf : Session
@@ -50,48 +60,78 @@ startOf = record { run = run.Nothing; have = 0; at = 0; printed = 0; on = true }
 unfoldable pub nextPiece : Session → Session
 nextPiece s = record { run = s .run; have = s .have; at = 0; printed = 0; on = s .on }
 
--- a piece of n bytes that is used up
-unfoldable pub moreOf : Run → ℕ → ℕ → Session
-moreOf r have n = record { run = r; have = have; at = n; printed = 0; on = true }
+-- what was laid is written
+unfoldable pub unprinted : Session → Session
+unprinted s = record { run = s .run; have = s .have; at = s .at; printed = 0; on = s .on }
+
+-- a piece of n bytes that is used up, with so many bytes laid
+unfoldable pub moreOf : Run → ℕ → ℕ → ℕ → Session
+moreOf r have n laid = record { run = r; have = have; at = n; printed = laid; on = true }
 
 -- after a transfer the run goes on, after the last line it does not
-unfoldable pub saidSession : Said → Run → ℕ → Session
-saidSession (said.Asked n) r at = record { run = r; have = 0; at = at; printed = n; on = true }
-saidSession (said.Last n) r at = record { run = r; have = 0; at = at; printed = n; on = false }
+unfoldable pub saidSession : Said → Run → ℕ → ℕ → Session
+saidSession (said.Asked n) r at laid = record { run = r; have = 0; at = at; printed = laid + n; on = true }
+saidSession (said.Last n) r at laid = record { run = r; have = 0; at = at; printed = laid + n; on = false }
 
--- the line of a stage, where there is room for so many bytes
-unfoldable pub printOf : Stage → ℕ → List ℕ → List ℕ → ℕ → Session
-printOf stage at request buffer room = saidSession (saidOf (sayOf (stage .run) (stage .end) request buffer) room) (stage .run) at
+-- the line of a stage, after the bytes that are laid, where there is room for n in all
+unfoldable pub printOf : Stage → ℕ → ℕ → List ℕ → List ℕ → ℕ → Session
+printOf stage at laid request buffer n = saidSession (saidOf (sayOf (stage .run) (stage .end) request buffer) (n - laid)) (stage .run) at laid
 
-unfoldable pub printOut : Stage → List ℕ → List ℕ → List ℕ → List ℕ
-printOut stage request buffer out = outPrinted (bytesSaid (sayOf (stage .run) (stage .end) request buffer)) out
+unfoldable pub printOut : Stage → ℕ → List ℕ → List ℕ → List ℕ → List ℕ
+printOut stage laid request buffer out =
+    take laid out ++ outPrinted (bytesSaid (sayOf (stage .run) (stage .end) request buffer)) (drop laid out)
 
 -- the line of a stage is laid
-unfoldable pub laidOf : Stage → ℕ → List ℕ → List ℕ → List ℕ → List ℕ → List ℕ → World
-laidOf stage at held request reply buffer out =
-    world (printOf stage at request buffer (length out)) held request reply buffer (printOut stage request buffer out)
+unfoldable pub laidOf : Stage → ℕ → ℕ → List ℕ → List ℕ → List ℕ → List ℕ → List ℕ → World
+laidOf stage at laid held request reply buffer out =
+    world (printOf stage at laid request buffer (length out)) held request reply buffer (printOut stage laid request buffer out)
 
 -- a whole line is fed to the run
 unfoldable pub lineOf : List ℕ → ℕ → List ℕ → World → World
 lineOf line at held w =
-    laidOf (feedOf (w .session .run) line (w .request) (w .reply) (length (w .buffer))) at held
+    laidOf (feedOf (w .session .run) line (w .request) (w .reply) (length (w .buffer))) at (w .session .printed) held
     (requestAfter (w .session .run) line (w .request))
     (replyAfter (w .session .run) line (w .reply))
     (bufferAfter (w .session .run) line (w .request) (w .reply) (w .buffer))
     (w .out)
 
 -- what a turn comes to, by what a piece of n bytes brought
-unfoldable pub takeBy : Took → ℕ → List ℕ → World → World
-takeBy (took.Line len next) n held w = lineOf (take len held) next held w
-takeBy (took.More have) n held w = world (moreOf (w .session .run) have n) held (w .request) (w .reply) (w .buffer) (w .out)
-takeBy took.Long n held w = laidOf (closeOf (w .session .run) 1) n held (w .request) (w .reply) (w .buffer) (w .out)
+unfoldable pub turnBy : Took → ℕ → List ℕ → World → World
+turnBy (took.Line len next) n held w = lineOf (take len held) next held w
+turnBy (took.More have) n held w =
+    world (moreOf (w .session .run) have n (w .session .printed)) held (w .request) (w .reply) (w .buffer) (w .out)
+turnBy took.Long n held w =
+    laidOf (closeOf (w .session .run) 1) n (w .session .printed) held (w .request) (w .reply) (w .buffer) (w .out)
 
 -- one turn of a piece
-unfoldable pub takeOf : List ℕ → World → World
-takeOf piece w =
-    takeBy (tookOf piece (w .session .at) (length (w .held)) (w .session .have)) (length piece)
+unfoldable pub turnOf : List ℕ → World → World
+turnOf piece w =
+    turnBy (tookOf piece (w .session .at) (length (w .held)) (w .session .have)) (length piece)
     (lineTook piece (w .session .at) (w .held) (w .session .have)) w
 
--- the input has ended
+-- whether another turn can be made: the run goes on, the piece lasts, and the longest line has room after what is laid
+unfoldable pub goesOn : Bool → ℕ → ℕ → ℕ → ℕ → Bool
+goesOn on at end laid room = if on then (if ltb at end then leb (laid + lineBytes) room else false) else false
+
+-- turn after turn
+unfoldable pub turnsOf : ℕ → List ℕ → World → World
+turnsOf zero piece w = w
+turnsOf (suc turns) piece w =
+    if goesOn (w .session .on) (w .session .at) (length piece) (w .session .printed) (length (w .out)) then turnsOf turns piece (turnOf piece w) else w
+
+-- the lines of a piece, once what was laid before is written; a turn for each byte is enough
+unfoldable pub takeOf : List ℕ → World → World
+takeOf piece w =
+    turnsOf (length piece) piece (world (unprinted (w .session)) (w .held) (w .request) (w .reply) (w .buffer) (w .out))
+
+-- the input has ended: a last line, unless the run is over
+unfoldable pub endSession : Session → List ℕ → List ℕ → ℕ → Session
+endSession s request buffer n = if s .on then printOf (closeOf (s .run) (s .have)) (s .at) 0 request buffer n else unprinted s
+
+unfoldable pub endOut : Session → List ℕ → List ℕ → List ℕ → List ℕ
+endOut s request buffer out = if s .on then printOut (closeOf (s .run) (s .have)) 0 request buffer out else out
+
 unfoldable pub endOf : World → World
-endOf w = laidOf (closeOf (w .session .run) (w .session .have)) (w .session .at) (w .held) (w .request) (w .reply) (w .buffer) (w .out)
+endOf w =
+    world (endSession (w .session) (w .request) (w .buffer) (length (w .out))) (w .held) (w .request) (w .reply) (w .buffer)
+    (endOut (w .session) (w .request) (w .buffer) (w .out))

@@ -9,9 +9,10 @@ use requests::outcome::LONGEST_OUTCOME;
 use requests::request::LONGEST_REQUEST;
 use requests::request::MOST_BYTES;
 ghost use mathlib.Core.Path.{_≡_};
+ghost use Prim.Native.Nat.{_+_, _≤_};
 ghost use lib.ListN.{length};
-ghost use Rattle.bench_stage.specs.Stage.{closeOf};
-ghost use Rattle.session.specs.Session.{world, Sized, startOf, nextPiece, printOf, printOut, takeOf};
+ghost use lib.Dec.{leb};
+ghost use Rattle.session.specs.Session.{world, lineBytes, Sized, startOf, nextPiece, unprinted, goesOn, printOf, printOut, turnOf, turnsOf, takeOf, endSession, endOut};
 
 // The sizes of what is lent. Each has room for the longest that it may hold: a line's digits, the bytes of a request and of an outcome, and a reading
 // call's buffer.
@@ -24,7 +25,10 @@ pub const REPLY_BYTES: usize = LONGEST_OUTCOME;
 pub const BUFFER_BYTES: usize = MOST_BYTES;
 
 // The longest line that is printed is an end: eight bytes and a buffer, as digits, and a line feed.
-pub const OUT_BYTES: usize = (8 + MOST_BYTES) * 2 + 1;
+pub const LINE_BYTES: usize = (8 + MOST_BYTES) * 2 + 1;
+
+// Lines are gathered up to this size, and written together.
+pub const OUT_BYTES: usize = 65536;
 
 // Where the program stands.
 pub struct Session {
@@ -33,7 +37,7 @@ pub struct Session {
     pub have: usize,
     // Where the piece goes on.
     pub at: usize,
-    // How many bytes the last turn laid in `out`, to be written now.
+    // How many bytes are laid at the front of `out`, to be written now.
     pub printed: usize,
     // Whether the run goes on.
     pub on: bool,
@@ -66,30 +70,74 @@ pub fn next_piece(session: Session) -> Session
     }
 }
 
-// The line of a stage is laid, and the piece goes on at `at`.
-fn print(stage: Stage, at: usize, request: &[u8], buffer: &[u8], out: &mut [u8]) -> Session
-    ensures { λ r. ⌜ (r ≡ printOf stage at (now (request .entry)) (now (buffer .entry)) (length (now (out .entry)))) × (now (out .exit) ≡ printOut stage (now (request .entry)) (now (buffer .entry)) (now (out .entry))) ⌝ }
+// What was laid is written, and `out` is free again.
+fn written(session: Session) -> Session
+    ensures { λ r. ⌜ r ≡ unprinted session ⌝ }
+{
+    let run = session.run;
+    Session {
+        run,
+        have: session.have,
+        at: session.at,
+        printed: 0,
+        on: session.on,
+    }
+}
+
+// Whether the longest line has room after what is laid.
+fn has_room(laid: usize, room: usize) -> bool
+    ensures { λ r. ⌜ r ≡ leb (laid + lineBytes) room ⌝ }
+{
+    if room < LINE_BYTES {
+        return false;
+    }
+    laid <= room - LINE_BYTES
+}
+
+// Whether another turn can be made: the run goes on, its piece ends after `at`, and there is room for what is printed.
+fn goes_on(on: bool, at: usize, end: usize, laid: usize, room: usize) -> bool
+    ensures { λ r. ⌜ r ≡ goesOn on at end laid room ⌝ }
+{
+    if on {
+        if at < end {
+            return has_room(laid, room);
+        }
+    }
+    false
+}
+
+// The line of a stage is laid after the `laid` bytes that stand in `out`, and the piece goes on at `at`.
+fn print(
+    stage: Stage,
+    at: usize,
+    laid: usize,
+    request: &[u8],
+    buffer: &[u8],
+    out: &mut [u8],
+) -> Session
+    requires { ⌜ laid ≤ length (now out) ⌝ }
+    ensures { λ r. ⌜ (r ≡ printOf stage at laid (now (request .entry)) (now (buffer .entry)) (length (now (out .entry)))) × (now (out .exit) ≡ printOut stage laid (now (request .entry)) (now (buffer .entry)) (now (out .entry))) ⌝ }
 {
     let run = stage.run;
-    match bench_lines::say(stage, request, buffer, out) {
+    match bench_lines::say(stage, request, buffer, &mut out[laid..]) {
         Said::Asked(n) => Session {
             run,
             have: 0,
             at,
-            printed: n,
+            printed: laid + n,
             on: true,
         },
         Said::Last(n) => Session {
             run,
             have: 0,
             at,
-            printed: n,
+            printed: laid + n,
             on: false,
         },
     }
 }
 
-// One turn over what is lent, of any sizes.
+// One turn: the bytes of a piece from where it goes on, up to the end of a line. A line that has no room in `held` is bad.
 fn turn(
     session: Session,
     piece: &[u8],
@@ -99,24 +147,27 @@ fn turn(
     buffer: &mut [u8],
     out: &mut [u8],
 ) -> Session
-    ensures { λ r. ⌜ world r (now (held .exit)) (now (request .exit)) (now (reply .exit)) (now (buffer .exit)) (now (out .exit)) ≡ takeOf (now (piece .entry)) (world session (now (held .entry)) (now (request .entry)) (now (reply .entry)) (now (buffer .entry)) (now (out .entry))) ⌝ }
+    requires { ⌜ session .printed ≤ length (now out) ⌝ }
+    ensures { λ r. ⌜ world r (now (held .exit)) (now (request .exit)) (now (reply .exit)) (now (buffer .exit)) (now (out .exit)) ≡ turnOf (now (piece .entry)) (world session (now (held .entry)) (now (request .entry)) (now (reply .entry)) (now (buffer .entry)) (now (out .entry))) ⌝ }
 {
     let run = session.run;
+    let laid = session.printed;
     match pieces::take(piece, session.at, held, session.have) {
         Took::Line { len, next } => {
             let stage = bench_stage::feed(run, bytes::front(held, len), request, reply, buffer);
-            print(stage, next, request, buffer, out)
+            print(stage, next, laid, request, buffer, out)
         }
         Took::More(have) => Session {
             run,
             have,
             at: piece.len(),
-            printed: 0,
+            printed: laid,
             on: true,
         },
         Took::Long => print(
             bench_stage::close(run, 1),
             piece.len(),
+            laid,
             request,
             buffer,
             out,
@@ -124,7 +175,26 @@ fn turn(
     }
 }
 
-// One turn: the bytes of a piece from where it goes on, up to the end of a line. A line that has no room in `held` is bad.
+// Turn after turn over what is lent, of any sizes.
+fn turns(
+    session: Session,
+    piece: &[u8],
+    held: &mut [u8],
+    request: &mut [u8],
+    reply: &mut [u8],
+    buffer: &mut [u8],
+    out: &mut [u8],
+) -> Session
+    ensures { λ r. ⌜ world r (now (held .exit)) (now (request .exit)) (now (reply .exit)) (now (buffer .exit)) (now (out .exit)) ≡ turnsOf (length (now (piece .entry))) (now (piece .entry)) (world session (now (held .entry)) (now (request .entry)) (now (reply .entry)) (now (buffer .entry)) (now (out .entry))) ⌝ }
+{
+    let mut here = session;
+    while goes_on(here.on, here.at, piece.len(), here.printed, out.len()) {
+        here = turn(here, piece, held, request, reply, buffer, out);
+    }
+    here
+}
+
+// The lines of a piece from where it goes on, up to the end of the run, while what they print has room in `out`.
 pub fn take(
     session: Session,
     piece: &[u8],
@@ -136,7 +206,7 @@ pub fn take(
 ) -> Session
     ensures { λ r. ⌜ (world r (now (held .exit)) (now (request .exit)) (now (reply .exit)) (now (buffer .exit)) (now (out .exit)) ≡ takeOf (now (piece .entry)) (world session (now (held .entry)) (now (request .entry)) (now (reply .entry)) (now (buffer .entry)) (now (out .entry)))) × Sized (world session (now (held .entry)) (now (request .entry)) (now (reply .entry)) (now (buffer .entry)) (now (out .entry))) ⌝ }
 {
-    turn(session, piece, held, request, reply, buffer, out)
+    turns(written(session), piece, held, request, reply, buffer, out)
 }
 
 // The input has ended.
@@ -146,14 +216,19 @@ pub fn end(
     buffer: &[u8; BUFFER_BYTES],
     out: &mut [u8; OUT_BYTES],
 ) -> Session
-    ensures { λ r. ⌜ (r ≡ printOf (closeOf (session .run) (session .have)) (session .at) (now (request .entry)) (now (buffer .entry)) (length (now (out .entry)))) × (now (out .exit) ≡ printOut (closeOf (session .run) (session .have)) (now (request .entry)) (now (buffer .entry)) (now (out .entry))) ⌝ }
+    ensures { λ r. ⌜ (r ≡ endSession session (now (request .entry)) (now (buffer .entry)) (length (now (out .entry)))) × (now (out .exit) ≡ endOut session (now (request .entry)) (now (buffer .entry)) (now (out .entry))) ⌝ }
 {
     let run = session.run;
-    print(
-        bench_stage::close(run, session.have),
-        session.at,
-        request,
-        buffer,
-        out,
-    )
+    if session.on {
+        print(
+            bench_stage::close(run, session.have),
+            session.at,
+            0,
+            request,
+            buffer,
+            out,
+        )
+    } else {
+        written(session)
+    }
 }

@@ -1,6 +1,11 @@
--- `session::end` meets its contract: it prints the stage that the end of the input leads to.
+-- `session::end` meets its contract: it prints the stage that the end of the input leads to, unless the run is over.
 -- Assumes nothing.
+use mathlib.Core.Path.{refl}
+use native.Mathlib.Omega.{arith}
 use borrow.Author.Needs.{needs}
+use Rattle.protocol.specs.Pick.{if_then_else_}
+use Rattle.protocol.proofs.Cases.{cases}
+use Rattle.session.specs.Session.{endSession, endOut}
 use Rattle.session.proofs.end.Statement.{statement}
 use Rattle.session.proofs.end.Tie as tie
 
@@ -10,8 +15,20 @@ close-requires c κs = search needs
 print-requires : tie.Need-print-requires
 print-requires c κs = search needs
 
+written-requires : tie.Need-written-requires
+written-requires c κs = search needs
+
 returns : tie.Need-returns
-returns c = rw (← c .before .before .before .before .close .ensures) (c .print .ensures)
+unfolding endSession endOut if_then_else_
+returns c =
+    let on = c .before .before .before .before .before .if1 .taken in
+    let e = c .print .ensures in
+    let s = c .before .before .before .before .close .ensures in
+    rw (on, ← s) e
+
+returns-2 : tie.Need-returns-2
+unfolding endSession endOut
+returns-2 c = search cases
 
 pub end-spec : {M : Type 1} → statement M
-end-spec = tie.close (tie.spec close-requires print-requires returns)
+end-spec = tie.close (tie.spec close-requires print-requires written-requires returns returns-2)

@@ -1,4 +1,4 @@
--- `session::turn` meets its contract: each arm is a case of `takeBy`.
+-- `session::turn` meets its contract: each arm is a case of `turnBy`.
 -- Assumes nothing.
 use mathlib.Core.Path.{refl}
 use borrow.Author.Needs.{needs}

@@ -1,0 +1,301 @@
+-- A turn lays what the line that it ends gives after what is laid, and leaves what the lines after it will give.
+-- Assumes nothing.
+use Prim.Native.Nat.{ℕ, zero, suc, _+_, _-_, _*_, _≤_, _<_}
+use mathlib.Core.Path.{_≡_, refl, sym, ap, subst, _∙_}
+use mathlib.Core.Bool.{Bool, true, false}
+use mathlib.Core.List.{List, [], _∷_, _++_, append-nil, append-assoc}
+use mathlib.Core.Logic.{⊎-elim}
+use native.Mathlib.Omega.{arith}
+use lib.ListN.{length, take, drop, length-append, length-drop}
+use lib.Seq.{length-take-le, take-all, take-append-add, drop-length, drop-drop}
+use lib.Dec.{ltb, leb}
+use borrow.Author.Tests.{lt-ltb, le-leb, ltb-true, ltb-false, leb-true, leb-false}
+use Rattle.protocol.specs.Pick.{if_then_else_}
+use Rattle.printing.specs.Printing.{feedBytes, printedOf, outPrinted}
+use Rattle.pieces.specs.Pieces.{beforeFeed, judgeOf, tookOf, lineTook, linesFrom, restFrom}
+use Rattle.pieces.specs.declared.Took.the-variants as took
+use Rattle.pieces.proofs.Laws.{take-before}
+use Rattle.pieces.proofs.Any.{lines-append, rest-append, lines-more, lines-whole, held-after}
+use Rattle.bench_stage.specs.Stage as stage
+use Rattle.bench_stage.specs.declared.Run.{Run}
+use Rattle.bench_lines.specs.Saying.{Saying, asked, last, bytesSaid, saidOf}
+use Rattle.bench_lines.specs.Bench.{thenSay, machineOf}
+use Rattle.bench_lines.proofs.Room.{Short, AllShort, printed-whole}
+use Rattle.session.specs.Session.{World, world, heldBytes, lineBytes, Sized, moreOf, saidSession, printOf, printOut, laidOf, lineOf, turnBy, turnOf, goesOn, turnsOf, unprinted, takeOf}
+use Rattle.session.specs.Output.{written}
+use Rattle.session.proofs.Laws.{goes-on-inside}
+use Rattle.session.proofs.Kept.{Fits, fits-feed, length-request, length-reply, length-buffer, length-laid, length-held}
+use Rattle.session.proofs.Long.{saying, long-says, close-last, close-some, long-input}
+
+-- the sizes, a reading call's buffer and what is held of a line are as they should be, and the run goes on
+pub record Good (w : World) : Type 0 where
+  pub sized : Sized w
+  pub fits : Fits (w .session .run) (length (w .buffer))
+  pub room : w .session .have ≤ heldBytes
+  pub on : w .session .on ≡ true
+
+-- what the machine gives from a world on, for the lines that are left
+abbrev pub shown : World → List (List ℕ) → List ℕ → List (List ℕ)
+shown w lines rest = machineOf (w .session .run) (w .request) (w .reply) (w .buffer) lines rest
+
+-- what came of a line before
+abbrev pub before : World → List ℕ
+before w = take (w .session .have) (w .held)
+
+-- a line that has no room is answered
+abbrev tooLong : ℕ → List ℕ → World → World
+tooLong n H w = laidOf (stage.closeOf (w .session .run) 1) n (w .session .printed) H (w .request) (w .reply) (w .buffer) (w .out)
+
+said-size : (say : Saying) (room : ℕ) (r : Run) (at laid : ℕ) → saidSession (saidOf say room) r at laid .printed ≡ laid + printedOf (bytesSaid say) room
+unfolding saidSession saidOf bytesSaid
+said-size (asked s) room r at laid = refl
+said-size (last s) room r at laid = refl
+
+-- a short line is laid whole after what is laid
+pub written-said : (say : Saying) (r : Run) (at laid : ℕ) (H R Y B O : List ℕ) → Short (bytesSaid say) → laid + lineBytes ≤ length O
+    → written (world (saidSession (saidOf say (length O - laid)) r at laid) H R Y B (take laid O ++ outPrinted (bytesSaid say) (drop laid O))) ≡ take laid O ++ feedBytes (bytesSaid say)
+unfolding written
+written-said say r at laid H R Y B O h room = ap (λ (n : ℕ). take n (take laid O ++ outPrinted x (drop laid O))) size ∙ take-append-add (take laid O) _ (length (feedBytes x)) ∙ ap (λ (l : List ℕ). take laid O ++ l) (whole .1)
+  where
+    x : List ℕ
+    x = bytesSaid say
+
+    front : length (take laid O) ≡ laid
+    front = length-take-le laid O (omega arith)
+
+    whole : (printedOf x (length (drop laid O)) ≡ length (feedBytes x)) × (take (length (feedBytes x)) (outPrinted x (drop laid O)) ≡ feedBytes x)
+    whole = printed-whole x (drop laid O) h (omega (arith, length-drop laid O))
+
+    size : saidSession (saidOf say (length O - laid)) r at laid .printed ≡ length (take laid O) + length (feedBytes x)
+    size = said-size say (length O - laid) r at laid ∙ rw (front, ← whole .0, length-drop)
+
+-- how much of what the machine gives is looked at, and at which inputs
+module _ (view : List (List ℕ) → List (List ℕ) → List ℕ) (Ends : List ℕ → Type 0)
+    (step : (line x : List ℕ) (lines more : List (List ℕ)) → view (line ∷ lines) (x ∷ more) ≡ feedBytes x ++ view lines more)
+    (none : (lines : List (List ℕ)) → view lines [] ≡ [])
+    (early : (rest x : List ℕ) → Ends rest → heldBytes < length rest → view [] (x ∷ []) ≡ feedBytes x) where
+  -- what is written from a world on, once what is laid is written, is what the lines that are left give
+  abbrev pub Gives : (World → List ℕ) → World → List ℕ → Type 0
+  Gives G w input = (lines : List (List ℕ)) (rest : List ℕ) → lines ≡ linesFrom (before w) input → rest ≡ restFrom (before w) input
+      → AllShort (shown w lines rest) → Ends rest → G w ≡ view lines (shown w lines rest)
+
+  -- the same with what is laid
+  abbrev pub Lays : (World → List ℕ) → World → List ℕ → Type 0
+  Lays G w input = (lines : List (List ℕ)) (rest : List ℕ) → lines ≡ linesFrom (before w) input → rest ≡ restFrom (before w) input
+      → AllShort (shown w lines rest) → Ends rest → G w ≡ written w ++ view lines (shown w lines rest)
+
+  module _ (G : World → List ℕ) (off : (v : World) → v .session .on ≡ false → G v ≡ written v) where
+    said-lays : (say : Saying) (r : Run) (at laid : ℕ) (H R Y B O line : List ℕ) (lines more : List (List ℕ)) → laid + lineBytes ≤ length O → AllShort (thenSay say more)
+        → ((p : ℕ) → AllShort more
+        → G (world (record { run = r; have = 0; at = at; printed = p; on = true }) H R Y B (take laid O ++ outPrinted (bytesSaid say) (drop laid O)))
+        ≡ written (world (record { run = r; have = 0; at = at; printed = p; on = true }) H R Y B (take laid O ++ outPrinted (bytesSaid say) (drop laid O))) ++ view lines more)
+        → G (world (saidSession (saidOf say (length O - laid)) r at laid) H R Y B (take laid O ++ outPrinted (bytesSaid say) (drop laid O))) ≡ take laid O ++ view (line ∷ lines) (thenSay say more)
+    unfolding thenSay saidSession saidOf bytesSaid
+    said-lays (asked s) r at laid H R Y B O line lines more e a go =
+        go _ (a .1) ∙ rw (written-said (asked s) r at laid H R Y B O (a .0) e, append-assoc) (ap (λ (l : List ℕ). take laid O ++ l) (sym (step line s lines more)))
+    said-lays (last s) r at laid H R Y B O line lines more e a go =
+        off _ refl ∙ written-said (last s) r at laid H R Y B O (a .0) e
+        ∙ ap (λ (l : List ℕ). take laid O ++ l) (sym (step line s lines [] ∙ rw (none lines) (append-nil (feedBytes s))))
+
+    last-lays : (say : Saying) (r : Run) (at laid : ℕ) (H R Y B O : List ℕ) → laid + lineBytes ≤ length O → say ≡ last (bytesSaid say) → Short (bytesSaid say)
+        → G (world (saidSession (saidOf say (length O - laid)) r at laid) H R Y B (take laid O ++ outPrinted (bytesSaid say) (drop laid O))) ≡ take laid O ++ feedBytes (bytesSaid say)
+    unfolding saidSession saidOf bytesSaid
+    last-lays (asked s) r at laid H R Y B O e l h = absurd (let z : _≡_ {A = ℕ} 0 1 = cc in omega arith)
+    last-lays (last s) r at laid H R Y B O e l h = off _ refl ∙ written-said (last s) r at laid H R Y B O h e
+
+    module _ (piece t : List ℕ) (w : World) (good : Good w) (inside : w .session .at < length piece) (fits : w .session .printed + lineBytes ≤ length (w .out))
+        (go : (v : World) → Good v → w .session .at < v .session .at → v .session .at ≤ length piece → Lays G v (drop (v .session .at) piece ++ t)) where
+      -- a line is whole
+      turn-line : (line H : List ℕ) (next : ℕ) (lines : List (List ℕ)) (rest : List ℕ) → length H ≡ heldBytes → w .session .at < next → next ≤ length piece
+          → lines ≡ linesFrom [] (drop next piece ++ t) → rest ≡ restFrom [] (drop next piece ++ t) → AllShort (shown w (line ∷ lines) rest) → Ends rest
+          → G (lineOf line next H w) ≡ written w ++ view (line ∷ lines) (shown w (line ∷ lines) rest)
+      unfolding lineOf laidOf printOf printOut machineOf written
+      turn-line line H next lines rest h lt le p q a z =
+          let s = stage.feedOf (w .session .run) line (w .request) (w .reply) (length (w .buffer)) in
+          let R = stage.requestAfter (w .session .run) line (w .request) in
+          let Y = stage.replyAfter (w .session .run) line (w .reply) in
+          let B = stage.bufferAfter (w .session .run) line (w .request) (w .reply) (w .buffer) in
+          let b : length B ≡ length (w .buffer) = length-buffer (w .session .run) line (w .request) (w .reply) (w .buffer) in
+          let f : Fits (s .run) (length (w .buffer)) = fits-feed (w .session .run) line (w .request) (w .reply) (length (w .buffer)) (omega (arith, good .sized .buffer)) (good .fits) in
+          said-lays (saying s R B) (s .run) next (w .session .printed) H R Y B (w .out) line lines _ fits a
+          (λ k m.
+          go _
+          (record {
+            sized = record {
+              held = h;
+              request = length-request (w .session .run) line (w .request) ∙ good .sized .request;
+              reply = length-reply (w .session .run) line (w .reply) ∙ good .sized .reply;
+              buffer = b ∙ good .sized .buffer;
+              out = length-laid (w .session .printed) (bytesSaid (saying s R B)) (w .out) (omega arith) ∙ good .sized .out;
+            };
+            fits = subst (λ (n : ℕ). Fits (s .run) n) (sym b) f;
+            room = omega arith;
+            on = refl;
+          })
+          lt le lines rest p q m z)
+
+      -- the piece is used up
+      turn-more : (H : List ℕ) (k : ℕ) → length H ≡ heldBytes → k ≤ heldBytes → take k H ≡ before w ++ drop (w .session .at) piece
+          → length (drop (w .session .at) piece) ≤ length (beforeFeed (drop (w .session .at) piece))
+          → Lays (λ v. G (world (moreOf (v .session .run) k (length piece) (v .session .printed)) H (v .request) (v .reply) (v .buffer) (v .out))) w (drop (w .session .at) piece ++ t)
+      unfolding moreOf written
+      turn-more H k h le e none-left lines rest p q a z =
+          let s = drop (w .session .at) piece in
+          let m = lines-more s (before w) none-left in
+          let d : drop (length piece) piece ++ t ≡ t = rw drop-length in
+          let x : linesFrom (before w) (s ++ t) ≡ linesFrom (take k H) (drop (length piece) piece ++ t) = rw (lines-append s t (before w), m .0, m .1, e, d) in
+          let y : restFrom (before w) (s ++ t) ≡ restFrom (take k H) (drop (length piece) piece ++ t) = rw (rest-append s t (before w), m .1, e, d) in
+          go (world (record { run = w .session .run; have = k; at = length piece; printed = w .session .printed; on = true }) H (w .request) (w .reply) (w .buffer) (w .out))
+          (record {
+            sized = record { held = h; request = good .sized .request; reply = good .sized .reply; buffer = good .sized .buffer; out = good .sized .out };
+            fits = good .fits;
+            room = le;
+            on = refl;
+          })
+          inside (omega arith) lines rest (p ∙ x) (q ∙ y) a z
+
+      -- a line has no room
+      closed : (H : List ℕ) (n : ℕ) → Short (bytesSaid (saying (stage.closeOf (w .session .run) 1) (w .request) (w .buffer)))
+          → G (tooLong n H w)
+          ≡ written w ++ feedBytes (bytesSaid (saying (stage.closeOf (w .session .run) 1) (w .request) (w .buffer)))
+      unfolding laidOf printOf printOut written
+      closed H n short =
+          last-lays (saying (stage.closeOf (w .session .run) 1) (w .request) (w .buffer)) (stage.closeOf (w .session .run) 1 .run) n (w .session .printed) H (w .request) (w .reply) (w .buffer) (w .out)
+          fits (close-last (w .session .run) 1 (w .request) (w .buffer)) short
+
+      -- its line feed never comes
+      long-rest : (H : List ℕ) (n : ℕ) (rest : List ℕ) → heldBytes < length rest → AllShort (shown w [] rest) → Ends rest
+          → G (tooLong n H w) ≡ written w ++ view [] (shown w [] rest)
+      unfolding machineOf
+      long-rest H n rest m a z =
+          let c : stage.closeOf (w .session .run) (length rest) ≡ stage.closeOf (w .session .run) 1 = close-some (w .session .run) (length rest) (omega arith) in
+          let short : Short (bytesSaid (saying (stage.closeOf (w .session .run) 1) (w .request) (w .buffer))) = rw c at (a .0) in
+          rw c (closed H n short ∙ ap (λ (l : List ℕ). written w ++ l) (sym (early rest _ z m)))
+
+      -- its line feed comes later
+      long-line : (H : List ℕ) (n : ℕ) (line : List ℕ) (lines : List (List ℕ)) (rest : List ℕ) → heldBytes < length line → AllShort (shown w (line ∷ lines) rest)
+          → G (tooLong n H w) ≡ written w ++ view (line ∷ lines) (shown w (line ∷ lines) rest)
+      unfolding machineOf thenSay
+      long-line H n line lines rest m a =
+          let x : List ℕ = bytesSaid (saying (stage.closeOf (w .session .run) 1) (w .request) (w .buffer)) in
+          let r : length (w .request) * 2 < length line = omega (arith, good .sized .request) in
+          let y : length (w .reply) * 2 < length line = omega (arith, good .sized .reply) in
+          let e = long-says (w .session .run) line (w .request) (w .reply) (w .buffer) r y (good .fits) ∙ close-last (w .session .run) 1 (w .request) (w .buffer) in
+          let k : shown w (line ∷ lines) rest ≡ x ∷ [] = rw e in
+          let short : AllShort (x ∷ []) = subst AllShort k a in
+          closed H n (short .0) ∙ ap (λ (l : List ℕ). written w ++ l) (sym (ap (view (line ∷ lines)) k ∙ step line x lines [] ∙ rw (none lines) (append-nil (feedBytes x))))
+
+      turn-long : (H : List ℕ) (n : ℕ) → heldBytes < length (before w) + length (beforeFeed (drop (w .session .at) piece))
+          → Lays (λ v. G (tooLong n H v)) w (drop (w .session .at) piece ++ t)
+      turn-long H n long lines rest p q a z =
+          ⊎-elim
+          (λ c.
+          let e : [] ≡ lines = sym (p ∙ c .0) in
+          let m : heldBytes < length rest = subst (λ (l : List ℕ). heldBytes < length l) (sym q) (c .1) in
+          subst (λ (ls : List (List ℕ)). AllShort (shown w ls rest) → G (tooLong n H w) ≡ written w ++ view ls (shown w ls rest)) e (λ b. long-rest H n rest m b z) a)
+          (λ c.
+          subst (λ (ls : List (List ℕ)). AllShort (shown w ls rest) → G (tooLong n H w) ≡ written w ++ view ls (shown w ls rest)) (sym (p ∙ c .0)) (λ b. long-line H n _ _ rest (c .1) b) a)
+          (long-input (before w) (drop (w .session .at) piece) t heldBytes long)
+
+      -- one turn
+      turn : Lays (λ v. G (turnOf piece v)) w (drop (w .session .at) piece ++ t)
+      unfolding turnOf turnBy tookOf judgeOf if_then_else_
+      turn lines rest p q a z = by (ltb (length (w .held)) (w .session .have + length (beforeFeed (drop (w .session .at) piece)))) refl (leb (length piece - w .session .at) (length (beforeFeed (drop (w .session .at) piece)))) refl
+        where
+          s : List ℕ
+          s = drop (w .session .at) piece
+
+          k : ℕ
+          k = length (beforeFeed s)
+
+          H : List ℕ
+          H = lineTook piece (w .session .at) (w .held) (w .session .have)
+
+          size : length H ≡ heldBytes
+          size = length-held piece (w .held) (w .session .at) (w .session .have) ∙ good .sized .held
+
+          by : (f : Bool) → ltb (length (w .held)) (w .session .have + k) ≡ f → (g : Bool) → leb (length piece - w .session .at) k ≡ g
+              → G (turnBy (if f then took.Long else if g then took.More (w .session .have + k) else took.Line (w .session .have + k) (w .session .at + k + 1)) (length piece) H w)
+              ≡ written w ++ view lines (shown w lines rest)
+          by true e g d =
+              let l : length (before w) ≡ w .session .have = length-take-le (w .session .have) (w .held) (omega (arith, good .sized .held, good .room)) in
+              turn-long H (length piece) (omega (arith, ltb-true (length (w .held)) (w .session .have + k) e, good .sized .held)) lines rest p q a z
+          by false e true d =
+              let f : w .session .have + k ≤ length (w .held) = ltb-false (length (w .held)) (w .session .have + k) e in
+              let n : length s ≤ k = omega (arith, leb-true (length piece - w .session .at) k d, length-drop (w .session .at) piece) in
+              let b : beforeFeed s ≡ s = sym (take-before s) ∙ take-all k s n in
+              let h : take (w .session .have + k) H ≡ before w ++ s = held-after piece (w .held) (w .session .at) (w .session .have) f ∙ ap (λ (l : List ℕ). before w ++ l) b in
+              turn-more H (w .session .have + k) size (omega (arith, good .sized .held)) h n lines rest p q a z
+          by false e false d =
+              let f : w .session .have + k ≤ length (w .held) = ltb-false (length (w .held)) (w .session .have + k) e in
+              let n : k < length s = omega (arith, leb-false (length piece - w .session .at) k d, length-drop (w .session .at) piece) in
+              let h : take (w .session .have + k) H ≡ before w ++ beforeFeed s = held-after piece (w .held) (w .session .at) (w .session .have) f in
+              let m = lines-whole s (before w) n in
+              let next : ℕ = w .session .at + k + 1 in
+              let c : w .session .at + suc k ≡ next = omega arith in
+              let i : drop (suc k) s ≡ drop next piece = drop-drop (suc k) (w .session .at) piece ∙ ap (λ (j : ℕ). drop j piece) c in
+              let x : linesFrom (before w) (s ++ t) ≡ take (w .session .have + k) H ∷ linesFrom [] (drop next piece ++ t) =
+              lines-append s t (before w) ∙ rw (m .0, m .1, h, ← i) (ap (λ (l : List (List ℕ)). (before w ++ beforeFeed s) ∷ l) (sym (lines-append (drop (suc k) s) t []))) in
+              let y : restFrom (before w) (s ++ t) ≡ restFrom [] (drop next piece ++ t) =
+              rest-append s t (before w) ∙ rw (m .1, ← i) (sym (rest-append (drop (suc k) s) t [])) in
+              subst (λ (ls : List (List ℕ)). AllShort (shown w ls rest) → G (lineOf (take (w .session .have + k) H) next H w) ≡ written w ++ view ls (shown w ls rest)) (sym (p ∙ x))
+              (λ b. turn-line (take (w .session .have + k) H) H next (linesFrom [] (drop next piece ++ t)) rest size (omega arith) (omega (arith, length-drop (w .session .at) piece)) refl (q ∙ y) b z)
+              a
+
+  module _ (M : World → List ℕ) (off : (v : World) → v .session .on ≡ false → M v ≡ []) (piece t : List ℕ) (m : ℕ)
+      (go : (v : World) → Good v → m < v .session .at → v .session .at ≤ length piece → Gives M v (drop (v .session .at) piece ++ t)) where
+    -- the bytes that are laid, and those that come after them
+    abbrev both : World → List ℕ
+    both v = written v ++ M v
+
+    off-turns : (turns : ℕ) (v : World) → v .session .on ≡ false → both (turnsOf turns piece v) ≡ written v
+    unfolding turnsOf goesOn if_then_else_
+    off-turns zero v o = rw (off v o) (append-nil (written v))
+    off-turns (suc turns) v o =
+        let e : goesOn (v .session .on) (v .session .at) (length piece) (v .session .printed) (length (v .out)) ≡ false =
+        ap (λ (b : Bool). goesOn b (v .session .at) (length piece) (v .session .printed) (length (v .out))) o in
+        rw (e, off v o) (append-nil (written v))
+
+    -- turn after turn
+    turns-lay : (turns : ℕ) (w : World) → Good w → m < w .session .at → w .session .at ≤ length piece
+        → Lays (λ v. both (turnsOf turns piece v)) w (drop (w .session .at) piece ++ t)
+    unfolding turnsOf if_then_else_
+    turns-lay zero w good lt le lines rest p q a z = ap (λ (l : List ℕ). written w ++ l) (go w good lt le lines rest p q a z)
+    turns-lay (suc turns) w good lt le lines rest p q a z =
+        by (λ v g l k. turns-lay turns v g l k) (goesOn (w .session .on) (w .session .at) (length piece) (w .session .printed) (length (w .out))) refl
+      where
+        by : ((v : World) → Good v → m < v .session .at → v .session .at ≤ length piece → Lays (λ u. both (turnsOf turns piece u)) v (drop (v .session .at) piece ++ t))
+            → (f : Bool) → goesOn (w .session .on) (w .session .at) (length piece) (w .session .printed) (length (w .out)) ≡ f
+            → both (if f then turnsOf turns piece (turnOf piece w) else w) ≡ written w ++ view lines (shown w lines rest)
+        by next true e =
+            let g = goes-on-inside (w .session .on) (w .session .at) (length piece) (w .session .printed) (length (w .out)) e in
+            turn (λ v. both (turnsOf turns piece v)) (off-turns turns) piece t w good (g .1) (g .2) (λ v k l n. next v k (omega arith) n) lines rest p q a z
+        by next false e = ap (λ (l : List ℕ). written w ++ l) (go w good lt le lines rest p q a z)
+
+    -- one `take`: it makes a turn at least
+    pub take-gives : (w : World) → Good w → m ≡ w .session .at → w .session .at < length piece → Gives (λ v. both (takeOf piece v)) w (drop (w .session .at) piece ++ t)
+    unfolding takeOf turnsOf unprinted written goesOn if_then_else_
+    take-gives w good start inside lines rest p q a z = by (length piece) refl
+      where
+        fresh : World
+        fresh = world (unprinted (w .session)) (w .held) (w .request) (w .reply) (w .buffer) (w .out)
+
+        ready : Good fresh
+        ready = record {
+          sized = record { held = good .sized .held; request = good .sized .request; reply = good .sized .reply; buffer = good .sized .buffer; out = good .sized .out };
+          fits = good .fits;
+          room = good .room;
+          on = good .on;
+        }
+
+        room : 0 + lineBytes ≤ length (w .out)
+        room = omega (arith, good .sized .out)
+
+        goes : goesOn (w .session .on) (w .session .at) (length piece) 0 (length (w .out)) ≡ true
+        goes = rw (good .on, lt-ltb (w .session .at) (length piece) inside) (le-leb (0 + lineBytes) (length (w .out)) room)
+
+        by : (n : ℕ) → length piece ≡ n → both (turnsOf n piece fresh) ≡ view lines (shown w lines rest)
+        by zero e = absurd (omega arith)
+        by (suc turns) e =
+            rw goes
+            (turn (λ v. both (turnsOf turns piece v)) (off-turns turns) piece t fresh ready inside room (λ v g l k. turns-lay turns v g (omega arith) k) lines rest p q a z)
