@@ -1,4 +1,5 @@
 pub mod Lines
 pub mod Kept
+pub mod Machine
 pub mod Whole
 pub mod Room

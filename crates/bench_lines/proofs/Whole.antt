@@ -36,7 +36,8 @@ use Rattle.bench_stage.specs.declared.Run.the-variants as run
 use Rattle.bench_stage.specs.declared.End.the-variants as end
 use Rattle.bench_stage.specs.declared.Stage.{Stage}
 use Rattle.bench_lines.specs.Saying.{bytesSaid, showWrite, showRead, sayWrite, sayRead, sayOf}
-use Rattle.bench_lines.specs.Bench.{lineBytes, thenSay, closing, wroteThen, writeThen, writeLines, gotThen, readThen, readLines, writeRun, readRun, requestThen, benchOf, machineOf}
+use Rattle.bench_lines.specs.Bench.{lineBytes, thenSay, closing, wroteThen, writeThen, writeLines, gotThen, readThen, readLines, writeRun, readRun, requestThen, benchOf}
+use Rattle.bench_lines.proofs.Machine.{machineOf}
 use Rattle.bench_lines.proofs.Lines.{decoded-line}
 use Rattle.bench_lines.proofs.Kept.{length-decoded, length-after, filled-front, length-filled, payload-in}
 

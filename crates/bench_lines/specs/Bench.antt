@@ -23,9 +23,7 @@ use Rattle.requests.specs.declared.request.Request.{Request}
 use Rattle.requests.specs.declared.request.Request.the-variants as request
 use Rattle.printing.specs.Printing.{endSaid, openSaid}
 use Rattle.bench_calls.specs.Calls.{writeStart, readStart}
-use Rattle.bench_stage.specs.Stage.{feedOf, requestAfter, replyAfter, bufferAfter, closeOf}
-use Rattle.bench_stage.specs.declared.Run.{Run}
-use Rattle.bench_lines.specs.Saying.{Saying, asked, last, bytesSaid, showWrite, showRead, sayOf}
+use Rattle.bench_lines.specs.Saying.{Saying, asked, last, showWrite, showRead}
 
 -- the bytes of a line; one that is no hexadecimal has none, and is as bad as an empty one
 unfoldable pub lineBytes : List ℕ → List ℕ
@@ -89,13 +87,3 @@ requestThen request.Bad bytes lines rest = endSaid answer.BadLine 0 [] ∷ []
 unfoldable pub benchOf : List (List ℕ) → List ℕ → List (List ℕ)
 benchOf [] rest = endSaid answer.BadLine 0 [] ∷ []
 benchOf (line ∷ lines) rest = requestThen (requestLine (lineBytes line)) (lineBytes line) lines rest
-
--- the proved functions one after the other: `feed` and `say` for each line, `close` and `say` at the end
-unfoldable pub machineOf : Run → List ℕ → List ℕ → List ℕ → List (List ℕ) → List ℕ → List (List ℕ)
-machineOf r request reply buffer [] rest = bytesSaid (sayOf (closeOf r (length rest) .run) (closeOf r (length rest) .end) request buffer) ∷ []
-machineOf r request reply buffer (line ∷ lines) rest =
-    thenSay
-    (sayOf (feedOf r line request reply (length buffer) .run) (feedOf r line request reply (length buffer) .end) (requestAfter r line request)
-    (bufferAfter r line request reply buffer))
-    (machineOf (feedOf r line request reply (length buffer) .run) (requestAfter r line request) (replyAfter r line reply)
-    (bufferAfter r line request reply buffer) lines rest)

@@ -5,10 +5,11 @@ use mathlib.Core.Path.{_≡_, refl, sym, ap, _∙_}
 use mathlib.Core.Bool.{Bool, true, false}
 use mathlib.Core.List.{List, [], _∷_, _++_}
 use native.Mathlib.Omega.{arith}
-use lib.ListN.{length, getD}
+use lib.ListN.{length}
 use lib.Dec.{ltb, eqb}
 use borrow.Author.Tests.{ltb-true, ltb-false, eqb-false}
 use Rattle.protocol.specs.Pick.{if_then_else_}
+use Rattle.hex.specs.BothWays.{AllBytes, BothWays}
 use Rattle.hex.specs.Hex.{valueOf, pairOf, bytesOf, decodedOf, digitOf, hexOf}
 use Rattle.hex.specs.declared.Decoded.the-variants as decoded
 use Rattle.hex.proofs.Cases.{cases}
@@ -58,7 +59,7 @@ good b s t h e =
     search cases
 
 -- bytes come back from their digits
-pub bytes-hex : (s : List ℕ) → ((k : ℕ) → getD s k 0 < 256) → bytesOf (hexOf s) ≡ s
+bytes-hex : (s : List ℕ) → AllBytes s → bytesOf (hexOf s) ≡ s
 unfolding bytesOf hexOf
 bytes-hex [] h = refl
 bytes-hex (b ∷ s) h =
@@ -117,7 +118,7 @@ pair-digits high low = by₁ (ltb 15 (valueOf high)) refl
     by₁ false e h = by₂ (ltb 15 (valueOf low)) refl (ltb-false 15 (valueOf high) e) h
 
 -- digits come back from their bytes, where every pair is good
-pub hex-bytes : (s : List ℕ) → length s ≡ length (bytesOf s) * 2 → hexOf (bytesOf s) ≡ s
+hex-bytes : (s : List ℕ) → length s ≡ length (bytesOf s) * 2 → hexOf (bytesOf s) ≡ s
 unfolding bytesOf hexOf if_then_else_
 hex-bytes [] h = refl
 hex-bytes (d ∷ []) h = absurd (omega arith)
@@ -153,30 +154,51 @@ decoded-even s room n e fits whole =
     sym (search cases)
 
 -- decoding what was encoded is accepted, and gives the bytes
-pub decode-encode : (s : List ℕ) (room : ℕ) → ((k : ℕ) → getD s k 0 < 256) → length s ≤ room → (decodedOf (hexOf s) room ≡ decoded.Bytes (length s)) × (bytesOf (hexOf s) ≡ s)
+decode-encode : (s : List ℕ) (room : ℕ) → AllBytes s → length s ≤ room → (decodedOf (hexOf s) room ≡ decoded.Bytes (length s)) × (bytesOf (hexOf s) ≡ s)
 decode-encode s room h fits = (accepted, bytes-hex s h)
   where
     accepted : decodedOf (hexOf s) room ≡ decoded.Bytes (length s)
     accepted = decoded-even (hexOf s) room (length s) (length-hex s) fits (omega (arith, ap length (bytes-hex s h)))
 
+-- what decoding gives are bytes
+bytes-small : (s : List ℕ) → AllBytes (bytesOf s)
+unfolding bytesOf if_then_else_
+bytes-small [] k = omega arith
+bytes-small (d ∷ []) k = omega arith
+bytes-small (high ∷ low ∷ s) k = by (bytes-small s) (ltb 255 (pairOf high low)) refl k
+  where
+    by : AllBytes (bytesOf s) → (t : Bool) → ltb 255 (pairOf high low) ≡ t → AllBytes (if t then [] else pairOf high low ∷ bytesOf s)
+    by rest true e k = omega arith
+    by rest false e zero = omega (arith, ltb-false 255 (pairOf high low) e)
+    by rest false e (suc k) = rest k
+
 -- encoding what was accepted gives the digits
-pub encode-decode : (s : List ℕ) (room n : ℕ) → decodedOf s room ≡ decoded.Bytes n → hexOf (bytesOf s) ≡ s
+encode-decode : (s : List ℕ) (room n : ℕ) → decodedOf s room ≡ decoded.Bytes n
+    → (hexOf (bytesOf s) ≡ s) × AllBytes (bytesOf s) × (length (bytesOf s) ≡ n) × (n ≤ room)
 unfolding decodedOf if_then_else_
 encode-decode s room n = by₁ (eqb (length s % 2) 1) refl
   where
-    by₃ : (t : Bool) → ltb (length (bytesOf s)) (length s / 2) ≡ t → (length s % 2 ≡ 1 → ⊥) → (if t then decoded.Bad else decoded.Bytes (length s / 2)) ≡ decoded.Bytes n → hexOf (bytesOf s) ≡ s
-    by₃ true e even q = absurd (let z : _≡_ {A = ℕ} 0 1 = cc in omega arith)
-    by₃ false e even q =
+    by₃ : (t : Bool) → ltb (length (bytesOf s)) (length s / 2) ≡ t → (length s % 2 ≡ 1 → ⊥) → length s / 2 ≤ room
+        → (if t then decoded.Bad else decoded.Bytes (length s / 2)) ≡ decoded.Bytes n
+        → (hexOf (bytesOf s) ≡ s) × AllBytes (bytesOf s) × (length (bytesOf s) ≡ n) × (n ≤ room)
+    by₃ true e even fits q = absurd (let z : _≡_ {A = ℕ} 0 1 = cc in omega arith)
+    by₃ false e even fits q =
         let whole : length s / 2 ≤ length (bytesOf s) = ltb-false (length (bytesOf s)) (length s / 2) e in
-        hex-bytes s (omega (arith, length-bytes s, even))
+        let half : length s / 2 ≡ n = cc in
+        (hex-bytes s (omega (arith, length-bytes s, even)), bytes-small s, omega (arith, length-bytes s, even), omega arith)
 
-    by₂ : (t : Bool) → (length s % 2 ≡ 1 → ⊥)
-        → (if t then decoded.TooLong else if ltb (length (bytesOf s)) (length s / 2) then decoded.Bad else decoded.Bytes (length s / 2)) ≡ decoded.Bytes n → hexOf (bytesOf s) ≡ s
-    by₂ true even q = absurd (let z : _≡_ {A = ℕ} 0 1 = cc in omega arith)
-    by₂ false even q = by₃ (ltb (length (bytesOf s)) (length s / 2)) refl even q
+    by₂ : (t : Bool) → ltb room (length s / 2) ≡ t → (length s % 2 ≡ 1 → ⊥)
+        → (if t then decoded.TooLong else if ltb (length (bytesOf s)) (length s / 2) then decoded.Bad else decoded.Bytes (length s / 2)) ≡ decoded.Bytes n
+        → (hexOf (bytesOf s) ≡ s) × AllBytes (bytesOf s) × (length (bytesOf s) ≡ n) × (n ≤ room)
+    by₂ true e even q = absurd (let z : _≡_ {A = ℕ} 0 1 = cc in omega arith)
+    by₂ false e even q = by₃ (ltb (length (bytesOf s)) (length s / 2)) refl even (ltb-false room (length s / 2) e) q
 
     by₁ : (t : Bool) → eqb (length s % 2) 1 ≡ t
         → (if t then decoded.Bad else if ltb room (length s / 2) then decoded.TooLong else if ltb (length (bytesOf s)) (length s / 2) then decoded.Bad else decoded.Bytes (length s / 2)) ≡ decoded.Bytes n
-        → hexOf (bytesOf s) ≡ s
+        → (hexOf (bytesOf s) ≡ s) × AllBytes (bytesOf s) × (length (bytesOf s) ≡ n) × (n ≤ room)
     by₁ true e q = absurd (let z : _≡_ {A = ℕ} 0 1 = cc in omega arith)
-    by₁ false e q = by₂ (ltb room (length s / 2)) (eqb-false (length s % 2) 1 e) q
+    by₁ false e q = by₂ (ltb room (length s / 2)) refl (eqb-false (length s % 2) 1 e) q
+
+-- the statement
+pub both-ways : BothWays
+both-ways = record { bytes-digits-bytes = decode-encode; digits-bytes-digits = encode-decode }

@@ -19,9 +19,10 @@ use Rattle.pieces.proofs.Any.{lines-append, rest-append, lines-more, lines-whol
 use Rattle.bench_stage.specs.Stage as stage
 use Rattle.bench_stage.specs.declared.Run.{Run}
 use Rattle.bench_lines.specs.Saying.{Saying, asked, last, bytesSaid, saidOf}
-use Rattle.bench_lines.specs.Bench.{thenSay, machineOf}
+use Rattle.bench_lines.specs.Bench.{thenSay}
+use Rattle.bench_lines.proofs.Machine.{machineOf}
 use Rattle.bench_lines.proofs.Room.{Short, AllShort, printed-whole}
-use Rattle.session.specs.Session.{World, world, heldBytes, lineBytes, Sized, moreOf, saidSession, printOf, printOut, laidOf, lineOf, turnBy, turnOf, goesOn, turnsOf, unprinted, takeOf}
+use Rattle.session.specs.Session.{World, world, heldBytes, lineBytes, Sized, moreOf, saidSession, printOf, printOut, laidOf, lineOf, turnBy, turnOf, goesOn, turnsOf, atByte, takeOf}
 use Rattle.session.specs.Output.{written}
 use Rattle.session.proofs.Laws.{goes-on-inside}
 use Rattle.session.proofs.Kept.{Fits, fits-feed, length-request, length-reply, length-buffer, length-laid, length-held}
@@ -274,11 +275,11 @@ module _ (view : List (List ℕ) → List (List ℕ) → List ℕ) (Ends : List 
 
     -- one `take`: it makes a turn at least
     pub take-gives : (w : World) → Good w → m ≡ w .session .at → w .session .at < length piece → Gives (λ v. both (takeOf piece v)) w (drop (w .session .at) piece ++ t)
-    unfolding takeOf turnsOf unprinted written goesOn if_then_else_
+    unfolding takeOf turnsOf atByte written goesOn if_then_else_
     take-gives w good start inside lines rest p q a z = by (length piece) refl
       where
         fresh : World
-        fresh = world (unprinted (w .session)) (w .held) (w .request) (w .reply) (w .buffer) (w .out)
+        fresh = world (atByte (w .session) (w .session .at)) (w .held) (w .request) (w .reply) (w .buffer) (w .out)
 
         ready : Good fresh
         ready = record {

@@ -16,12 +16,13 @@ use Rattle.pieces.specs.Pieces.{linesFrom, restFrom}
 use Rattle.bench_stage.specs.Stage as stage
 use Rattle.bench_stage.specs.declared.Run.{Run}
 use Rattle.bench_stage.specs.declared.Run.the-variants as run
-use Rattle.bench_lines.specs.Bench.{machineOf, benchOf}
+use Rattle.bench_lines.specs.Bench.{benchOf}
+use Rattle.bench_lines.proofs.Machine.{machineOf}
 use Rattle.bench_lines.proofs.Whole.{whole}
 use Rattle.bench_lines.specs.Saying.{bytesSaid}
 use Rattle.bench_lines.proofs.Room.{Short, AllShort, all-short}
 use Rattle.session.specs.declared.Session.{Session}
-use Rattle.session.specs.Session.{World, world, heldBytes, lineBytes, Sized, startOf, nextPiece, unprinted, printOf, printOut, turnOf, goesOn, turnsOf, takeOf, endSession, endOut, endOf}
+use Rattle.session.specs.Session.{World, world, heldBytes, lineBytes, Sized, startOf, atByte, printOf, printOut, turnOf, goesOn, turnsOf, takeOf, endSession, endOut, endOf}
 use Rattle.session.specs.Output.{feeds, printed, early, printedSoFar, written, pieceOut, piecesOut, bytesOut, bytesSoFar, concat, WholeBench}
 use Rattle.session.proofs.Kept.{Fits}
 use Rattle.session.proofs.Long.{saying}
@@ -41,7 +42,7 @@ module _ (view : List (List ℕ) → List (List ℕ) → List ℕ) (Ends : List 
   off-piece (suc takes) piece w more off o = rw o
 
   off-pieces : (pieces : List (List ℕ)) (w : World) → w .session .on ≡ false → piecesOut final pieces w ≡ []
-  unfolding piecesOut nextPiece if_then_else_
+  unfolding piecesOut atByte if_then_else_
   off-pieces [] w o = rw o
   off-pieces (piece ∷ pieces) w o = off-piece (length piece) piece _ (piecesOut final pieces) (off-pieces pieces) o
 
@@ -71,13 +72,13 @@ module _ (view : List (List ℕ) → List (List ℕ) → List ℕ) (Ends : List 
       by next false e = used-up piece t more gives w good (ltb-false (w .session .at) (length piece) e) lines rest p q a z
 
   pieces-give : (pieces : List (List ℕ)) (w : World) → Good w → Gives view Ends step none early (piecesOut final pieces) w (concat pieces)
-  unfolding piecesOut nextPiece concat linesFrom restFrom if_then_else_
+  unfolding piecesOut atByte concat linesFrom restFrom if_then_else_
   pieces-give [] w good lines rest p q a z =
       let e = subst (λ (ls : List (List ℕ)). AllShort (shown w ls rest) → final w ≡ view ls (shown w ls rest)) (sym p) (λ b. close w rest good z q b) a in
       sym (is-true (w .session .on) _ _ _ (good .on) (sym e))
   pieces-give (piece ∷ pieces) w good lines rest p q a z =
       takes-give (length piece) piece (concat pieces) (piecesOut final pieces) (off-pieces pieces) (λ v g. pieces-give pieces v g)
-      (world (nextPiece (w .session)) (w .held) (w .request) (w .reply) (w .buffer) (w .out))
+      (world (atByte (w .session) 0) (w .held) (w .request) (w .reply) (w .buffer) (w .out))
       (record {
         sized = record { held = good .sized .held; request = good .sized .request; reply = good .sized .reply; buffer = good .sized .buffer; out = good .sized .out };
         fits = good .fits;
@@ -158,11 +159,11 @@ turns-stay (suc turns) piece w = by (turns-stay turns piece (turnOf piece w)) (g
     by next false e = omega arith
 
 take-uses : (piece : List ℕ) (w : World) → Sized w → w .session .on ≡ true → w .session .at < length piece → w .session .at < takeOf piece w .session .at
-unfolding takeOf turnsOf unprinted goesOn if_then_else_
+unfolding takeOf turnsOf atByte goesOn if_then_else_
 take-uses piece w sized o inside = by (length piece) refl
   where
     fresh : World
-    fresh = world (unprinted (w .session)) (w .held) (w .request) (w .reply) (w .buffer) (w .out)
+    fresh = world (atByte (w .session) (w .session .at)) (w .held) (w .request) (w .reply) (w .buffer) (w .out)
 
     room : 0 + lineBytes ≤ length (w .out)
     room = omega (arith, sized .out)

@@ -10,7 +10,7 @@ use Rattle.protocol.specs.Pick.{if_then_else_}
 use Rattle.pieces.specs.Pieces.{linesFrom, restFrom}
 use Rattle.printing.specs.Printing.{feedBytes}
 use Rattle.bench_lines.specs.Bench.{benchOf}
-use Rattle.session.specs.Session.{World, world, heldBytes, Sized, startOf, nextPiece, takeOf, endOf}
+use Rattle.session.specs.Session.{World, world, heldBytes, Sized, startOf, atByte, takeOf, endOf}
 
 -- lines as they are written: each in upper-case hexadecimal, with its line feed
 unfoldable pub feeds : List (List ℕ) → List ℕ
@@ -46,7 +46,7 @@ pieceOut (suc takes) piece w more =
 unfoldable pub piecesOut : (World → List ℕ) → List (List ℕ) → World → List ℕ
 piecesOut last [] w = if w .session .on then last w else []
 piecesOut last (piece ∷ pieces) w =
-    pieceOut (length piece) piece (world (nextPiece (w .session)) (w .held) (w .request) (w .reply) (w .buffer) (w .out)) (piecesOut last pieces)
+    pieceOut (length piece) piece (world (atByte (w .session) 0) (w .held) (w .request) (w .reply) (w .buffer) (w .out)) (piecesOut last pieces)
 
 -- what the program writes for an input that comes in these pieces
 unfoldable pub bytesOut : List (List ℕ) → World → List ℕ

@@ -56,13 +56,9 @@ pub record Sized (w : World) : Type 0 where
 unfoldable pub startOf : Session
 startOf = record { run = run.Nothing; have = 0; at = 0; printed = 0; on = true }
 
--- a new piece
-unfoldable pub nextPiece : Session → Session
-nextPiece s = record { run = s .run; have = s .have; at = 0; printed = 0; on = s .on }
-
--- what was laid is written
-unfoldable pub unprinted : Session → Session
-unprinted s = record { run = s .run; have = s .have; at = s .at; printed = 0; on = s .on }
+-- at a byte of its piece, with nothing laid
+unfoldable pub atByte : Session → ℕ → Session
+atByte s at = record { run = s .run; have = s .have; at = at; printed = 0; on = s .on }
 
 -- a piece of n bytes that is used up, with so many bytes laid
 unfoldable pub moreOf : Run → ℕ → ℕ → ℕ → Session
@@ -122,11 +118,11 @@ turnsOf (suc turns) piece w =
 -- the lines of a piece, once what was laid before is written; a turn for each byte is enough
 unfoldable pub takeOf : List ℕ → World → World
 takeOf piece w =
-    turnsOf (length piece) piece (world (unprinted (w .session)) (w .held) (w .request) (w .reply) (w .buffer) (w .out))
+    turnsOf (length piece) piece (world (atByte (w .session) (w .session .at)) (w .held) (w .request) (w .reply) (w .buffer) (w .out))
 
 -- the input has ended: a last line, unless the run is over
 unfoldable pub endSession : Session → List ℕ → List ℕ → ℕ → Session
-endSession s request buffer n = if s .on then printOf (closeOf (s .run) (s .have)) (s .at) 0 request buffer n else unprinted s
+endSession s request buffer n = if s .on then printOf (closeOf (s .run) (s .have)) (s .at) 0 request buffer n else atByte s (s .at)
 
 unfoldable pub endOut : Session → List ℕ → List ℕ → List ℕ → List ℕ
 endOut s request buffer out = if s .on then printOut (closeOf (s .run) (s .have)) 0 request buffer out else out

@@ -12,7 +12,7 @@ ghost use mathlib.Core.Path.{_≡_};
 ghost use Prim.Native.Nat.{_+_, _≤_};
 ghost use lib.ListN.{length};
 ghost use lib.Dec.{leb};
-ghost use Rattle.session.specs.Session.{world, lineBytes, Sized, startOf, nextPiece, unprinted, goesOn, printOf, printOut, turnOf, turnsOf, takeOf, endSession, endOut};
+ghost use Rattle.session.specs.Session.{world, lineBytes, Sized, startOf, atByte, goesOn, printOf, printOut, turnOf, turnsOf, takeOf, endSession, endOut};
 
 // The sizes of what is lent. Each has room for the longest that it may hold: a line's digits, the bytes of a request and of an outcome, and a reading
 // call's buffer.
@@ -56,32 +56,25 @@ pub fn start() -> Session
     }
 }
 
-// A new piece, which is read from its first byte on.
-pub fn next_piece(session: Session) -> Session
-    ensures { λ r. ⌜ r ≡ nextPiece session ⌝ }
+// The session at a byte of its piece, with nothing laid.
+fn at_byte(session: Session, at: usize) -> Session
+    ensures { λ r. ⌜ r ≡ atByte session at ⌝ }
 {
     let run = session.run;
     Session {
         run,
         have: session.have,
-        at: 0,
+        at,
         printed: 0,
         on: session.on,
     }
 }
 
-// What was laid is written, and `out` is free again.
-fn written(session: Session) -> Session
-    ensures { λ r. ⌜ r ≡ unprinted session ⌝ }
+// A new piece, which is read from its first byte on. What was laid is written.
+pub fn next_piece(session: Session) -> Session
+    ensures { λ r. ⌜ r ≡ atByte session 0 ⌝ }
 {
-    let run = session.run;
-    Session {
-        run,
-        have: session.have,
-        at: session.at,
-        printed: 0,
-        on: session.on,
-    }
+    at_byte(session, 0)
 }
 
 // Whether the longest line has room after what is laid.
@@ -194,7 +187,7 @@ fn turns(
     here
 }
 
-// The lines of a piece from where it goes on, up to the end of the run, while what they print has room in `out`.
+// The lines of a piece from where it goes on, up to the end of the run, while what they print has room in `out`. What was laid before is written.
 pub fn take(
     session: Session,
     piece: &[u8],
@@ -206,7 +199,7 @@ pub fn take(
 ) -> Session
     ensures { λ r. ⌜ (world r (now (held .exit)) (now (request .exit)) (now (reply .exit)) (now (buffer .exit)) (now (out .exit)) ≡ takeOf (now (piece .entry)) (world session (now (held .entry)) (now (request .entry)) (now (reply .entry)) (now (buffer .entry)) (now (out .entry)))) × Sized (world session (now (held .entry)) (now (request .entry)) (now (reply .entry)) (now (buffer .entry)) (now (out .entry))) ⌝ }
 {
-    turns(written(session), piece, held, request, reply, buffer, out)
+    turns(at_byte(session, session.at), piece, held, request, reply, buffer, out)
 }
 
 // The input has ended.
@@ -229,6 +222,6 @@ pub fn end(
             out,
         )
     } else {
-        written(session)
+        at_byte(session, session.at)
     }
 }

@@ -15,8 +15,8 @@ close-requires c κs = search needs
 print-requires : tie.Need-print-requires
 print-requires c κs = search needs
 
-written-requires : tie.Need-written-requires
-written-requires c κs = search needs
+at-byte-requires : tie.Need-at-byte-requires
+at-byte-requires c κs = search needs
 
 returns : tie.Need-returns
 unfolding endSession endOut if_then_else_
@@ -31,4 +31,4 @@ unfolding endSession endOut
 returns-2 c = search cases
 
 pub end-spec : {M : Type 1} → statement M
-end-spec = tie.close (tie.spec close-requires print-requires written-requires returns returns-2)
+end-spec = tie.close (tie.spec close-requires print-requires at-byte-requires returns returns-2)
