@@ -199,7 +199,15 @@ pub fn take(
 ) -> Session
     ensures { λ r. ⌜ (world r (now (held .exit)) (now (request .exit)) (now (reply .exit)) (now (buffer .exit)) (now (out .exit)) ≡ takeOf (now (piece .entry)) (world session (now (held .entry)) (now (request .entry)) (now (reply .entry)) (now (buffer .entry)) (now (out .entry)))) × Sized (world session (now (held .entry)) (now (request .entry)) (now (reply .entry)) (now (buffer .entry)) (now (out .entry))) ⌝ }
 {
-    turns(at_byte(session, session.at), piece, held, request, reply, buffer, out)
+    turns(
+        at_byte(session, session.at),
+        piece,
+        held,
+        request,
+        reply,
+        buffer,
+        out,
+    )
 }
 
 // The input has ended.
