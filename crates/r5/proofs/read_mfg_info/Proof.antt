@@ -2,7 +2,7 @@
 -- Assumes nothing.
 use Prim.Native.Nat.{_-_}
 use borrow.Author.Needs.{needs}
-use Rattle.r5.specs.Plans.{infoRead}
+use Rattle.r5.specs.Plans.{readMfgInfo}
 use Rattle.r5.proofs.read_mfg_info.Statement.{statement}
 use Rattle.r5.proofs.read_mfg_info.Tie as tie
 
@@ -25,7 +25,7 @@ start-requires : tie.Need-start-requires
 start-requires c κs = search needs
 
 returns : tie.Need-returns
-unfolding infoRead
+unfolding readMfgInfo
 returns c = cc
 
 pub read-mfg-info-spec : {M : Type 1} → statement M

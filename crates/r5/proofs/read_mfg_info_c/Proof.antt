@@ -2,7 +2,7 @@
 -- Assumes nothing.
 use Prim.Native.Nat.{_-_}
 use borrow.Author.Needs.{needs}
-use Rattle.r5.specs.Plans.{infoCRead}
+use Rattle.r5.specs.Plans.{readMfgInfoC}
 use Rattle.r5.proofs.read_mfg_info_c.Statement.{statement}
 use Rattle.r5.proofs.read_mfg_info_c.Tie as tie
 
@@ -16,7 +16,7 @@ start-requires : tie.Need-start-requires
 start-requires c κs = search needs
 
 returns : tie.Need-returns
-unfolding infoCRead
+unfolding readMfgInfoC
 returns c = cc
 
 pub read-mfg-info-c-spec : {M : Type 1} → statement M
