@@ -11,7 +11,7 @@ start-requires c κs = search needs
 
 returns : tie.Need-returns
 unfolding readDataflash
-returns c = cc
+returns c = rw (c .start .ensures)
 
 pub read-dataflash-spec : {M : Type 1} → statement M
 read-dataflash-spec = tie.close (tie.spec start-requires returns)

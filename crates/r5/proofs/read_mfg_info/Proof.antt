@@ -26,7 +26,7 @@ start-requires c κs = search needs
 
 returns : tie.Need-returns
 unfolding readMfgInfo
-returns c = cc
+returns c = rw (c .start .ensures, c .before .plain2 .ensures, c .before .before .plain .ensures, c .before .before .before .whole .ensures)
 
 pub read-mfg-info-spec : {M : Type 1} → statement M
 read-mfg-info-spec =

@@ -17,7 +17,7 @@ start-requires c κs = search needs
 
 returns : tie.Need-returns
 unfolding readMfgInfoC
-returns c = cc
+returns c = rw (c .start .ensures, c .before .mac .ensures, c .before .before .whole .ensures)
 
 pub read-mfg-info-c-spec : {M : Type 1} → statement M
 read-mfg-info-c-spec = tie.close (tie.spec whole-requires mac-requires start-requires returns)

@@ -17,7 +17,7 @@ start-requires c κs = search needs
 
 returns : tie.Need-returns
 unfolding sendAccessKey
-returns c = cc
+returns c = rw (c .start .ensures, c .before .before .new .ensures)
 
 pub send-access-key-spec : {M : Type 1} → statement M
 send-access-key-spec =

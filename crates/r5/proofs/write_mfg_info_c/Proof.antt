@@ -14,7 +14,7 @@ start-requires c κs = search needs
 
 returns : tie.Need-returns
 unfolding writeMfgInfoC
-returns c = cc
+returns c = rw (c .start .ensures, c .before .new .ensures)
 
 pub write-mfg-info-c-spec : {M : Type 1} → statement M
 write-mfg-info-c-spec = tie.close (tie.spec new-requires start-requires returns)
