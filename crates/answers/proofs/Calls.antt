@@ -7,7 +7,7 @@ use Rattle.protocol.specs.declared.common.Config.{Config}
 use Rattle.writing.specs.Writing as writing
 use Rattle.reading.specs.Reading as reading
 use Rattle.interface.specs.Plans.{plainLimit, writeWithRetries, writeRegister, readRegister, dispatchCommand, readBuffer, writeBuffer}
-use Rattle.r5.specs.Plans.{macRead, macWrite, infoCRead, infoRead, infoWrite, accessKey, infoCWrite, flashRead, flashWrite}
+use Rattle.r5.specs.Plans.{macRead, macWrite, sendAccessKey, writeMfgInfoC, readMfgInfoC, writeMfgInfo, readMfgInfo, readDataflash, writeDataflash}
 use Rattle.answers.specs.Calls.{Admitted, Limits}
 
 pub starts-as : Admitted
@@ -15,7 +15,7 @@ unfolding writing.startOf reading.startOf
 starts-as = record { writing = λ plan n w. refl; reading = λ plan n w. refl }
 
 pub limits : (config : Config) → Limits config
-unfolding plainLimit writeWithRetries writeRegister readRegister dispatchCommand readBuffer writeBuffer macRead macWrite infoCRead infoRead infoWrite accessKey infoCWrite flashRead flashWrite writing.planOf reading.plainPlan reading.macPlan if_then_else_
+unfolding plainLimit writeWithRetries writeRegister readRegister dispatchCommand readBuffer writeBuffer macRead macWrite sendAccessKey writeMfgInfoC readMfgInfoC writeMfgInfo readMfgInfo readDataflash writeDataflash writing.planOf reading.plainPlan reading.macPlan if_then_else_
 limits config = record {
   writesWithPec = λ e. rw e;
   writesPlain = λ e. rw e;
@@ -25,8 +25,12 @@ limits config = record {
   dispatches = λ address input n. refl;
   readsBuffer = λ address n. refl;
   writesBuffer = λ address. refl;
-  readsKeys = λ command size. refl;
-  writesKeys = λ command size. refl;
+  readsSecurityKeys = refl;
+  writesSecurityKeys = refl;
+  readsAuthenticationKey = refl;
+  writesAuthenticationKey = refl;
+  readsOverride = refl;
+  writesOverride = refl;
   sendsKey = λ lower upper. refl;
   writesInfoC = λ lower upper. refl;
   readsInfoC = λ n. refl;

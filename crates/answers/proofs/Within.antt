@@ -36,7 +36,7 @@ use Rattle.reading.specs.declared.parts.Head.the-variants as head
 use Rattle.reading.specs.declared.call.ReadPlan.{ReadPlan}
 use Rattle.reading.specs.declared.call.ReadCall.{ReadCall}
 use Rattle.interface.specs.Plans.{plainLimit, writeWithRetries, writeRegister, readRegister, commandReads, dispatchCommand, readBuffer, writeBuffer}
-use Rattle.r5.specs.Plans.{wholeAsk, macRead, macWrite, infoCRead, infoRead, infoWrite, accessKey, infoCWrite, flashRead, flashWrite}
+use Rattle.r5.specs.Plans.{macRead, macWrite, wholeAsk, sendAccessKey, writeMfgInfoC, readMfgInfoC, writeMfgInfo, readMfgInfo, readDataflash, writeDataflash}
 use Rattle.answers.specs.Runs.{WriteReport, feedW, TameW, ReadReport, Reader, feedR, TameR}
 use Rattle.answers.specs.Within.{Inside, WritesBy, write-with-retries, write-register, write-register-unchecked, write-buffer, write-security-keys, write-authentication-key, write-charging-voltage-override, send-access-key, write-mfg-info-c, write-mfg-info, write-dataflash, WritesOn, WritesWithin, ReadsBy, read-register, read-buffer, dispatch-command, read-security-keys, read-authentication-key, read-charging-voltage-override, read-mfg-info-c, read-mfg-info, read-dataflash, ReadsOn, ReadsWithin, Within}
 use Rattle.answers.proofs.Calls.{starts-as}
@@ -97,7 +97,7 @@ module _ (config : Config) (payload : List ℕ) where
       record { some = omega arith; few = omega arith; room = λ i. inl (refl, e); inside = λ i h. subst (λ (l : Limit). Inside l (length payload) i) (sym q) tt }
 
   sane : (plan : WritePlan) → WritesBy config plan → Fits (plan .limit) (length payload) → Sane plan payload
-  unfolding writeRegister writeBuffer macWrite accessKey infoCWrite infoWrite flashWrite writing.planOf frames.countOf frames.isPlain frames.bytesAt registerBytes infoBytes
+  unfolding writeRegister writeBuffer macWrite sendAccessKey writeMfgInfoC writeMfgInfo writeDataflash writing.planOf frames.countOf frames.isPlain frames.bytesAt registerBytes infoBytes
   sane plan (write-with-retries) h = plain-sane (config .«pec_write») refl h
   sane plan (write-register address) h = one-frame plan refl (λ i. omega arith) (λ i. tt)
   sane plan (write-register-unchecked address) h = one-frame plan refl (λ i. omega arith) (λ i. tt)
@@ -162,7 +162,7 @@ idle-write plan payload w a call q e =
     }
 
 retries-write : (config : Config) (plan : WritePlan) → WritesBy config plan → plan .retries ≡ config .«max_bus_retries»
-unfolding writeWithRetries writeRegister writeBuffer macWrite accessKey infoCWrite infoWrite flashWrite writing.planOf
+unfolding writeWithRetries writeRegister writeBuffer macWrite sendAccessKey writeMfgInfoC writeMfgInfo writeDataflash writing.planOf
 retries-write config plan (write-with-retries) = refl
 retries-write config plan (write-register address) = refl
 retries-write config plan (write-register-unchecked address) = refl
@@ -236,7 +236,7 @@ module _ (config : Config) (n : ℕ) where
       by false t = record { few = rw t (omega arith); bare = λ h. rw t (omega arith); inside = λ i h. tt; asks = λ i. rw t (omega arith) }
 
   sane-read : (plan : ReadPlan) → ReadsBy config n plan → Fits (plan .limit) n → SaneRead plan n
-  unfolding readRegister readBuffer macRead infoCRead infoRead flashRead reading.plainPlan reading.macPlan parts.countOf parts.askOf parts.hasHead reply.plainAsk reply.macAsk
+  unfolding readRegister readBuffer macRead readMfgInfoC readMfgInfo readDataflash reading.plainPlan reading.macPlan parts.countOf parts.askOf parts.hasHead reply.plainAsk reply.macAsk
   sane-read plan (read-register address) h = one-read plan refl (λ i. tt) (λ i. omega arith)
   sane-read plan (read-buffer address) h = one-read plan refl (λ i. tt) (λ i. omega arith)
   sane-read plan (dispatch-command address input) h = command-sane address input
@@ -253,7 +253,7 @@ module _ (config : Config) (n : ℕ) where
   }
 
 retries-read : (config : Config) (n : ℕ) (plan : ReadPlan) → ReadsBy config n plan → plan .retries ≡ config .«max_bus_retries»
-unfolding readRegister readBuffer dispatchCommand macRead infoCRead infoRead flashRead reading.plainPlan reading.macPlan
+unfolding readRegister readBuffer dispatchCommand macRead readMfgInfoC readMfgInfo readDataflash reading.plainPlan reading.macPlan
 retries-read config n plan (read-register address) = refl
 retries-read config n plan (read-buffer address) = refl
 retries-read config n plan (dispatch-command address input) = refl

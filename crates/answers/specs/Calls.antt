@@ -5,7 +5,6 @@ use mathlib.Core.Path.{_≡_}
 use mathlib.Core.Bool.{true, false}
 use Rattle.protocol.specs.Common.{noPec}
 use Rattle.protocol.specs.declared.common.Config.{Config}
-use Rattle.protocol.specs.declared.frame.MacCommand.{MacCommand}
 use Rattle.engine.specs.Limit.{admitted}
 use Rattle.engine.specs.declared.limit.Limit.the-variants as limit
 use Rattle.writing.specs.Writing as writing
@@ -13,14 +12,14 @@ use Rattle.writing.specs.declared.call.WritePlan.{WritePlan}
 use Rattle.reading.specs.Reading as reading
 use Rattle.reading.specs.declared.call.ReadPlan.{ReadPlan}
 use Rattle.interface.specs.Plans.{writeWithRetries, writeRegister, readRegister, dispatchCommand, readBuffer, writeBuffer}
-use Rattle.r5.specs.Plans.{macRead, macWrite, infoCRead, infoRead, infoWrite, accessKey, infoCWrite, flashRead, flashWrite}
+use Rattle.r5.specs.Plans.{readSecurityKeys, writeSecurityKeys, readAuthenticationKey, writeAuthenticationKey, readChargingVoltageOverride, writeChargingVoltageOverride, sendAccessKey, writeMfgInfoC, readMfgInfoC, writeMfgInfo, readMfgInfo, readDataflash, writeDataflash}
 
 -- a call starts as its limit says
 pub record Admitted : Type 0 where
   pub writing : (plan : WritePlan) (n w : ℕ) → writing.startOf plan n w .phase ≡ admitted (plan .limit) n w
   pub reading : (plan : ReadPlan) (n w : ℕ) → reading.startOf plan n w .phase ≡ admitted (plan .limit) n w
 
--- keys at 28 and 16, the override at 10: `macRead` and `macWrite`; unchecked calls are `readBuffer` and `writeRegister` of `noPec`
+-- unchecked calls are `readBuffer` and `writeRegister` of `noPec`
 pub record Limits (config : Config) : Type 0 where
   pub writesWithPec : config .«pec_write» ≡ true → writeWithRetries config .limit ≡ limit.AtMost 38
   pub writesPlain : config .«pec_write» ≡ false → writeWithRetries config .limit ≡ limit.Free
@@ -30,12 +29,16 @@ pub record Limits (config : Config) : Type 0 where
   pub dispatches : (address input n : ℕ) → dispatchCommand config address input n .limit ≡ limit.Command input
   pub readsBuffer : (address n : ℕ) → readBuffer config address n .limit ≡ limit.Free
   pub writesBuffer : (address : ℕ) → writeBuffer config address .limit ≡ limit.AtMost 33
-  pub readsKeys : (command : MacCommand) (size : ℕ) → macRead config command size .limit ≡ limit.Exactly size
-  pub writesKeys : (command : MacCommand) (size : ℕ) → macWrite config command size .limit ≡ limit.Exactly size
-  pub sendsKey : (lower upper : ℕ) → accessKey config lower upper .limit ≡ limit.Free
-  pub writesInfoC : (lower upper : ℕ) → infoCWrite config lower upper .limit ≡ limit.AtMost 32
-  pub readsInfoC : (n : ℕ) → infoCRead config n .limit ≡ limit.AtMost 32
-  pub writesInfo : infoWrite config .limit ≡ limit.AtMost 32
-  pub readsInfo : (n : ℕ) → infoRead config n .limit ≡ limit.AtMost 33
-  pub readsFlash : (start : ℕ) → flashRead config start .limit ≡ limit.Window start
-  pub writesFlash : (start : ℕ) → flashWrite config start .limit ≡ limit.Window start
+  pub readsSecurityKeys : readSecurityKeys config .limit ≡ limit.Exactly 28
+  pub writesSecurityKeys : writeSecurityKeys config .limit ≡ limit.Exactly 28
+  pub readsAuthenticationKey : readAuthenticationKey config .limit ≡ limit.Exactly 16
+  pub writesAuthenticationKey : writeAuthenticationKey config .limit ≡ limit.Exactly 16
+  pub readsOverride : readChargingVoltageOverride config .limit ≡ limit.Exactly 10
+  pub writesOverride : writeChargingVoltageOverride config .limit ≡ limit.Exactly 10
+  pub sendsKey : (lower upper : ℕ) → sendAccessKey config lower upper .limit ≡ limit.Free
+  pub writesInfoC : (lower upper : ℕ) → writeMfgInfoC config lower upper .limit ≡ limit.AtMost 32
+  pub readsInfoC : (n : ℕ) → readMfgInfoC config n .limit ≡ limit.AtMost 32
+  pub writesInfo : writeMfgInfo config .limit ≡ limit.AtMost 32
+  pub readsInfo : (n : ℕ) → readMfgInfo config n .limit ≡ limit.AtMost 33
+  pub readsFlash : (start : ℕ) → readDataflash config start .limit ≡ limit.Window start
+  pub writesFlash : (start : ℕ) → writeDataflash config start .limit ≡ limit.Window start

@@ -11,7 +11,6 @@ use Rattle.protocol.specs.Common.{noPec}
 use Rattle.protocol.specs.Reply as reply
 use Rattle.protocol.specs.declared.common.Config.{Config}
 use Rattle.protocol.specs.declared.error.Answer.the-variants as answer
-use Rattle.protocol.specs.declared.frame.MacCommand.the-variants as mac
 use Rattle.engine.specs.declared.bus.Phase.the-variants as phase
 use Rattle.engine.specs.declared.bus.Transfer.the-variants as transfer
 use Rattle.engine.specs.declared.limit.Limit.{Limit}
@@ -25,7 +24,7 @@ use Rattle.reading.specs.Reading as reading
 use Rattle.reading.specs.declared.call.ReadPlan.{ReadPlan}
 use Rattle.reading.specs.declared.call.ReadCall.{ReadCall}
 use Rattle.interface.specs.Plans.{writeWithRetries, writeRegister, readRegister, dispatchCommand, readBuffer, writeBuffer}
-use Rattle.r5.specs.Plans.{macRead, macWrite, infoCRead, infoRead, infoWrite, accessKey, infoCWrite, flashRead, flashWrite}
+use Rattle.r5.specs.Plans.{readSecurityKeys, writeSecurityKeys, readAuthenticationKey, writeAuthenticationKey, readChargingVoltageOverride, writeChargingVoltageOverride, sendAccessKey, writeMfgInfoC, readMfgInfoC, writeMfgInfo, readMfgInfo, readDataflash, writeDataflash}
 use Rattle.answers.specs.Runs.{WriteReport, feedW, TameW, ReadReport, Reader, feedR, TameR}
 
 -- block i of a data-flash transfer of n bytes lies in the window
@@ -43,13 +42,13 @@ pub data WritesBy (config : Config) : WritePlan → Type 0 where
   write-register : (address : ℕ) → WritesBy config (writeRegister config address)
   write-register-unchecked : (address : ℕ) → WritesBy config (writeRegister (noPec config) address)
   write-buffer : (address : ℕ) → WritesBy config (writeBuffer config address)
-  write-security-keys : WritesBy config (macWrite config mac.SecurityKeys 28)
-  write-authentication-key : WritesBy config (macWrite config mac.AuthenticationKey 16)
-  write-charging-voltage-override : WritesBy config (macWrite config mac.ChargingVoltageOverride 10)
-  send-access-key : (lower upper : ℕ) → WritesBy config (accessKey config lower upper)  -- and unseal_fg
-  write-mfg-info-c : (lower upper : ℕ) → WritesBy config (infoCWrite config lower upper)
-  write-mfg-info : WritesBy config (infoWrite config)
-  write-dataflash : (start : ℕ) → WritesBy config (flashWrite config start)
+  write-security-keys : WritesBy config (writeSecurityKeys config)
+  write-authentication-key : WritesBy config (writeAuthenticationKey config)
+  write-charging-voltage-override : WritesBy config (writeChargingVoltageOverride config)
+  send-access-key : (lower upper : ℕ) → WritesBy config (sendAccessKey config lower upper)  -- and unseal_fg
+  write-mfg-info-c : (lower upper : ℕ) → WritesBy config (writeMfgInfoC config lower upper)
+  write-mfg-info : WritesBy config (writeMfgInfo config)
+  write-dataflash : (start : ℕ) → WritesBy config (writeDataflash config start)
 
 -- a call that waits has a frame left, inside the window, and shows it where the lengths of the start are lent
 pub record WritesOn (plan : WritePlan) (payload : List ℕ) (w : ℕ) (call : WriteCall) : Type 0 where
@@ -67,12 +66,12 @@ pub data ReadsBy (config : Config) (n : ℕ) : ReadPlan → Type 0 where
   read-register : (address : ℕ) → ReadsBy config n (readRegister config address n)
   read-buffer : (address : ℕ) → ReadsBy config n (readBuffer config address n)  -- and read_register_unchecked
   dispatch-command : (address input : ℕ) → ReadsBy config n (dispatchCommand config address input n)
-  read-security-keys : ReadsBy config n (macRead config mac.SecurityKeys 28)
-  read-authentication-key : ReadsBy config n (macRead config mac.AuthenticationKey 16)
-  read-charging-voltage-override : ReadsBy config n (macRead config mac.ChargingVoltageOverride 10)
-  read-mfg-info-c : ReadsBy config n (infoCRead config n)
-  read-mfg-info : ReadsBy config n (infoRead config n)
-  read-dataflash : (start : ℕ) → ReadsBy config n (flashRead config start)
+  read-security-keys : ReadsBy config n (readSecurityKeys config)
+  read-authentication-key : ReadsBy config n (readAuthenticationKey config)
+  read-charging-voltage-override : ReadsBy config n (readChargingVoltageOverride config)
+  read-mfg-info-c : ReadsBy config n (readMfgInfoC config n)
+  read-mfg-info : ReadsBy config n (readMfgInfo config n)
+  read-dataflash : (start : ℕ) → ReadsBy config n (readDataflash config start)
 
 -- a call that waits has a read left, or its head alone where it has none; it shows its head or a read, and the number asked is what is wanted and what stands around it
 pub record ReadsOn (plan : ReadPlan) (n w : ℕ) (call : ReadCall) : Type 0 where

@@ -26,7 +26,7 @@ use Rattle.reading.specs.Parts as parts
 use Rattle.reading.specs.Reading as reading
 use Rattle.reading.specs.declared.call.ReadCall.{ReadCall}
 use Rattle.interface.specs.Plans.{writeRegister, readRegister, dispatchCommand}
-use Rattle.r5.specs.Plans.{flashRead, flashWrite}
+use Rattle.r5.specs.Plans.{readDataflash, writeDataflash}
 use Rattle.answers.specs.Rows.{saidW, saidR}
 use Rattle.answers.specs.Runs.{callW, callR}
 
@@ -55,7 +55,7 @@ abbrev one : WriteCall
 one = writing.startOf (writeRegister config 0x44) 1 39
 
 abbrev two-blocks : WriteCall
-two-blocks = writing.startOf (flashWrite config 0x4000) 33 39
+two-blocks = writing.startOf (writeDataflash config 0x4000) 33 39
 
 -- one byte of a register
 abbrev read-one : ReadCall
@@ -68,7 +68,7 @@ runs =
     ∷ toldW one ((outcome.Timeout, 0) ∷ [])
     ∷ toldR read-one ((outcome.Acknowledged, 1 ∷ 2 ∷ []) ∷ [])
     ∷ toldW (writing.startOf (writeRegister config 0x44) 33 39) []
-    ∷ toldR (reading.startOf (flashRead config 0x3FFF) 1 39) []
+    ∷ toldR (reading.startOf (readDataflash config 0x3FFF) 1 39) []
     ∷ toldW two-blocks ((outcome.Acknowledged, 0) ∷ (outcome.Timeout, 0) ∷ [])
     ∷ toldR (reading.startOf (dispatchCommand config 0x443500 1 0) 0 39) []
     ∷ toldW (writing.startOf (writeRegister config 0x44) 1 38) []
@@ -82,5 +82,5 @@ pub runs-reach : map figures runs
 unfolding bitStep bitSteps byteStep pecOf if_then_else_ inWindow case_waiting_ended_ case_acknowledged_error_timeout_ case_retry_spent_ failed nothing waited phaseAfter fitsOf windowed commanded measured admitted
     frames.isFlash frames.countOf writing.planOf writing.startOf writing.advanceOf writing.gaveUp writing.retryOf writing.endOf writing.failOf writing.settleOf writing.repliedOf writing.reportOf
     case_refused_fault_headed_block_ parts.hasHead parts.countOf parts.askOf parts.blockAsk reading.plainPlan reading.startOf reading.dueAsk reading.headedOf reading.advanceOf reading.retryOf reading.endOf reading.failOf reading.heardHead reading.verdictOf reading.heardBlock reading.acknowledgedOf reading.outcomeOf reading.judgeOf reading.reportOf
-    reply.plainAsk reply.macAsk reply.leadOf reply.aroundOf reply.countOf reply.checkedOf reply.heardOf writeRegister readRegister dispatchCommand flashRead flashWrite
+    reply.plainAsk reply.macAsk reply.leadOf reply.aroundOf reply.countOf reply.checkedOf reply.heardOf writeRegister readRegister dispatchCommand readDataflash writeDataflash
 runs-reach = refl

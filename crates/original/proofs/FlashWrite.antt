@@ -55,12 +55,12 @@ module _ (config : Config) (start : ℕ) (bytes : List ℕ) where
     -- blocks from block i on are the turns of the loop from there on
     abbrev pub Chunks : ℕ → Type 0
     Chunks todo = (turns i left : ℕ) (log : Log) (outcomes : List BusOutcome) → i * 32 + left ≡ length bytes → 0 < left → left ≤ suc turns → suc todo ≡ blocksOf left
-        → each (r5.flashWrite config start) bytes w (suc todo) i log outcomes ≡ original.writeChunks config start bytes (suc turns) (i * 32) left log outcomes
+        → each (r5.writeDataflash config start) bytes w (suc todo) i log outcomes ≡ original.writeChunks config start bytes (suc turns) (i * 32) left log outcomes
 
     -- what follows block i
     abbrev After : ℕ → Type 0
     After todo = (turns i left : ℕ) → i * 32 + left ≡ length bytes → 0 < left → left ≤ suc turns → suc todo ≡ blocksOf left → (log : Log) (outcomes : List BusOutcome)
-        → each (r5.flashWrite config start) bytes w todo (suc i) log outcomes
+        → each (r5.writeDataflash config start) bytes w todo (suc i) log outcomes
         ≡ original.writeChunks config start bytes turns (i * 32 + (length bytes - left + min 36 (left + 4) - 4 - (length bytes - left))) (left - 32) log outcomes
 
     nothing-after : After zero
@@ -76,7 +76,7 @@ module _ (config : Config) (start : ℕ) (bytes : List ℕ) where
         rw k (ih turns (suc i) (left - 32) log outcomes (omega arith) (omega arith) (omega arith) (omega arith))
 
     block-and-after : (todo : ℕ) → After todo → Chunks todo
-    unfolding each r5.flashWrite writing.planOf writing.ownBytes writing.gaveUp isPlain isFlash bytesAt frameAt sealed if_then_else_ original.writeChunks original.withPec
+    unfolding each r5.writeDataflash writing.planOf writing.ownBytes writing.gaveUp isPlain isFlash bytesAt frameAt sealed if_then_else_ original.writeChunks original.withPec
     block-and-after todo after turns i left log outcomes e some enough c =
         let l : eqb left 0 ≡ false = ne-eqb left 0 (λ z. omega arith) in
         let a : ltb 0xFFFF (start + (length bytes - left)) ≡ false = le-ltb 0xFFFF (start + (length bytes - left)) (omega arith) in
@@ -90,6 +90,6 @@ module _ (config : Config) (start : ℕ) (bytes : List ℕ) where
     chunks (suc todo) = block-and-after (suc todo) (block-after todo (chunks todo))
 
     pub all-chunks : (todo turns : ℕ) (log : Log) (outcomes : List BusOutcome) → turns ≡ length bytes → 0 < length bytes → suc todo ≡ blocksOf (length bytes)
-        → each (r5.flashWrite config start) bytes w (suc todo) 0 log outcomes ≡ original.writeChunks config start bytes turns 0 (length bytes) log outcomes
+        → each (r5.writeDataflash config start) bytes w (suc todo) 0 log outcomes ≡ original.writeChunks config start bytes turns 0 (length bytes) log outcomes
     all-chunks todo zero log outcomes e some c = absurd (omega arith)
     all-chunks todo (suc turns) log outcomes e some c = chunks todo turns 0 (length bytes) log outcomes (omega arith) some (omega arith) c

@@ -95,16 +95,16 @@ module _ (config : Config) (small : config .«max_bus_retries» ≤ 65535) (work
   unfolding rust-r5.readRegisterUnchecked rust.bufferRead
   read-register-unchecked address buffer h = buffer-read address buffer h
 
-  read-mfg-info-by : (buffer : List ℕ) (t : Bool) → ltb 33 (length buffer) ≡ t → (pec : Bool) → config .«pec_read» ≡ pec → reads (machine-r5.infoRead config (length buffer)) buffer work outcomes ≡ rust-r5.readMfgInfo config buffer begun outcomes
-  unfolding machine-r5.infoRead machine-r5.wholeAsk reading.plainPlan measured admitted answered if_then_else_ rust.readWithRetries rust-r5.readMfgInfo
+  read-mfg-info-by : (buffer : List ℕ) (t : Bool) → ltb 33 (length buffer) ≡ t → (pec : Bool) → config .«pec_read» ≡ pec → reads (machine-r5.readMfgInfo config (length buffer)) buffer work outcomes ≡ rust-r5.readMfgInfo config buffer begun outcomes
+  unfolding machine-r5.readMfgInfo machine-r5.wholeAsk reading.plainPlan measured admitted answered if_then_else_ rust.readWithRetries rust-r5.readMfgInfo
   read-mfg-info-by buffer true t pec p =
-      no-transfer (machine-r5.infoRead config (length buffer)) (length buffer) (length work) buffer work answer.DataTooLarge outcomes (rw (le-ltb (length work) 39 roomy, t)) ∙ rw t
+      no-transfer (machine-r5.readMfgInfo config (length buffer)) (length buffer) (length work) buffer work answer.DataTooLarge outcomes (rw (le-ltb (length work) 39 roomy, t)) ∙ rw t
   read-mfg-info-by buffer false t true p =
       rw (p, t) (plain (limit.AtMost 33) 0x70 buffer (replicate 33 0) true (rw t) (ltb-false 33 (length buffer) t) (counts true 33 (omega arith)))
   read-mfg-info-by buffer false t false p =
       rw (p, t) (plain-own (limit.AtMost 33) 0x70 buffer false (rw t) (counts false (length buffer) (ltb-false 33 (length buffer) t)))
 
-  pub read-mfg-info : (buffer : List ℕ) → reads (machine-r5.infoRead config (length buffer)) buffer work outcomes ≡ rust-r5.readMfgInfo config buffer begun outcomes
+  pub read-mfg-info : (buffer : List ℕ) → reads (machine-r5.readMfgInfo config (length buffer)) buffer work outcomes ≡ rust-r5.readMfgInfo config buffer begun outcomes
   read-mfg-info buffer = read-mfg-info-by buffer (ltb 33 (length buffer)) refl (config .«pec_read») refl
 
   -- a MAC read that is admitted, into bytes of its own that are copied
@@ -131,23 +131,23 @@ module _ (config : Config) (small : config .«max_bus_retries» ≤ 65535) (work
       let m : measured (limit.Exactly size) (length buffer) ≡ phase.Waiting = rw (eq-eqb (length buffer) size e) in
       ap (λ (k : ℕ). reads (reading.macPlan config (limit.Exactly size) command k) buffer work outcomes) (sym e) ∙ behind-own (limit.Exactly size) command buffer m (omega arith)
 
-  pub read-security-keys : (buffer : List ℕ) → length buffer ≡ 28 → reads (machine-r5.macRead config mac.SecurityKeys 28) buffer work outcomes ≡ rust-r5.readSecurityKeys config buffer begun outcomes
+  pub read-security-keys : (buffer : List ℕ) → length buffer ≡ 28 → reads (machine-r5.readSecurityKeys config) buffer work outcomes ≡ rust-r5.readSecurityKeys config buffer begun outcomes
   unfolding rust-r5.readSecurityKeys
   read-security-keys buffer e = keyed mac.SecurityKeys 28 buffer e (omega arith)
 
-  pub read-authentication-key : (buffer : List ℕ) → length buffer ≡ 16 → reads (machine-r5.macRead config mac.AuthenticationKey 16) buffer work outcomes ≡ rust-r5.readAuthenticationKey config buffer begun outcomes
+  pub read-authentication-key : (buffer : List ℕ) → length buffer ≡ 16 → reads (machine-r5.readAuthenticationKey config) buffer work outcomes ≡ rust-r5.readAuthenticationKey config buffer begun outcomes
   unfolding rust-r5.readAuthenticationKey
   read-authentication-key buffer e = keyed mac.AuthenticationKey 16 buffer e (omega arith)
 
   pub read-charging-voltage-override : (buffer : List ℕ) → length buffer ≡ 10
-      → reads (machine-r5.macRead config mac.ChargingVoltageOverride 10) buffer work outcomes ≡ rust-r5.readChargingVoltageOverride config buffer begun outcomes
+      → reads (machine-r5.readChargingVoltageOverride config) buffer work outcomes ≡ rust-r5.readChargingVoltageOverride config buffer begun outcomes
   unfolding rust-r5.readChargingVoltageOverride
   read-charging-voltage-override buffer e = keyed mac.ChargingVoltageOverride 10 buffer e (omega arith)
 
-  read-mfg-info-c-by : (buffer : List ℕ) (t : Bool) → ltb 32 (length buffer) ≡ t → (pec : Bool) → config .«pec_read» ≡ pec → reads (machine-r5.infoCRead config (length buffer)) buffer work outcomes ≡ rust-r5.readMfgInfoC config buffer begun outcomes
-  unfolding machine-r5.infoCRead machine-r5.wholeAsk reading.macPlan measured admitted answered if_then_else_ rust-r5.readMfgInfoC
+  read-mfg-info-c-by : (buffer : List ℕ) (t : Bool) → ltb 32 (length buffer) ≡ t → (pec : Bool) → config .«pec_read» ≡ pec → reads (machine-r5.readMfgInfoC config (length buffer)) buffer work outcomes ≡ rust-r5.readMfgInfoC config buffer begun outcomes
+  unfolding machine-r5.readMfgInfoC machine-r5.wholeAsk reading.macPlan measured admitted answered if_then_else_ rust-r5.readMfgInfoC
   read-mfg-info-c-by buffer true t pec p =
-      no-transfer (machine-r5.infoCRead config (length buffer)) (length buffer) (length work) buffer work answer.DataTooLarge outcomes (rw (le-ltb (length work) 39 roomy, t)) ∙ rw t
+      no-transfer (machine-r5.readMfgInfoC config (length buffer)) (length buffer) (length work) buffer work answer.DataTooLarge outcomes (rw (le-ltb (length work) 39 roomy, t)) ∙ rw t
   read-mfg-info-c-by buffer false t true p =
       let e : machine-r5.wholeAsk (config .«pec_read») 32 (length buffer) ≡ 32 = rw p in
       ap (λ (k : ℕ). reads (reading.macPlan config (limit.AtMost 32) mac.MfgInfoC k) buffer work outcomes) e
@@ -159,23 +159,23 @@ module _ (config : Config) (small : config .«max_bus_retries» ≤ 65535) (work
       ∙ behind-own (limit.AtMost 32) mac.MfgInfoC buffer (rw t) (ltb-false 32 (length buffer) t)
       ∙ rw (t, p)
 
-  pub read-mfg-info-c : (buffer : List ℕ) → reads (machine-r5.infoCRead config (length buffer)) buffer work outcomes ≡ rust-r5.readMfgInfoC config buffer begun outcomes
+  pub read-mfg-info-c : (buffer : List ℕ) → reads (machine-r5.readMfgInfoC config (length buffer)) buffer work outcomes ≡ rust-r5.readMfgInfoC config buffer begun outcomes
   read-mfg-info-c buffer = read-mfg-info-c-by buffer (ltb 32 (length buffer)) refl (config .«pec_read») refl
 
   -- data flash, without and with PEC
   dataflash-by : (start : ℕ) (buffer : List ℕ) (t : Bool) → inWindow start (length buffer) ≡ t → (n : Bool) → eqb (length buffer) 0 ≡ n
-      → reads (machine-r5.flashRead config start) buffer work outcomes
+      → reads (machine-r5.readDataflash config start) buffer work outcomes
       ≡ (if rust.checkDfRange start (length buffer) then flash-read.loop start (config .«pec_read») (config .«max_bus_retries») buffer 0 true begun outcomes else Err answer.DataFlashAddressOutOfRange begun outcomes leaving buffer)
-  unfolding machine-r5.flashRead parts.hasHead measured admitted windowed answered if_then_else_
+  unfolding machine-r5.readDataflash parts.hasHead measured admitted windowed answered if_then_else_
   dataflash-by start buffer false t n e =
-      no-transfer (machine-r5.flashRead config start) (length buffer) (length work) buffer work answer.DataFlashAddressOutOfRange outcomes (rw (le-ltb (length work) 39 roomy, t)) ∙ rw (range-window, t)
+      no-transfer (machine-r5.readDataflash config start) (length buffer) (length work) buffer work answer.DataFlashAddressOutOfRange outcomes (rw (le-ltb (length work) 39 roomy, t)) ∙ rw (range-window, t)
   dataflash-by start buffer true t true e =
-      no-transfer (machine-r5.flashRead config start) (length buffer) (length work) buffer work answer.Done outcomes (rw (le-ltb (length work) 39 roomy, t, e))
+      no-transfer (machine-r5.readDataflash config start) (length buffer) (length work) buffer work answer.Done outcomes (rw (le-ltb (length work) 39 roomy, t, e))
       ∙ rw (range-window, t) (sym (flash-read.loop-done start (config .«pec_read») (config .«max_bus_retries») buffer 0 true begun outcomes (omega (arith, eqb-true (length buffer) 0 e))))
   dataflash-by start buffer true t false e =
       let some : 0 < length buffer = omega (arith, eqb-false (length buffer) 0 e) in
       let far : (0x4000 ≤ start) × (start + length buffer ≤ 0x6000) = in-range start (length buffer) t some in
-      started (machine-r5.flashRead config start) (length buffer) (length work) buffer work outcomes (rw (le-ltb (length work) 39 roomy, t, e))
+      started (machine-r5.readDataflash config start) (length buffer) (length work) buffer work outcomes (rw (le-ltb (length work) 39 roomy, t, e))
       ∙ flash-read.same start (config .«max_bus_retries») (limit.Window start) (length buffer) (length work) roomy (far .0) (far .1) outcomes (config .«pec_read») true 0 (config .«max_bus_retries») 0 buffer work [] refl refl some (omega arith)
       ∙ rw (range-window, t)
 
@@ -186,7 +186,7 @@ module _ (config : Config) (small : config .«max_bus_retries» ≤ 65535) (work
   read-dataflash-by start buffer true p = rw p
   read-dataflash-by start buffer false p = rw p
 
-  pub read-dataflash : (start : ℕ) (buffer : List ℕ) → reads (machine-r5.flashRead config start) buffer work outcomes ≡ rust-r5.readDataflash config start buffer begun outcomes
+  pub read-dataflash : (start : ℕ) (buffer : List ℕ) → reads (machine-r5.readDataflash config start) buffer work outcomes ≡ rust-r5.readDataflash config start buffer begun outcomes
   read-dataflash start buffer = dataflash-by start buffer (inWindow start (length buffer)) refl (eqb (length buffer) 0) refl ∙ read-dataflash-by start buffer (config .«pec_read») refl
 
   -- a command that is admitted: a write where there is no output, a read behind its frame where there is

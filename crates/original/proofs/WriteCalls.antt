@@ -131,16 +131,16 @@ module _ (config : Config) (small : config .«max_bus_retries» ≤ 65535) (work
       let short : length (macBytes (fixedPair command) bytes) ≤ 36 = rw f (omega (arith, length-append (fixedPair command) bytes, fixed-pair command)) in
       one-frame (machine-r5.macWrite config command size) bytes work small roomy refl outcomes m (λ o. omega arith) ∙ rw f
 
-  pub write-security-keys : (keys : List ℕ) → length keys ≡ 28 → writes (machine-r5.macWrite config mac.SecurityKeys 28) keys work outcomes ≡ rust-r5.writeSecurityKeys config keys begun outcomes
+  pub write-security-keys : (keys : List ℕ) → length keys ≡ 28 → writes (machine-r5.writeSecurityKeys config) keys work outcomes ≡ rust-r5.writeSecurityKeys config keys begun outcomes
   unfolding rust-r5.writeSecurityKeys
   write-security-keys keys e = keyed mac.SecurityKeys 28 keys e (omega arith)
 
-  pub write-authentication-key : (key : List ℕ) → length key ≡ 16 → writes (machine-r5.macWrite config mac.AuthenticationKey 16) key work outcomes ≡ rust-r5.writeAuthenticationKey config key begun outcomes
+  pub write-authentication-key : (key : List ℕ) → length key ≡ 16 → writes (machine-r5.writeAuthenticationKey config) key work outcomes ≡ rust-r5.writeAuthenticationKey config key begun outcomes
   unfolding rust-r5.writeAuthenticationKey
   write-authentication-key key e = keyed mac.AuthenticationKey 16 key e (omega arith)
 
   pub write-charging-voltage-override : (figures : ChargingVoltageOverride)
-      → writes (machine-r5.macWrite config mac.ChargingVoltageOverride 10) (overrideBytes figures) work outcomes ≡ rust-r5.writeChargingVoltageOverride config figures begun outcomes
+      → writes (machine-r5.writeChargingVoltageOverride config) (overrideBytes figures) work outcomes ≡ rust-r5.writeChargingVoltageOverride config figures begun outcomes
   unfolding rust-r5.writeChargingVoltageOverride
   write-charging-voltage-override figures = keyed mac.ChargingVoltageOverride 10 (overrideBytes figures) (override-length figures) (omega arith) ∙ rw (override-bytes figures)
 
@@ -156,27 +156,27 @@ module _ (config : Config) (small : config .«max_bus_retries» ≤ 65535) (work
   write-register-unchecked-refused address bytes h =
       limited (machine.writeRegister (noPec config) address) bytes work small roomy refl 32 outcomes refl (λ h. omega arith) true h ∙ rw h
 
-  pub write-mfg-info : (bytes : List ℕ) → writes (machine-r5.infoWrite config) bytes work outcomes ≡ rust-r5.writeMfgInfo config bytes begun outcomes
-  unfolding machine-r5.infoWrite writing.planOf writing.ownBytes isPlain countOf bytesAt frameAt sealed if_then_else_ rust-r5.writeMfgInfo rust.macWriteWithRetries rust.writeWithRetries rust.withPec
+  pub write-mfg-info : (bytes : List ℕ) → writes (machine-r5.writeMfgInfo config) bytes work outcomes ≡ rust-r5.writeMfgInfo config bytes begun outcomes
+  unfolding machine-r5.writeMfgInfo writing.planOf writing.ownBytes isPlain countOf bytesAt frameAt sealed if_then_else_ rust-r5.writeMfgInfo rust.macWriteWithRetries rust.writeWithRetries rust.withPec
   write-mfg-info bytes = by (ltb 32 (length bytes)) refl
     where
-      by : (t : Bool) → ltb 32 (length bytes) ≡ t → writes (machine-r5.infoWrite config) bytes work outcomes ≡ rust-r5.writeMfgInfo config bytes begun outcomes
-      by true t = limited (machine-r5.infoWrite config) bytes work small roomy refl 32 outcomes refl (λ h. rw (info-bytes bytes h) (omega arith)) true t ∙ rw t
+      by : (t : Bool) → ltb 32 (length bytes) ≡ t → writes (machine-r5.writeMfgInfo config) bytes work outcomes ≡ rust-r5.writeMfgInfo config bytes begun outcomes
+      by true t = limited (machine-r5.writeMfgInfo config) bytes work small roomy refl 32 outcomes refl (λ h. rw (info-bytes bytes h) (omega arith)) true t ∙ rw t
       by false t =
-          limited (machine-r5.infoWrite config) bytes work small roomy refl 32 outcomes refl (λ h. rw (info-bytes bytes h) (omega arith)) false t
+          limited (machine-r5.writeMfgInfo config) bytes work small roomy refl 32 outcomes refl (λ h. rw (info-bytes bytes h) (omega arith)) false t
           ∙ rw (t, info-bytes bytes (ltb-false 32 (length bytes) t))
 
-  pub send-access-key : (lower upper : ℕ) → writes (machine-r5.accessKey config lower upper) [] work outcomes ≡ rust-r5.sendAccessKey config lower upper begun outcomes
-  unfolding machine-r5.accessKey writing.planOf writing.ownBytes writing.gaveUp isPlain isFlash countOf bytesAt halfBytes macBytes pairOf frameAt each sealed measured admitted if_then_else_ rust.toLeBytes rust.macWriteWithRetries rust.writeWithRetries rust.withPec rust-r5.sendAccessKey
+  pub send-access-key : (lower upper : ℕ) → writes (machine-r5.sendAccessKey config lower upper) [] work outcomes ≡ rust-r5.sendAccessKey config lower upper begun outcomes
+  unfolding machine-r5.sendAccessKey writing.planOf writing.ownBytes writing.gaveUp isPlain isFlash countOf bytesAt halfBytes macBytes pairOf frameAt each sealed measured admitted if_then_else_ rust.toLeBytes rust.macWriteWithRetries rust.writeWithRetries rust.withPec rust-r5.sendAccessKey
   send-access-key lower upper =
-      frames-in-turn (machine-r5.accessKey config lower upper) [] (length work) (λ i j o. omega (arith, half-length lower upper i)) (omega arith) small 1 work outcomes refl refl (rw (le-ltb (length work) 39 roomy))
+      frames-in-turn (machine-r5.sendAccessKey config lower upper) [] (length work) (λ i j o. omega (arith, half-length lower upper i)) (omega arith) small 1 work outcomes refl refl (rw (le-ltb (length work) 39 roomy))
       ∙ settle-by _ _ (λ e. e) (λ log outcomes. settle-last _) _
 
   -- the third frame follows the two of the access key
   info-c-frames : (lower upper : ℕ) (bytes : List ℕ)
-      → each (machine-r5.infoCWrite config lower upper) bytes (length work) 3 0 begun outcomes
+      → each (machine-r5.writeMfgInfoC config lower upper) bytes (length work) 3 0 begun outcomes
       ≡ settle (rust.macWriteWithRetries config (macBytes (fixedPair mac.MfgInfoC) bytes)) (λ e. e) (rust-r5.sendAccessKey config lower upper begun outcomes)
-  unfolding machine-r5.infoCWrite writing.planOf writing.ownBytes writing.gaveUp isPlain isFlash bytesAt infoCBytes halfBytes macBytes pairOf frameAt each sealed if_then_else_ rust.toLeBytes rust.macWriteWithRetries rust.writeWithRetries rust.withPec rust-r5.sendAccessKey
+  unfolding machine-r5.writeMfgInfoC writing.planOf writing.ownBytes writing.gaveUp isPlain isFlash bytesAt infoCBytes halfBytes macBytes pairOf frameAt each sealed if_then_else_ rust.toLeBytes rust.macWriteWithRetries rust.writeWithRetries rust.withPec rust-r5.sendAccessKey
   info-c-frames lower upper bytes =
       let third : Log → List BusOutcome → Came = rust.macWriteWithRetries config (macBytes (fixedPair mac.MfgInfoC) bytes) in
       let second : Log → List BusOutcome → Came = rust.macWriteWithRetries config (0x44 ∷ 2 ∷ rust.toLeBytes upper) in
@@ -184,30 +184,30 @@ module _ (config : Config) (small : config .«max_bus_retries» ≤ 65535) (work
       settle-by _ (λ log outcomes. settle third (λ e. e) (second log outcomes)) (λ e. e) (λ log outcomes. settle-by _ third (λ e. e) (λ log outcomes. settle-last _) (second log outcomes)) first
       ∙ settle-settle second third first
 
-  pub write-mfg-info-c : (lower upper : ℕ) (bytes : List ℕ) → writes (machine-r5.infoCWrite config lower upper) bytes work outcomes ≡ rust-r5.writeMfgInfoC config lower upper bytes begun outcomes
-  unfolding machine-r5.infoCWrite writing.planOf measured admitted answered countOf bytesAt if_then_else_ rust-r5.writeMfgInfoC
+  pub write-mfg-info-c : (lower upper : ℕ) (bytes : List ℕ) → writes (machine-r5.writeMfgInfoC config lower upper) bytes work outcomes ≡ rust-r5.writeMfgInfoC config lower upper bytes begun outcomes
+  unfolding machine-r5.writeMfgInfoC writing.planOf measured admitted answered countOf bytesAt if_then_else_ rust-r5.writeMfgInfoC
   write-mfg-info-c lower upper bytes = by (ltb 32 (length bytes)) refl
     where
-      by : (t : Bool) → ltb 32 (length bytes) ≡ t → writes (machine-r5.infoCWrite config lower upper) bytes work outcomes ≡ rust-r5.writeMfgInfoC config lower upper bytes begun outcomes
-      by true t = no-frame (machine-r5.infoCWrite config lower upper) bytes work answer.DataTooLarge outcomes (rw (le-ltb (length work) 39 roomy, t)) ∙ rw t
+      by : (t : Bool) → ltb 32 (length bytes) ≡ t → writes (machine-r5.writeMfgInfoC config lower upper) bytes work outcomes ≡ rust-r5.writeMfgInfoC config lower upper bytes begun outcomes
+      by true t = no-frame (machine-r5.writeMfgInfoC config lower upper) bytes work answer.DataTooLarge outcomes (rw (le-ltb (length work) 39 roomy, t)) ∙ rw t
       by false t =
           let h : length bytes ≤ 32 = ltb-false 32 (length bytes) t in
-          frames-in-turn (machine-r5.infoCWrite config lower upper) bytes (length work) (λ i j o. omega (arith, info-c-length lower upper i bytes h)) (omega arith) small 2 work outcomes refl refl (rw (le-ltb (length work) 39 roomy, t))
+          frames-in-turn (machine-r5.writeMfgInfoC config lower upper) bytes (length work) (λ i j o. omega (arith, info-c-length lower upper i bytes h)) (omega arith) small 2 work outcomes refl refl (rw (le-ltb (length work) 39 roomy, t))
           ∙ info-c-frames lower upper bytes
           ∙ rw (t, mac-bytes (fixedPair mac.MfgInfoC) bytes h)
 
-  pub write-dataflash : (start : ℕ) (bytes : List ℕ) → writes (machine-r5.flashWrite config start) bytes work outcomes ≡ rust-r5.writeDataflash config start bytes begun outcomes
-  unfolding machine-r5.flashWrite writing.planOf writing.ownBytes isPlain countOf bytesAt measured admitted windowed answered if_then_else_ rust.macWriteToDfWithRetries rust-r5.writeDataflash rust.writeChunks
+  pub write-dataflash : (start : ℕ) (bytes : List ℕ) → writes (machine-r5.writeDataflash config start) bytes work outcomes ≡ rust-r5.writeDataflash config start bytes begun outcomes
+  unfolding machine-r5.writeDataflash writing.planOf writing.ownBytes isPlain countOf bytesAt measured admitted windowed answered if_then_else_ rust.macWriteToDfWithRetries rust-r5.writeDataflash rust.writeChunks
   write-dataflash start bytes = by (inWindow start (length bytes)) refl (eqb (length bytes) 0) refl
     where
-      by : (t : Bool) → inWindow start (length bytes) ≡ t → (n : Bool) → eqb (length bytes) 0 ≡ n → writes (machine-r5.flashWrite config start) bytes work outcomes ≡ rust-r5.writeDataflash config start bytes begun outcomes
-      by false t n e = no-frame (machine-r5.flashWrite config start) bytes work answer.DataFlashAddressOutOfRange outcomes (rw (le-ltb (length work) 39 roomy, t)) ∙ rw (range-window, t)
+      by : (t : Bool) → inWindow start (length bytes) ≡ t → (n : Bool) → eqb (length bytes) 0 ≡ n → writes (machine-r5.writeDataflash config start) bytes work outcomes ≡ rust-r5.writeDataflash config start bytes begun outcomes
+      by false t n e = no-frame (machine-r5.writeDataflash config start) bytes work answer.DataFlashAddressOutOfRange outcomes (rw (le-ltb (length work) 39 roomy, t)) ∙ rw (range-window, t)
       by true t true e =
           let z : length bytes ≡ 0 = eqb-true (length bytes) 0 e in
-          no-frame (machine-r5.flashWrite config start) bytes work answer.Done outcomes (rw (le-ltb (length work) 39 roomy, t, e)) ∙ rw (range-window, t, z)
+          no-frame (machine-r5.writeDataflash config start) bytes work answer.Done outcomes (rw (le-ltb (length work) 39 roomy, t, e)) ∙ rw (range-window, t, z)
       by true t false e =
           let some : 0 < length bytes = omega (arith, eqb-false (length bytes) 0 e) in
           let far : (0x4000 ≤ start) × (start + length bytes ≤ 0x6000) = in-range start (length bytes) t some in
-          frames-in-turn (machine-r5.flashWrite config start) bytes (length work) (λ i j o. omega (arith, block-length start i bytes)) (omega arith) small ((length bytes - 1) / 32) work outcomes refl (omega arith) (rw (le-ltb (length work) 39 roomy, t, e))
+          frames-in-turn (machine-r5.writeDataflash config start) bytes (length work) (λ i j o. omega (arith, block-length start i bytes)) (omega arith) small ((length bytes - 1) / 32) work outcomes refl (omega arith) (rw (le-ltb (length work) 39 roomy, t, e))
           ∙ all-chunks config start bytes (length work) (far .1) ((length bytes - 1) / 32) (length bytes) begun outcomes refl some (omega arith)
           ∙ rw (range-window, t)

@@ -10,7 +10,6 @@ use Rattle.protocol.specs.Common.{noPec}
 use Rattle.protocol.specs.Voltage.{overrideBytes, overrideOf}
 use Rattle.protocol.specs.declared.common.Config.{Config}
 use Rattle.protocol.specs.declared.error.Answer.the-variants as answer
-use Rattle.protocol.specs.declared.frame.MacCommand.the-variants as mac
 use Rattle.protocol.specs.declared.voltage.ChargingVoltageOverride.{ChargingVoltageOverride}
 use Rattle.interface.specs.Plans as machine
 use Rattle.r5.specs.Plans as machine-r5
@@ -41,13 +40,13 @@ pub record Equal (config : Config) (work : List ℕ) (outcomes : List BusOutcome
       → writes (machine.writeBuffer config address) bytes work outcomes ≡ rust.bufferWrite config address bytes begun outcomes
   -- versions/r5.rs
   pub read-security-keys : (buffer : List ℕ) → length buffer ≡ 28
-      → reads (machine-r5.macRead config mac.SecurityKeys 28) buffer work outcomes ≡ rust-r5.readSecurityKeys config buffer begun outcomes
+      → reads (machine-r5.readSecurityKeys config) buffer work outcomes ≡ rust-r5.readSecurityKeys config buffer begun outcomes
   pub write-security-keys : (keys : List ℕ) → length keys ≡ 28
-      → writes (machine-r5.macWrite config mac.SecurityKeys 28) keys work outcomes ≡ rust-r5.writeSecurityKeys config keys begun outcomes
+      → writes (machine-r5.writeSecurityKeys config) keys work outcomes ≡ rust-r5.writeSecurityKeys config keys begun outcomes
   pub read-authentication-key : (buffer : List ℕ) → length buffer ≡ 16
-      → reads (machine-r5.macRead config mac.AuthenticationKey 16) buffer work outcomes ≡ rust-r5.readAuthenticationKey config buffer begun outcomes
+      → reads (machine-r5.readAuthenticationKey config) buffer work outcomes ≡ rust-r5.readAuthenticationKey config buffer begun outcomes
   pub write-authentication-key : (key : List ℕ) → length key ≡ 16
-      → writes (machine-r5.macWrite config mac.AuthenticationKey 16) key work outcomes ≡ rust-r5.writeAuthenticationKey config key begun outcomes
+      → writes (machine-r5.writeAuthenticationKey config) key work outcomes ≡ rust-r5.writeAuthenticationKey config key begun outcomes
   pub read-register-unchecked : (address : ℕ) (buffer : List ℕ) → length buffer ≤ 18446744073709551615
       → reads (machine.readBuffer config address (length buffer)) buffer work outcomes ≡ rust-r5.readRegisterUnchecked config address buffer begun outcomes
   pub write-register-unchecked : (address : ℕ) (bytes : List ℕ) → rust-r5.uncheckedPanics bytes ≡ false
@@ -56,22 +55,22 @@ pub record Equal (config : Config) (work : List ℕ) (outcomes : List BusOutcome
       → writes (machine.writeRegister (noPec config) address) bytes work outcomes ≡ Err answer.DataTooLarge begun outcomes
   -- and unseal_fg
   pub send-access-key : (lower upper : ℕ)
-      → writes (machine-r5.accessKey config lower upper) [] work outcomes ≡ rust-r5.sendAccessKey config lower upper begun outcomes
+      → writes (machine-r5.sendAccessKey config lower upper) [] work outcomes ≡ rust-r5.sendAccessKey config lower upper begun outcomes
   pub write-mfg-info-c : (lower upper : ℕ) (bytes : List ℕ)
-      → writes (machine-r5.infoCWrite config lower upper) bytes work outcomes ≡ rust-r5.writeMfgInfoC config lower upper bytes begun outcomes
+      → writes (machine-r5.writeMfgInfoC config lower upper) bytes work outcomes ≡ rust-r5.writeMfgInfoC config lower upper bytes begun outcomes
   pub read-mfg-info-c : (buffer : List ℕ)
-      → reads (machine-r5.infoCRead config (length buffer)) buffer work outcomes ≡ rust-r5.readMfgInfoC config buffer begun outcomes
+      → reads (machine-r5.readMfgInfoC config (length buffer)) buffer work outcomes ≡ rust-r5.readMfgInfoC config buffer begun outcomes
   pub write-mfg-info : (bytes : List ℕ)
-      → writes (machine-r5.infoWrite config) bytes work outcomes ≡ rust-r5.writeMfgInfo config bytes begun outcomes
+      → writes (machine-r5.writeMfgInfo config) bytes work outcomes ≡ rust-r5.writeMfgInfo config bytes begun outcomes
   pub read-mfg-info : (buffer : List ℕ)
-      → reads (machine-r5.infoRead config (length buffer)) buffer work outcomes ≡ rust-r5.readMfgInfo config buffer begun outcomes
+      → reads (machine-r5.readMfgInfo config (length buffer)) buffer work outcomes ≡ rust-r5.readMfgInfo config buffer begun outcomes
   -- the payload is what `to_bytes` makes of the figures, and `from_bytes` makes the figures of the buffer
   pub write-charging-voltage-override : (figures : ChargingVoltageOverride)
-      → writes (machine-r5.macWrite config mac.ChargingVoltageOverride 10) (overrideBytes figures) work outcomes ≡ rust-r5.writeChargingVoltageOverride config figures begun outcomes
+      → writes (machine-r5.writeChargingVoltageOverride config) (overrideBytes figures) work outcomes ≡ rust-r5.writeChargingVoltageOverride config figures begun outcomes
   pub read-charging-voltage-override : (buffer : List ℕ) → length buffer ≡ 10
-      → reads (machine-r5.macRead config mac.ChargingVoltageOverride 10) buffer work outcomes ≡ rust-r5.readChargingVoltageOverride config buffer begun outcomes
+      → reads (machine-r5.readChargingVoltageOverride config) buffer work outcomes ≡ rust-r5.readChargingVoltageOverride config buffer begun outcomes
   pub override-figures : (buffer : List ℕ) → overrideOf buffer ≡ rust-r5.overrideFigures buffer
   pub read-dataflash : (start : ℕ) (buffer : List ℕ)
-      → reads (machine-r5.flashRead config start) buffer work outcomes ≡ rust-r5.readDataflash config start buffer begun outcomes
+      → reads (machine-r5.readDataflash config start) buffer work outcomes ≡ rust-r5.readDataflash config start buffer begun outcomes
   pub write-dataflash : (start : ℕ) (bytes : List ℕ)
-      → writes (machine-r5.flashWrite config start) bytes work outcomes ≡ rust-r5.writeDataflash config start bytes begun outcomes
+      → writes (machine-r5.writeDataflash config start) bytes work outcomes ≡ rust-r5.writeDataflash config start bytes begun outcomes

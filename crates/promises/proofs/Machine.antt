@@ -25,7 +25,7 @@ use Rattle.writing.specs.Frames.{isPlain, countOf, blockBytes, bytesAt}
 use Rattle.writing.specs.Writing.{planOf, ownBytes, dueBytes, shownOf, workShown, nextOf, workAfter, partOf, advanceOf, failOf, settleOf, repliedOf, reportOf}
 use Rattle.writing.specs.declared.call.WriteCall.{WriteCall}
 use Rattle.writing.specs.declared.call.WriteTask.{WriteTask}
-use Rattle.r5.specs.Plans.{flashWrite}
+use Rattle.r5.specs.Plans.{writeDataflash}
 use Rattle.courses.specs.Pick.{case_write_read_none_}
 use Rattle.courses.specs.WriteRun.{takenOf, reportedOf}
 use Rattle.courses.proofs.Cases.{at-write}
@@ -43,7 +43,7 @@ sealed-short false f h = omega arith
 
 module _ (config : Config) (address : ℕ) (payload : List ℕ) (n : ℕ) where
   abbrev pub taskOf : WriteTask
-  taskOf = record { plan = flashWrite config address; lent = record { length = length payload; work = n } }
+  taskOf = record { plan = writeDataflash config address; lent = record { length = length payload; work = n } }
 
   -- the call with i blocks acknowledged
   abbrev pub callAt : Phase → ℕ → Budget → Tally → WriteCall
@@ -66,18 +66,18 @@ module _ (config : Config) (address : ℕ) (payload : List ℕ) (n : ℕ) where
   module _ (i : ℕ) (b : Budget) (t : Tally) (work : List ℕ) (long : length work ≡ n) (room : 39 ≤ n) where
     -- the machine shows the frame of the block that is due
     pub shows-block : nextOf (callAt phase.Waiting i b t) payload (length work) ≡ transfer.Write (length (frameOf i))
-    unfolding nextOf case_waiting_ended_ fitsOf ownBytes isPlain planOf flashWrite shownOf dueBytes bytesAt laidOf writeOf if_then_else_
+    unfolding nextOf case_waiting_ended_ fitsOf ownBytes isPlain planOf writeDataflash shownOf dueBytes bytesAt laidOf writeOf if_then_else_
     shows-block =
         rw (eq-eqb (length payload) (length payload) refl, eq-eqb (length work) n long, lt-ltb (length (blockBytes address i payload)) (length work) (omega (arith, block-short i)))
 
     pub lays : workAfter (callAt phase.Waiting i b t) payload work ≡ over (frameOf i) work
-    unfolding workAfter case_waiting_ended_ fitsOf ownBytes isPlain planOf flashWrite workShown dueBytes bytesAt workLaid if_then_else_
+    unfolding workAfter case_waiting_ended_ fitsOf ownBytes isPlain planOf writeDataflash workShown dueBytes bytesAt workLaid if_then_else_
     lays =
         rw (eq-eqb (length payload) (length payload) refl, eq-eqb (length work) n long, lt-ltb (length (blockBytes address i payload)) (length work) (omega (arith, block-short i)))
 
     -- and hands it out
     pub hands-out : partOf (callAt phase.Waiting i b t) payload (over (frameOf i) work) (length (frameOf i)) ≡ frameOf i
-    unfolding partOf ownBytes isPlain planOf flashWrite sendOf if_then_else_
+    unfolding partOf ownBytes isPlain planOf writeDataflash sendOf if_then_else_
     hands-out = take-over (frameOf i) work
 
     pub laid-long : length (over (frameOf i) work) ≡ n
@@ -98,7 +98,7 @@ module _ (config : Config) (address : ℕ) (payload : List ℕ) (n : ℕ) where
     pub step-acknowledged : (flash : List ℕ) → i < 4294967295
         → step payload (acknowledged) (worldAt phase.Waiting i b t work flash)
         ≡ worldAt (phaseAfter (blocksOf (length payload)) (suc i)) (suc i) (record { left = config .«max_bus_retries» }) t (over (frameOf i) work) (flashAfter (acknowledged) (frameOf i) flash)
-    unfolding reportedOf takenOf reportOf repliedOf settleOf advanceOf countOf case_waiting_ended_ case_acknowledged_error_timeout_ fitsOf planOf flashWrite if_then_else_
+    unfolding reportedOf takenOf reportOf repliedOf settleOf advanceOf countOf case_waiting_ended_ case_acknowledged_error_timeout_ fitsOf planOf writeDataflash if_then_else_
     step-acknowledged flash h =
         let more : min (i + 1) 4294967295 ≡ suc i = omega arith in
         step-sent (acknowledged) flash ∙ rw (eq-eqb (length payload) (length payload) refl, eq-eqb n n refl, more)

@@ -32,7 +32,7 @@ use Rattle.reading.specs.Parts as parts
 use Rattle.reading.specs.Reading.{dueAsk, shownHead, workHead, shownOf, workShown, nextOf, workAfter, headedOf, advanceOf, failOf, heardHead, verdictOf, heardBlock, acknowledgedOf, outcomeOf, judgeOf, storedOf, reportOf, bufferAfter}
 use Rattle.reading.specs.declared.call.ReadCall.{ReadCall}
 use Rattle.reading.specs.declared.call.ReadTask.{ReadTask}
-use Rattle.r5.specs.Plans.{flashRead}
+use Rattle.r5.specs.Plans.{readDataflash}
 use Rattle.model_gauge.specs.Gauge.{stored, storedForm, pointed, pointedForm, takes, takesForm, flashAfter}
 use Rattle.model_gauge.specs.declared.gauge.Event.{Event}
 use Rattle.model_gauge.specs.declared.gauge.Gauge.{Gauge}
@@ -85,7 +85,7 @@ ask-small false left = rw count-of (omega arith)
 
 module _ (config : Config) (address size n : ℕ) where
   abbrev pub readTask : ReadTask
-  readTask = record { plan = flashRead config address; lent = record { length = size; work = n } }
+  readTask = record { plan = readDataflash config address; lent = record { length = size; work = n } }
 
   -- the call with i blocks received
   abbrev pub readAt : Phase → Bool → ℕ → Budget → Tally → ReadCall
@@ -102,11 +102,11 @@ module _ (config : Config) (address size n : ℕ) where
     -- ---- the head is due
 
     pub shows-head : nextOf (readAt phase.Waiting true i b t) (length buffer) (length work) ≡ transfer.Write (length (headOf i))
-    unfolding nextOf case_waiting_ended_ fitsOf shownOf shownHead flashRead headBytes laidOf writeOf if_then_else_ macBytes pairOf
+    unfolding nextOf case_waiting_ended_ fitsOf shownOf shownHead readDataflash headBytes laidOf writeOf if_then_else_ macBytes pairOf
     shows-head = rw (eq-eqb (length buffer) size fits, eq-eqb (length work) n long, lt-ltb 4 (length work) (omega arith))
 
     lays-head : workAfter (readAt phase.Waiting true i b t) (length buffer) work ≡ over (headOf i) work
-    unfolding workAfter case_waiting_ended_ fitsOf workShown workHead flashRead headBytes workLaid if_then_else_ macBytes pairOf
+    unfolding workAfter case_waiting_ended_ fitsOf workShown workHead readDataflash headBytes workLaid if_then_else_ macBytes pairOf
     lays-head = rw (eq-eqb (length buffer) size fits, eq-eqb (length work) n long, lt-ltb 4 (length work) (omega arith))
 
     pub head-long : length (over (headOf i) work) ≡ n
@@ -122,7 +122,7 @@ module _ (config : Config) (address size n : ℕ) where
     -- ---- a read is due
 
     pub shows-read : nextOf (readAt phase.Waiting false i b t) (length buffer) (length work) ≡ transfer.Read 0x44 (countOf (blockAsk (size - i * 32) (config .«pec_read»)))
-    unfolding nextOf case_waiting_ended_ fitsOf shownOf dueAsk askOf flashRead if_then_else_
+    unfolding nextOf case_waiting_ended_ fitsOf shownOf dueAsk askOf readDataflash if_then_else_
     shows-read = rw (eq-eqb (length buffer) size fits, eq-eqb (length work) n long, ask-command)
 
     lays-none : workAfter (readAt phase.Waiting false i b t) (length buffer) work ≡ work
@@ -147,7 +147,7 @@ module _ (config : Config) (address size n : ℕ) where
     timed-out-buffer h reply = rw (eq-eqb (length buffer) size fits, eq-eqb n n refl)
 
     pub head-heard : reportedOf (readAt phase.Waiting true i b t) outcome.Acknowledged [] size n ≡ readAt (phaseAfter (blocksOf size) i) false i b t
-    unfolding reportedOf takenOf reportOf judgeOf outcomeOf acknowledgedOf heardHead headedOf parts.countOf flashRead case_waiting_ended_ case_acknowledged_error_timeout_ case_refused_fault_headed_block_ fitsOf if_then_else_
+    unfolding reportedOf takenOf reportOf judgeOf outcomeOf acknowledgedOf heardHead headedOf parts.countOf readDataflash case_waiting_ended_ case_acknowledged_error_timeout_ case_refused_fault_headed_block_ fitsOf if_then_else_
     head-heard = rw (eq-eqb size size refl, eq-eqb n n refl)
 
     pub head-heard-buffer : bufferAfter (readAt phase.Waiting true i b t) outcome.Acknowledged [] buffer n ≡ buffer
@@ -156,14 +156,14 @@ module _ (config : Config) (address size n : ℕ) where
 
     module _ (reply : List ℕ) (good : heardOf (blockAsk (size - i * 32) (config .«pec_read»)) reply ≡ heard.Good) where
       pub received : i < 4294967295 → reportedOf (readAt phase.Waiting false i b t) outcome.Acknowledged reply size n ≡ readAt (phaseAfter (blocksOf size) (suc i)) false (suc i) b t
-      unfolding reportedOf takenOf reportOf judgeOf outcomeOf acknowledgedOf heardBlock verdictOf dueAsk askOf advanceOf parts.countOf flashRead case_waiting_ended_ case_acknowledged_error_timeout_ case_refused_fault_headed_block_ fitsOf if_then_else_
+      unfolding reportedOf takenOf reportOf judgeOf outcomeOf acknowledgedOf heardBlock verdictOf dueAsk askOf advanceOf parts.countOf readDataflash case_waiting_ended_ case_acknowledged_error_timeout_ case_refused_fault_headed_block_ fitsOf if_then_else_
       received h =
           let more : min (i + 1) 4294967295 ≡ suc i = omega arith in
           rw (eq-eqb size size refl, eq-eqb n n refl, good, more)
 
       pub received-buffer : bufferAfter (readAt phase.Waiting false i b t) outcome.Acknowledged reply buffer n
           ≡ storedAt (i * 32) 32 (dataOf (blockAsk (size - i * 32) (config .«pec_read»)) reply) buffer
-      unfolding bufferAfter judgeOf outcomeOf acknowledgedOf heardBlock verdictOf dueAsk askOf storedOf mostOf flashRead case_waiting_ended_ case_acknowledged_error_timeout_ case_refused_fault_headed_block_ fitsOf if_then_else_
+      unfolding bufferAfter judgeOf outcomeOf acknowledgedOf heardBlock verdictOf dueAsk askOf storedOf mostOf readDataflash case_waiting_ended_ case_acknowledged_error_timeout_ case_refused_fault_headed_block_ fitsOf if_then_else_
       received-buffer = rw (eq-eqb (length buffer) size fits, eq-eqb n n refl, good)
 
 -- an ended call stays as it is

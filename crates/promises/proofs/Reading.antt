@@ -25,7 +25,7 @@ use Rattle.engine.specs.declared.bus.Phase.{Phase}
 use Rattle.engine.specs.declared.bus.Phase.the-variants as phase
 use Rattle.reading.specs.Parts.{hasHead, blockAsk}
 use Rattle.reading.specs.Reading.{retryOf, endOf, failOf, outcomeOf}
-use Rattle.r5.specs.Plans.{flashRead}
+use Rattle.r5.specs.Plans.{readDataflash}
 use Rattle.model_gauge.specs.Gauge as gauge
 use Rattle.model_gauge.specs.Gauge.{offsetOf, pointed, flashAfter, actedOf, gaugeAfter, repliesTo, movedOf, repliedOf, readAfter, readOutcome}
 use Rattle.model_gauge.specs.declared.gauge.Event.{Event}
@@ -75,7 +75,7 @@ module _ (config : Config) (address n : ℕ) (old flash : List ℕ) (room : 39 �
   reading-failed : (h : Bool) (i : ℕ) (b : Budget) (t : Tally) (g : Gauge) (buffer work : List ℕ) → length work ≡ n → i * 32 < size
       → buffer ≡ over (take (i * 32) wanted) old
       → Reading (world (record { call = failOf (readAt config address size n phase.Waiting h i b t) answer.Timeout; gauge = g }) buffer work flash)
-  unfolding failOf failed case_retry_spent_ retryOf endOf hasHead flashRead if_then_else_
+  unfolding failOf failed case_retry_spent_ retryOf endOf hasHead readDataflash if_then_else_
   reading-failed h i b t g buffer work long l f = by (eqb (b .left) 0) refl
     where
       by : (z : Bool) → eqb (b .left) 0 ≡ z

@@ -23,7 +23,7 @@ use Rattle.engine.specs.declared.bus.Phase.{Phase}
 use Rattle.engine.specs.declared.bus.Phase.the-variants as phase
 use Rattle.reading.specs.Parts.{hasHead}
 use Rattle.reading.specs.Reading.{startOf, nextOf}
-use Rattle.r5.specs.Plans.{flashRead}
+use Rattle.r5.specs.Plans.{readDataflash}
 use Rattle.model_gauge.specs.declared.gauge.Event.{Event}
 use Rattle.model_gauge.specs.declared.gauge.Event.the-variants as event
 use Rattle.model_gauge.specs.declared.gauge.Gauge.{Gauge}
@@ -44,7 +44,7 @@ use Rattle.promises.proofs.Reading.{buffer-long, head-sent, Kept, block
 began-is : (gauge : Gauge) (config : Config) (address : ℕ) (buffer work flash : List ℕ) → Accepted address buffer work flash → (t : Bool) → eqb (length buffer) 0 ≡ t
     → readBegan gauge config address buffer work flash
     ≡ readWorld config address (length buffer) (length work) (if t then phase.Ended answer.Done else phase.Waiting) true 0 (record { left = config .«max_bus_retries» }) nothing gauge buffer work flash
-unfolding readBegan startOf admitted measured windowed flashRead hasHead if_then_else_
+unfolding readBegan startOf admitted measured windowed readDataflash hasHead if_then_else_
 began-is gauge config address buffer work flash a t e = rw (le-ltb (length work) 39 (a .room), a .window, e)
 
 -- a run that is admitted drives the call over its course

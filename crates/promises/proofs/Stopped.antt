@@ -25,7 +25,7 @@ use Rattle.engine.specs.declared.bus.Phase.{Phase}
 use Rattle.engine.specs.declared.bus.Phase.the-variants as phase
 use Rattle.writing.specs.Frames.{isFlash, blockBytes}
 use Rattle.writing.specs.Writing.{planOf, startOf, gaveUp, retryOf, endOf, failOf}
-use Rattle.r5.specs.Plans.{flashWrite}
+use Rattle.r5.specs.Plans.{writeDataflash}
 use Rattle.model_gauge.specs.Gauge.{stored}
 use Rattle.promises.specs.Flash.{placeOf, blockOf, upto, Overlaid}
 use Rattle.promises.specs.Writes.{Cause, busError, timedOut, Event, acknowledged, failed, unheard, World, began, shows, step, run}
@@ -104,7 +104,7 @@ module _ (config : Config) (address : ℕ) (payload old : List ℕ) (n : ℕ) (r
   going-failed : (c : Cause) (i : ℕ) (b : Budget) (t : Tally) (work flash : List ℕ) → length work ≡ n → i * 32 < length payload
       → Overlaid 32 (placeOf address) payload old i flash
       → Going (record { call = failOf (callAt config address payload n phase.Waiting i b t) (whyOf c); work = work; flash = flash; acked = i })
-  unfolding failOf failedOf case_retry_spent_ retryOf endOf gaveUp isFlash planOf flashWrite if_then_else_
+  unfolding failOf failedOf case_retry_spent_ retryOf endOf gaveUp isFlash planOf writeDataflash if_then_else_
   going-failed c i b t work flash long h v = by (eqb (b .left) 0) refl
     where
       by : (z : Bool) → eqb (b .left) 0 ≡ z → Going (record { call = failOf (callAt config address payload n phase.Waiting i b t) (whyOf c); work = work; flash = flash; acked = i })
@@ -162,7 +162,7 @@ module _ (config : Config) (address : ℕ) (payload old : List ℕ) (n : ℕ) (r
 pub began-is : (config : Config) (address : ℕ) (payload work flash : List ℕ) → Accepted address payload work flash → (t : Bool) → eqb (length payload) 0 ≡ t
     → began config address payload work flash
     ≡ worldAt config address payload (length work) (if t then phase.Ended answer.Done else phase.Waiting) 0 (record { left = config .«max_bus_retries» }) nothing work flash
-unfolding began startOf admitted measured windowed planOf flashWrite if_then_else_
+unfolding began startOf admitted measured windowed planOf writeDataflash if_then_else_
 began-is config address payload work flash a t e = rw (le-ltb (length work) 39 (a .room), a .window, e)
 
 -- an ended call stays as it is over every list of events

@@ -9,7 +9,7 @@ use Rattle.protocol.specs.Bytes.{blocksOf}
 use Rattle.protocol.specs.declared.common.Config.{Config}
 use Rattle.engine.specs.declared.bus.Transfer.{Transfer}
 use Rattle.reading.specs.Reading.{startOf, nextOf}
-use Rattle.r5.specs.Plans.{flashRead}
+use Rattle.r5.specs.Plans.{readDataflash}
 use Rattle.model_gauge.specs.declared.gauge.Gauge.{Gauge}
 use Rattle.courses.specs.Course.{soundOf}
 use Rattle.courses.specs.ReadRun.{World, Left, world, runOf}
@@ -24,7 +24,7 @@ flashBytes address n flash = take n (drop (placeOf address) flash)
 -- a data-flash read starts, beside a gauge
 unfoldable pub readBegan : Gauge → Config → ℕ → List ℕ → List ℕ → List ℕ → World
 readBegan gauge config address buffer work flash =
-    world (record { call = startOf (flashRead config address) (length buffer) (length work); gauge = gauge }) buffer work flash
+    world (record { call = startOf (readDataflash config address) (length buffer) (length work); gauge = gauge }) buffer work flash
 
 -- and is run over a course
 abbrev pub readRan : Config → ℕ → List ℕ → List ℕ → List ℕ → Gauge → List ℕ → Left

@@ -10,7 +10,7 @@ use Rattle.engine.specs.declared.bus.Outcome.the-variants as outcome
 use Rattle.engine.specs.declared.bus.Transfer.{Transfer}
 use Rattle.writing.specs.Writing.{startOf, nextOf, workAfter, partOf}
 use Rattle.writing.specs.declared.call.WriteCall.{WriteCall}
-use Rattle.r5.specs.Plans.{flashWrite}
+use Rattle.r5.specs.Plans.{writeDataflash}
 use Rattle.model_gauge.specs.Gauge.{stored}
 use Rattle.courses.specs.Pick.{case_write_read_none_}
 use Rattle.courses.specs.WriteRun.{reportedOf}
@@ -61,7 +61,7 @@ pub record World : Type 0 where
 -- a data-flash write starts
 unfoldable pub began : Config → ℕ → List ℕ → List ℕ → List ℕ → World
 began config address payload work flash =
-    record { call = startOf (flashWrite config address) (length payload) (length work); work = work; flash = flash; acked = 0 }
+    record { call = startOf (writeDataflash config address) (length payload) (length work); work = work; flash = flash; acked = 0 }
 
 -- the n bytes that the machine hands out go to the gauge, and it hears what came of them
 unfoldable pub sent : List ℕ → Event → List ℕ → ℕ → World → World

@@ -16,40 +16,59 @@ use Rattle.reading.specs.declared.parts.Head.the-variants as head
 use Rattle.reading.specs.declared.parts.Reads.the-variants as reads
 use Rattle.reading.specs.declared.call.ReadPlan.{ReadPlan}
 
--- keys and override: exactly so many bytes, behind their fixed pair
+-- exactly so many bytes, behind a fixed pair
 unfoldable pub macRead : Config → MacCommand → ℕ → ReadPlan
 macRead config command size = macPlan config (limit.Exactly size) command size
 
 unfoldable pub macWrite : Config → MacCommand → ℕ → WritePlan
 macWrite config command size = planOf config (limit.Exactly size) (frames.Mac command)
 
+-- the security keys have 28 bytes, the authentication key 16, the charging voltage override ten
+abbrev pub readSecurityKeys : Config → ReadPlan
+readSecurityKeys config = macRead config mac.SecurityKeys 28
+
+abbrev pub writeSecurityKeys : Config → WritePlan
+writeSecurityKeys config = macWrite config mac.SecurityKeys 28
+
+abbrev pub readAuthenticationKey : Config → ReadPlan
+readAuthenticationKey config = macRead config mac.AuthenticationKey 16
+
+abbrev pub writeAuthenticationKey : Config → WritePlan
+writeAuthenticationKey config = macWrite config mac.AuthenticationKey 16
+
+abbrev pub readChargingVoltageOverride : Config → ReadPlan
+readChargingVoltageOverride config = macRead config mac.ChargingVoltageOverride 10
+
+abbrev pub writeChargingVoltageOverride : Config → WritePlan
+writeChargingVoltageOverride config = macWrite config mac.ChargingVoltageOverride 10
+
 -- both halves of an access key
-unfoldable pub accessKey : Config → ℕ → ℕ → WritePlan
-accessKey config lower upper = planOf config limit.Free (frames.AccessKey lower upper)
+unfoldable pub sendAccessKey : Config → ℕ → ℕ → WritePlan
+sendAccessKey config lower upper = planOf config limit.Free (frames.AccessKey lower upper)
 
 -- both halves, then at most 32 bytes of info C
-unfoldable pub infoCWrite : Config → ℕ → ℕ → WritePlan
-infoCWrite config lower upper = planOf config (limit.AtMost 32) (frames.MfgInfoC lower upper)
+unfoldable pub writeMfgInfoC : Config → ℕ → ℕ → WritePlan
+writeMfgInfoC config lower upper = planOf config (limit.AtMost 32) (frames.MfgInfoC lower upper)
 
 -- with PEC the whole register is asked for, and only the part wanted is handed over
 unfoldable pub wholeAsk : Bool → ℕ → ℕ → ℕ
 wholeAsk pec size wanted = if pec then size else wanted
 
 -- at most 32 bytes of info C
-unfoldable pub infoCRead : Config → ℕ → ReadPlan
-infoCRead config n = macPlan config (limit.AtMost 32) mac.MfgInfoC (wholeAsk (config .«pec_read») 32 n)
+unfoldable pub readMfgInfoC : Config → ℕ → ReadPlan
+readMfgInfoC config n = macPlan config (limit.AtMost 32) mac.MfgInfoC (wholeAsk (config .«pec_read») 32 n)
 
 -- at most 32 bytes of info
-unfoldable pub infoWrite : Config → WritePlan
-infoWrite config = planOf config (limit.AtMost 32) frames.MfgInfo
+unfoldable pub writeMfgInfo : Config → WritePlan
+writeMfgInfo config = planOf config (limit.AtMost 32) frames.MfgInfo
 
 -- at most 33 bytes of info, its size byte first
-unfoldable pub infoRead : Config → ℕ → ReadPlan
-infoRead config n = plainPlan config (limit.AtMost 33) (plainAsk 0x70 (wholeAsk (config .«pec_read») 33 n) (config .«pec_read»))
+unfoldable pub readMfgInfo : Config → ℕ → ReadPlan
+readMfgInfo config n = plainPlan config (limit.AtMost 33) (plainAsk 0x70 (wholeAsk (config .«pec_read») 33 n) (config .«pec_read»))
 
 -- data flash inside the window, in blocks of 32
-unfoldable pub flashRead : Config → ℕ → ReadPlan
-flashRead config start = record {
+unfoldable pub readDataflash : Config → ℕ → ReadPlan
+readDataflash config start = record {
   retries = config .«max_bus_retries»;
   limit = limit.Window start;
   head = head.DataFlash start;
@@ -57,5 +76,5 @@ flashRead config start = record {
   reads = reads.Blocks (config .«pec_read»);
 }
 
-unfoldable pub flashWrite : Config → ℕ → WritePlan
-flashWrite config start = planOf config (limit.Window start) (frames.DataFlash start)
+unfoldable pub writeDataflash : Config → ℕ → WritePlan
+writeDataflash config start = planOf config (limit.Window start) (frames.DataFlash start)

@@ -22,8 +22,7 @@ ghost use Rattle.writing.specs.Writing.{startOf as writing-of};
 ghost use Rattle.reading.specs.Reading.{startOf as reading-of};
 ghost use Rattle.interface.specs.Plans.{readBuffer, writeRegister};
 ghost use Rattle.protocol.specs.Common.{noPec};
-ghost use Rattle.r5.specs.Plans.{macRead, macWrite, wholeAsk, infoCRead, infoRead, infoWrite, accessKey, infoCWrite, flashRead, flashWrite};
-ghost use Rattle.protocol.specs.declared.frame.MacCommand.the-variants.{SecurityKeys, AuthenticationKey, ChargingVoltageOverride};
+ghost use Rattle.r5.specs.Plans.{macRead, macWrite, readSecurityKeys, writeSecurityKeys, readAuthenticationKey, writeAuthenticationKey, readChargingVoltageOverride, writeChargingVoltageOverride, wholeAsk, sendAccessKey, writeMfgInfoC, readMfgInfoC, writeMfgInfo, readMfgInfo, readDataflash, writeDataflash};
 
 // A MAC read of exactly `size` bytes.
 fn mac_read(config: Config, command: MacCommand, size: usize) -> ReadPlan
@@ -41,7 +40,7 @@ fn mac_write(config: Config, command: MacCommand, size: usize) -> WritePlan
 
 // Reads the 28 bytes of the security keys.
 pub fn read_security_keys(config: Config, output: &[u8], work: &[u8]) -> ReadCall
-    ensures { λ r. ⌜ r ≡ reading-of (macRead config SecurityKeys 28) (length (now (output .entry))) (length (now (work .entry))) ⌝ }
+    ensures { λ r. ⌜ r ≡ reading-of (readSecurityKeys config) (length (now (output .entry))) (length (now (work .entry))) ⌝ }
 {
     let plan = mac_read(
         config,
@@ -53,7 +52,7 @@ pub fn read_security_keys(config: Config, output: &[u8], work: &[u8]) -> ReadCal
 
 // Writes the 28 bytes of the security keys.
 pub fn write_security_keys(config: Config, keys: &[u8], work: &[u8]) -> WriteCall
-    ensures { λ r. ⌜ r ≡ writing-of (macWrite config SecurityKeys 28) (length (now (keys .entry))) (length (now (work .entry))) ⌝ }
+    ensures { λ r. ⌜ r ≡ writing-of (writeSecurityKeys config) (length (now (keys .entry))) (length (now (work .entry))) ⌝ }
 {
     let plan = mac_write(
         config,
@@ -65,7 +64,7 @@ pub fn write_security_keys(config: Config, keys: &[u8], work: &[u8]) -> WriteCal
 
 // Reads the 16 bytes of the authentication key.
 pub fn read_authentication_key(config: Config, output: &[u8], work: &[u8]) -> ReadCall
-    ensures { λ r. ⌜ r ≡ reading-of (macRead config AuthenticationKey 16) (length (now (output .entry))) (length (now (work .entry))) ⌝ }
+    ensures { λ r. ⌜ r ≡ reading-of (readAuthenticationKey config) (length (now (output .entry))) (length (now (work .entry))) ⌝ }
 {
     let plan = mac_read(
         config,
@@ -77,7 +76,7 @@ pub fn read_authentication_key(config: Config, output: &[u8], work: &[u8]) -> Re
 
 // Writes the 16 bytes of the authentication key.
 pub fn write_authentication_key(config: Config, key: &[u8], work: &[u8]) -> WriteCall
-    ensures { λ r. ⌜ r ≡ writing-of (macWrite config AuthenticationKey 16) (length (now (key .entry))) (length (now (work .entry))) ⌝ }
+    ensures { λ r. ⌜ r ≡ writing-of (writeAuthenticationKey config) (length (now (key .entry))) (length (now (work .entry))) ⌝ }
 {
     let plan = mac_write(
         config,
@@ -89,7 +88,7 @@ pub fn write_authentication_key(config: Config, key: &[u8], work: &[u8]) -> Writ
 
 // Reads the ten bytes of the charging voltage override, which `ChargingVoltageOverride::from_bytes` turns into figures.
 pub fn read_charging_voltage_override(config: Config, output: &[u8], work: &[u8]) -> ReadCall
-    ensures { λ r. ⌜ r ≡ reading-of (macRead config ChargingVoltageOverride 10) (length (now (output .entry))) (length (now (work .entry))) ⌝ }
+    ensures { λ r. ⌜ r ≡ reading-of (readChargingVoltageOverride config) (length (now (output .entry))) (length (now (work .entry))) ⌝ }
 {
     let plan = mac_read(
         config,
@@ -101,7 +100,7 @@ pub fn read_charging_voltage_override(config: Config, output: &[u8], work: &[u8]
 
 // Writes the ten bytes that `ChargingVoltageOverride::to_bytes` makes of the figures.
 pub fn write_charging_voltage_override(config: Config, figures: &[u8], work: &[u8]) -> WriteCall
-    ensures { λ r. ⌜ r ≡ writing-of (macWrite config ChargingVoltageOverride 10) (length (now (figures .entry))) (length (now (work .entry))) ⌝ }
+    ensures { λ r. ⌜ r ≡ writing-of (writeChargingVoltageOverride config) (length (now (figures .entry))) (length (now (work .entry))) ⌝ }
 {
     let plan = mac_write(
         config,
@@ -132,7 +131,7 @@ pub fn write_register_unchecked(
 
 // Sends an access key: its lower half, then its upper one. There is no payload.
 pub fn send_access_key(config: Config, lower: u16, upper: u16, work: &[u8]) -> WriteCall
-    ensures { λ r. ⌜ r ≡ writing-of (accessKey config lower upper) 0 (length (now (work .entry))) ⌝ }
+    ensures { λ r. ⌜ r ≡ writing-of (sendAccessKey config lower upper) 0 (length (now (work .entry))) ⌝ }
 {
     let plan = WritePlan::new(config, Limit::Free, Frames::AccessKey { lower, upper });
     WriteCall::start(plan, b"", work)
@@ -140,7 +139,7 @@ pub fn send_access_key(config: Config, lower: u16, upper: u16, work: &[u8]) -> W
 
 // Unseals the gauge: the same as `send_access_key`.
 pub fn unseal_fg(config: Config, lower: u16, upper: u16, work: &[u8]) -> WriteCall
-    ensures { λ r. ⌜ r ≡ writing-of (accessKey config lower upper) 0 (length (now (work .entry))) ⌝ }
+    ensures { λ r. ⌜ r ≡ writing-of (sendAccessKey config lower upper) 0 (length (now (work .entry))) ⌝ }
 {
     send_access_key(config, lower, upper, work)
 }
@@ -153,7 +152,7 @@ pub fn write_mfg_info_c(
     payload: &[u8],
     work: &[u8],
 ) -> WriteCall
-    ensures { λ r. ⌜ r ≡ writing-of (infoCWrite config lower upper) (length (now (payload .entry))) (length (now (work .entry))) ⌝ }
+    ensures { λ r. ⌜ r ≡ writing-of (writeMfgInfoC config lower upper) (length (now (payload .entry))) (length (now (work .entry))) ⌝ }
 {
     let plan = WritePlan::new(
         config,
@@ -172,7 +171,7 @@ fn whole(pec_read: bool, size: usize, wanted: usize) -> usize
 
 // Reads at most 32 bytes of manufacturer info C.
 pub fn read_mfg_info_c(config: Config, buffer: &[u8], work: &[u8]) -> ReadCall
-    ensures { λ r. ⌜ r ≡ reading-of (infoCRead config (length (now (buffer .entry)))) (length (now (buffer .entry))) (length (now (work .entry))) ⌝ }
+    ensures { λ r. ⌜ r ≡ reading-of (readMfgInfoC config (length (now (buffer .entry)))) (length (now (buffer .entry))) (length (now (work .entry))) ⌝ }
 {
     let asked = whole(config.pec_read, LARGEST_CMD_SIZE_BYTES, buffer.len());
     let plan = ReadPlan::mac(
@@ -186,7 +185,7 @@ pub fn read_mfg_info_c(config: Config, buffer: &[u8], work: &[u8]) -> ReadCall
 
 // Writes at most 32 bytes of manufacturer info.
 pub fn write_mfg_info(config: Config, payload: &[u8], work: &[u8]) -> WriteCall
-    ensures { λ r. ⌜ r ≡ writing-of (infoWrite config) (length (now (payload .entry))) (length (now (work .entry))) ⌝ }
+    ensures { λ r. ⌜ r ≡ writing-of (writeMfgInfo config) (length (now (payload .entry))) (length (now (work .entry))) ⌝ }
 {
     let plan = WritePlan::new(
         config,
@@ -198,7 +197,7 @@ pub fn write_mfg_info(config: Config, payload: &[u8], work: &[u8]) -> WriteCall
 
 // Reads at most 33 bytes of manufacturer info: its size byte counts as data and comes first.
 pub fn read_mfg_info(config: Config, buffer: &[u8], work: &[u8]) -> ReadCall
-    ensures { λ r. ⌜ r ≡ reading-of (infoRead config (length (now (buffer .entry)))) (length (now (buffer .entry))) (length (now (work .entry))) ⌝ }
+    ensures { λ r. ⌜ r ≡ reading-of (readMfgInfo config (length (now (buffer .entry)))) (length (now (buffer .entry))) (length (now (work .entry))) ⌝ }
 {
     let asked = whole(config.pec_read, LARGEST_REG_SIZE_BYTES + 1, buffer.len());
     let plan = ReadPlan::plain(
@@ -211,7 +210,7 @@ pub fn read_mfg_info(config: Config, buffer: &[u8], work: &[u8]) -> ReadCall
 
 // Reads data flash from an address on, block by block.
 pub fn read_dataflash(config: Config, starting_address: u16, read: &[u8], work: &[u8]) -> ReadCall
-    ensures { λ r. ⌜ r ≡ reading-of (flashRead config «starting_address») (length (now (read .entry))) (length (now (work .entry))) ⌝ }
+    ensures { λ r. ⌜ r ≡ reading-of (readDataflash config «starting_address») (length (now (read .entry))) (length (now (work .entry))) ⌝ }
 {
     let plan = ReadPlan {
         retries: config.max_bus_retries,
@@ -230,7 +229,7 @@ pub fn write_dataflash(
     write: &[u8],
     work: &[u8],
 ) -> WriteCall
-    ensures { λ r. ⌜ r ≡ writing-of (flashWrite config «starting_address») (length (now (write .entry))) (length (now (work .entry))) ⌝ }
+    ensures { λ r. ⌜ r ≡ writing-of (writeDataflash config «starting_address») (length (now (write .entry))) (length (now (work .entry))) ⌝ }
 {
     let plan = WritePlan::new(
         config,

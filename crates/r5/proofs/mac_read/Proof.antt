@@ -11,7 +11,7 @@ mac-requires c κs = search needs
 
 returns : tie.Need-returns
 unfolding macRead
-returns c = cc
+returns c = rw (c .mac .ensures)
 
 pub mac-read-spec : {M : Type 1} → statement M
 mac-read-spec = tie.close (tie.spec mac-requires returns)

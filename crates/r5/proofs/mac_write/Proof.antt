@@ -11,7 +11,7 @@ new-requires c κs = search needs
 
 returns : tie.Need-returns
 unfolding macWrite
-returns c = cc
+returns c = rw (c .new .ensures)
 
 pub mac-write-spec : {M : Type 1} → statement M
 mac-write-spec = tie.close (tie.spec new-requires returns)

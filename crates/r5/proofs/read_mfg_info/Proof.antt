@@ -2,7 +2,7 @@
 -- Assumes nothing.
 use Prim.Native.Nat.{_-_}
 use borrow.Author.Needs.{needs}
-use Rattle.r5.specs.Plans.{infoRead}
+use Rattle.r5.specs.Plans.{readMfgInfo}
 use Rattle.r5.proofs.read_mfg_info.Statement.{statement}
 use Rattle.r5.proofs.read_mfg_info.Tie as tie
 
@@ -25,8 +25,8 @@ start-requires : tie.Need-start-requires
 start-requires c κs = search needs
 
 returns : tie.Need-returns
-unfolding infoRead
-returns c = cc
+unfolding readMfgInfo
+returns c = rw (c .start .ensures, c .before .plain2 .ensures, c .before .before .plain .ensures, c .before .before .before .whole .ensures)
 
 pub read-mfg-info-spec : {M : Type 1} → statement M
 read-mfg-info-spec =

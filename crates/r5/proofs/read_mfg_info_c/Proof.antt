@@ -2,7 +2,7 @@
 -- Assumes nothing.
 use Prim.Native.Nat.{_-_}
 use borrow.Author.Needs.{needs}
-use Rattle.r5.specs.Plans.{infoCRead}
+use Rattle.r5.specs.Plans.{readMfgInfoC}
 use Rattle.r5.proofs.read_mfg_info_c.Statement.{statement}
 use Rattle.r5.proofs.read_mfg_info_c.Tie as tie
 
@@ -16,8 +16,8 @@ start-requires : tie.Need-start-requires
 start-requires c κs = search needs
 
 returns : tie.Need-returns
-unfolding infoCRead
-returns c = cc
+unfolding readMfgInfoC
+returns c = rw (c .start .ensures, c .before .mac .ensures, c .before .before .whole .ensures)
 
 pub read-mfg-info-c-spec : {M : Type 1} → statement M
 read-mfg-info-c-spec = tie.close (tie.spec whole-requires mac-requires start-requires returns)

@@ -2,7 +2,7 @@
 -- Assumes nothing.
 use Prim.Native.Nat.{_-_}
 use borrow.Author.Needs.{needs}
-use Rattle.r5.specs.Plans.{accessKey}
+use Rattle.r5.specs.Plans.{sendAccessKey}
 use Rattle.r5.proofs.send_access_key.Statement.{statement}
 use Rattle.r5.proofs.send_access_key.Tie as tie
 
@@ -16,8 +16,8 @@ start-requires : tie.Need-start-requires
 start-requires c κs = search needs
 
 returns : tie.Need-returns
-unfolding accessKey
-returns c = cc
+unfolding sendAccessKey
+returns c = rw (c .start .ensures, c .before .before .new .ensures)
 
 pub send-access-key-spec : {M : Type 1} → statement M
 send-access-key-spec =

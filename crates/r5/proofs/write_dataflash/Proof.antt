@@ -2,7 +2,7 @@
 -- Assumes nothing.
 use Prim.Native.Nat.{_-_}
 use borrow.Author.Needs.{needs}
-use Rattle.r5.specs.Plans.{flashWrite}
+use Rattle.r5.specs.Plans.{writeDataflash}
 use Rattle.r5.proofs.write_dataflash.Statement.{statement}
 use Rattle.r5.proofs.write_dataflash.Tie as tie
 
@@ -13,8 +13,8 @@ start-requires : tie.Need-start-requires
 start-requires c κs = search needs
 
 returns : tie.Need-returns
-unfolding flashWrite
-returns c = cc
+unfolding writeDataflash
+returns c = rw (c .start .ensures, c .before .new .ensures)
 
 pub write-dataflash-spec : {M : Type 1} → statement M
 write-dataflash-spec = tie.close (tie.spec new-requires start-requires returns)

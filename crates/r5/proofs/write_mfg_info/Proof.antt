@@ -2,7 +2,7 @@
 -- Assumes nothing.
 use Prim.Native.Nat.{_-_}
 use borrow.Author.Needs.{needs}
-use Rattle.r5.specs.Plans.{infoWrite}
+use Rattle.r5.specs.Plans.{writeMfgInfo}
 use Rattle.r5.proofs.write_mfg_info.Statement.{statement}
 use Rattle.r5.proofs.write_mfg_info.Tie as tie
 
@@ -13,8 +13,8 @@ start-requires : tie.Need-start-requires
 start-requires c κs = search needs
 
 returns : tie.Need-returns
-unfolding infoWrite
-returns c = cc
+unfolding writeMfgInfo
+returns c = rw (c .start .ensures, c .before .new .ensures)
 
 pub write-mfg-info-spec : {M : Type 1} → statement M
 write-mfg-info-spec = tie.close (tie.spec new-requires start-requires returns)

@@ -12,7 +12,7 @@ write-register-requires : tie.Need-write-register-requires
 write-register-requires c κs = search needs
 
 returns : tie.Need-returns
-returns c = cc
+returns c = rw (c .write-register .ensures, c .before .no-pec .ensures)
 
 pub write-register-unchecked-spec : {M : Type 1} → statement M
 write-register-unchecked-spec =
