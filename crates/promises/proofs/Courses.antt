@@ -31,19 +31,17 @@ use Rattle.courses.specs.Pick.{case_write_read_none_, case_refused_admitted_}
 use Rattle.courses.specs.Course.{eventOf, eventsOf, soundOf, admitOf, endOf}
 use Rattle.courses.specs.WriteRun.{World as ModelWorld, Left, sentOf, sentFlash, stepOf, driveOf, endedOf, leftOf, runOf}
 use Rattle.courses.specs.declared.course.End.{End}
-use Rattle.courses.specs.declared.course.End.the-variants as end
 use Rattle.courses.proofs.Cases.{at-write}
-use Rattle.promises.specs.Flash.{placeOf, blockOf}
+use Rattle.promises.specs.Flash.{placeOf, blockOf, Overlaid}
 use Rattle.promises.specs.Writes as written
 use Rattle.promises.specs.Writes.{World, began, shows, step, run}
-use Rattle.promises.specs.Demand3.{clean, Answered, Told, EndedWell, countOf, Accepted}
-use Rattle.promises.specs.Courses.{eventIn, eventsIn, beside, ran, ranIn, left-over, endIn, Tells, Leaves, RanWell, Go, started, ran-on, GoesOn, ended-well, went-on, started-over, OnCourses}
-use Rattle.promises.proofs.Overlay.{overlaid-all}
+use Rattle.promises.specs.Demand3.{clean, Told, endIn, Tells, EndedWell, ended-well, Accepted}
+use Rattle.promises.specs.Courses.{eventIn, eventsIn, beside, ran, ranIn, left-over, Leaves, Go, started, ran-on, GoOnCourses, OnCourses}
 use Rattle.promises.proofs.Window.{within}
 use Rattle.promises.proofs.Frames.{takes-block, block-points}
 use Rattle.promises.proofs.Machine.{worldAt, frameOf, shows-block, shows-ended, lays, hands-out, laid-long, step-sent, step-ended}
 use Rattle.promises.proofs.Stopped.{ToldAt, Going, going-step, going, run-empty, stopped}
-use Rattle.promises.proofs.Resumed.{done-all, rest-goes, over-goes, unbroken as whole-write}
+use Rattle.promises.proofs.Resumed.{LeftBy, goes, unbroken as whole-write}
 
 -- what the gauge does to the flash is what the demand supposes
 same-flash : (e : ModelEvent) (frame flash : List ℕ) → flashAfter e frame flash ≡ written.flashAfter (eventIn e) frame flash
@@ -255,26 +253,15 @@ module _ (config : Config) (address : ℕ) (payload work flash : List ℕ) (a : 
       let o = one-course g in
       (ranIn config address payload work flash (o .0) .acked, subst (Leaves address payload flash _) (sym (o .2)) (run-leaves config address payload work flash a gauge (o .0) (o .1)))
 
--- a run that ended well has had every block acknowledged
-ran-all : (n i : ℕ) (e : End) → RanWell e → Tells 32 n i e → n ≤ i * 32
-ran-all n i end.Cut w s = absurd w
-ran-all n i (end.Answered a) w s = done-all n i a w s
-
--- each go leaves less to do, and the last one leaves what one clean write would
-goes : {address : ℕ} {payload flash after : List ℕ} → inWindow address (length payload) ≡ true → length flash ≡ 8192
-    → GoesOn address payload flash after → after ≡ clean address payload flash
-goes {address} {payload} {flash} win whole (ended-well config work gauge left room g w) =
-    let l = go-leaves config address payload work flash (record { window = win; room = room; whole = whole }) gauge left g in
-    overlaid-all 32 (placeOf address) payload flash (l .0) (left .flash) (ran-all (length payload) (l .0) (left .run .end) w (l .1 .told)) (l .1 .overlay)
-goes {address} {payload} {flash} {after} win whole (went-on config work gauge left a room g e on) =
-    let l = go-leaves config address payload work flash (record { window = win; room = room; whole = whole }) gauge left g in
-    let told : Answered 32 (length payload) (l .0) a = subst (Tells 32 (length payload) (l .0)) e (l .1 .told) in
-    let r = rest-goes address payload flash win whole (l .0) a (left .flash) told (l .1 .overlay) in
-    goes {address = address + countOf a} {payload = drop (countOf a) payload} {flash = left .flash} (r .0) (l .1 .bytes .size ∙ whole) on ∙ r .1
-goes {address} {payload} {flash} {after} win whole (started-over config work gauge left room g e on) =
-    let l = go-leaves config address payload work flash (record { window = win; room = room; whole = whole }) gauge left g in
-    goes {address = address} {payload = payload} {flash = left .flash} win (l .1 .bytes .size ∙ whole) on
-    ∙ over-goes address payload flash win whole (l .0) (left .flash) (l .1 .overlay)
+on-courses-leaves : (address : ℕ) (payload flash : List ℕ) (e : End) (now : List ℕ) → inWindow address (length payload) ≡ true → length flash ≡ 8192
+    → GoOnCourses address payload flash e now → LeftBy address payload flash e now
+on-courses-leaves address payload flash e now win whole g =
+    let l = go-leaves (g .config) address payload (g .work) flash (record { window = win; room = g .room; whole = whole }) (g .gauge) (g .left) (g .go) in (
+      l .0,
+      subst (Overlaid 32 (placeOf address) payload flash (l .0)) (sym (g .leaves)) (l .1 .overlay),
+      ap length (g .leaves) ∙ l .1 .bytes .size,
+      subst (Tells 32 (length payload) (l .0)) (sym (g .ends)) (l .1 .told),
+    )
 
 -- ---- every transfer is heard
 
@@ -292,23 +279,19 @@ heard-in : (n : ℕ) → eventsIn (replicate n model.Heard) ≡ replicate n writ
 heard-in zero = refl
 heard-in (suc n) = ap (λ (es : List written.Event). written.acknowledged ∷ es) (heard-in n)
 
-end-well : (t : Transfer) → EndedWell t → RanWell (endIn t)
-end-well (transfer.Write count) w = absurd w
-end-well (transfer.Read command count) w = absurd w
-end-well (transfer.Refused a) w = absurd w
-end-well (transfer.Ended a) w = w
-
 pub unbroken : (config : Config) (address : ℕ) (payload work flash : List ℕ) → Accepted address payload work flash
     → (gauge : Gauge) (n : ℕ) → length payload ≤ n * 32
-    → RanWell (ran config address payload work flash gauge (replicate n 0) .run .end)
+    → EndedWell (ran config address payload work flash gauge (replicate n 0) .run .end)
     × (ran config address payload work flash gauge (replicate n 0) .flash ≡ clean address payload flash)
 unbroken config address payload work flash a gauge n l =
     let u = whole-write config address payload work flash a n l in
     let events : eventsIn (eventsOf (replicate n 0)) ≡ replicate n written.acknowledged = ap eventsIn (heard-events n) ∙ heard-in n in
-    let well : EndedWell (shows payload (ranIn config address payload work flash (replicate n 0))) = rw events (u .0) in
-    let ran-well : RanWell (ran config address payload work flash gauge (replicate n 0) .run .end) =
-    rw (run-ends config address payload work flash a gauge (replicate n 0) (heard-sound n)) (end-well (shows payload (ranIn config address payload work flash (replicate n 0))) well) in
-    (ran-well, goes (a .window) (a .whole) (ended-well config work gauge _ (a .room) (started (replicate n 0) (heard-sound n)) ran-well))
+    let left : Left = ran config address payload work flash gauge (replicate n 0) in
+    let well : EndedWell (endIn (shows payload (ranIn config address payload work flash (replicate n 0)))) = rw events (u .0) in
+    let ran-well : EndedWell (left .run .end) = rw (run-ends config address payload work flash a gauge (replicate n 0) (heard-sound n)) well in
+    let go : GoOnCourses address payload flash (left .run .end) (left .flash) =
+    record { config = config; work = work; gauge = gauge; left = left; room = a .room; go = started (replicate n 0) (heard-sound n); ends = refl; leaves = refl } in
+    (ran-well, goes GoOnCourses on-courses-leaves (a .window) (a .whole) (ended-well (left .run .end) ran-well go))
 
 -- every run over every course keeps demand 3
 pub on-courses : OnCourses
@@ -318,6 +301,6 @@ on-courses =
       ends = λ config address payload work flash a gauge course sound. run-ends config address payload work flash a gauge course sound;
       promised = λ config address payload work flash a gauge course sound. run-leaves config address payload work flash a gauge course sound;
       runs-on = λ config address payload work flash a gauge course further p q. runs-on config address payload work flash a gauge course further p q;
-      goes-on = λ address payload flash after win whole g. goes win whole g;
+      goes-on = λ address payload flash after win whole g. goes GoOnCourses on-courses-leaves win whole g;
       unbroken = unbroken;
     }

@@ -32,8 +32,8 @@ use Rattle.courses.specs.Course.{eventsOf, soundOf, admitOf, endOf}
 use Rattle.courses.specs.ReadRun.{World, Left, stepOf, driveOf, endedOf, leftOf, runOf}
 use Rattle.courses.specs.declared.course.End.the-variants as end
 use Rattle.promises.specs.Flash.{placeOf, store}
-use Rattle.promises.specs.Demand3.{clean, Accepted}
-use Rattle.promises.specs.Courses.{ran, endIn, RanWell}
+use Rattle.promises.specs.Demand3.{endIn, EndedWell, clean, Accepted}
+use Rattle.promises.specs.Courses.{ran}
 use Rattle.promises.specs.Reading.{flashBytes, readBegan, readRan, read-over, readShows, ReadsTrue}
 use Rattle.promises.proofs.Window.{within}
 use Rattle.promises.proofs.Courses.{run-leaves, events-both, sound-both, heard-events, heard-sound, unbroken}
@@ -61,7 +61,7 @@ module _ (config : Config) (address : ℕ) (buffer work flash : List ℕ) (a : A
   -- a run that ended well has received every block
   done-received : (low : 0x4000 ≤ address) (high : address + length buffer ≤ 0x6000) (p : Phase) (h : Bool) (i : ℕ) (b : Budget) (t : Tally) (g : Gauge) (now work′ : List ℕ)
       → length now ≡ length buffer → length work′ ≡ length work
-      → RanWell (leftOf (readWorld config address (length buffer) (length work) p h i b t g now work′ flash) .run .end)
+      → EndedWell (leftOf (readWorld config address (length buffer) (length work) p h i b t g now work′ flash) .run .end)
       → Kept config address (length work) buffer flash (a .room) (a .whole) low high p h i g → length buffer ≤ i * 32
   unfolding leftOf endedOf endOf case_waiting_ended_ fitsOf if_then_else_
   done-received low high phase.Waiting h i b t g now work′ fits long e k =
@@ -73,7 +73,7 @@ module _ (config : Config) (address : ℕ) (buffer work flash : List ℕ) (a : A
       → length work′ ≡ length work → now ≡ over (take (i * 32) (flashBytes address (length buffer) flash)) buffer
       → Kept config address (length work) buffer flash (a .room) (a .whole) low high p h i g
       → (leftOf (readWorld config address (length buffer) (length work) p h i b t g now work′ flash) .flash ≡ flash)
-      × (RanWell (leftOf (readWorld config address (length buffer) (length work) p h i b t g now work′ flash) .run .end)
+      × (EndedWell (leftOf (readWorld config address (length buffer) (length work) p h i b t g now work′ flash) .run .end)
       → leftOf (readWorld config address (length buffer) (length work) p h i b t g now work′ flash) .buffer ≡ flashBytes address (length buffer) flash)
   unfolding leftOf
   kept-true low high p h i b t g now work′ long f k = (
@@ -115,7 +115,7 @@ module _ (config : Config) (address : ℕ) (buffer work flash : List ℕ) (a : A
 
   reads-empty : (course : List ℕ) → length buffer ≡ 0
       → (leftOf (driveOf (eventsOf course) (readBegan gauge config address buffer work flash)) .flash ≡ flash)
-      × (RanWell (leftOf (driveOf (eventsOf course) (readBegan gauge config address buffer work flash)) .run .end)
+      × (EndedWell (leftOf (driveOf (eventsOf course) (readBegan gauge config address buffer work flash)) .run .end)
       → leftOf (driveOf (eventsOf course) (readBegan gauge config address buffer work flash)) .buffer ≡ flashBytes address (length buffer) flash)
   unfolding leftOf
   reads-empty course empty =
@@ -124,7 +124,7 @@ module _ (config : Config) (address : ℕ) (buffer work flash : List ℕ) (a : A
 
   reads-some : (course : List ℕ) → 0 < length buffer
       → (leftOf (driveOf (eventsOf course) (readBegan gauge config address buffer work flash)) .flash ≡ flash)
-      × (RanWell (leftOf (driveOf (eventsOf course) (readBegan gauge config address buffer work flash)) .run .end)
+      × (EndedWell (leftOf (driveOf (eventsOf course) (readBegan gauge config address buffer work flash)) .run .end)
       → leftOf (driveOf (eventsOf course) (readBegan gauge config address buffer work flash)) .buffer ≡ flashBytes address (length buffer) flash)
   reads-some course some =
       let w = within address (length buffer) (a .window) some in
@@ -133,13 +133,13 @@ module _ (config : Config) (address : ℕ) (buffer work flash : List ℕ) (a : A
 
   pub reads : (course : List ℕ) → soundOf course ≡ true
       → (readRan config address buffer work flash gauge course .flash ≡ flash)
-      × (RanWell (readRan config address buffer work flash gauge course .run .end)
+      × (EndedWell (readRan config address buffer work flash gauge course .run .end)
       → readRan config address buffer work flash gauge course .buffer ≡ flashBytes address (length buffer) flash)
   reads course sound = rw (run-is course sound) (by (eqb (length buffer) 0) refl)
     where
       by : (t : Bool) → eqb (length buffer) 0 ≡ t
           → (leftOf (driveOf (eventsOf course) (readBegan gauge config address buffer work flash)) .flash ≡ flash)
-          × (RanWell (leftOf (driveOf (eventsOf course) (readBegan gauge config address buffer work flash)) .run .end)
+          × (EndedWell (leftOf (driveOf (eventsOf course) (readBegan gauge config address buffer work flash)) .run .end)
           → leftOf (driveOf (eventsOf course) (readBegan gauge config address buffer work flash)) .buffer ≡ flashBytes address (length buffer) flash)
       by true t = reads-empty course (eqb-true _ _ t)
       by false t =
@@ -263,15 +263,15 @@ clean-bytes address payload flash fits =
 pub reads-back : (config config′ : Config) (address : ℕ) (payload work flash buffer work′ : List ℕ) → Accepted address payload work flash
     → length buffer ≡ length payload → 39 ≤ length work′
     → (gauge gauge′ : Gauge) (n m : ℕ) → blocksOf (length payload) ≤ n → blocksOf (length payload) < m
-    → RanWell (readRan config′ address buffer work′ (ran config address payload work flash gauge (replicate n 0) .flash) gauge′ (replicate m 0) .run .end)
+    → EndedWell (readRan config′ address buffer work′ (ran config address payload work flash gauge (replicate n 0) .flash) gauge′ (replicate m 0) .run .end)
     × (readRan config′ address buffer work′ (ran config address payload work flash gauge (replicate n 0) .flash) gauge′ (replicate m 0) .buffer ≡ payload)
 reads-back config config′ address payload work flash buffer work′ a same room gauge gauge′ n m blocks more =
     let now : List ℕ = ran config address payload work flash gauge (replicate n 0) .flash in
     let clean-now : now ≡ clean address payload flash = unbroken config address payload work flash a gauge n (omega arith) .1 in
     let c : Accepted address buffer work′ now =
     record { window = rw same (a .window); room = room; whole = run-leaves config address payload work flash a gauge (replicate n 0) (heard-sound n) .bytes .size ∙ a .whole } in
-    let well : RanWell (readRan config′ address buffer work′ now gauge′ (replicate m 0) .run .end) =
-    subst RanWell (sym (heard-ends config′ address buffer work′ now c gauge′ m (rw same more))) refl in (
+    let well : EndedWell (readRan config′ address buffer work′ now gauge′ (replicate m 0) .run .end) =
+    subst EndedWell (sym (heard-ends config′ address buffer work′ now c gauge′ m (rw same more))) refl in (
       well,
       reads config′ address buffer work′ now c gauge′ (replicate m 0) (heard-sound m) .1 well
           ∙ rw (same, clean-now) (by (eqb (length payload) 0) refl),

@@ -1,7 +1,7 @@
 -- Go on: each go leaves less to do, and the last one leaves what one clean write would; and that is what a write leaves whose every transfer is acknowledged.
 -- Assumes nothing.
 use Prim.Native.Nat.{ℕ, zero, suc, _+_, _*_, _≤_, _<_}
-use mathlib.Core.Path.{_≡_, refl, sym, ap, _∙_}
+use mathlib.Core.Path.{_≡_, refl, sym, ap, subst, _∙_}
 use mathlib.Core.Bool.{Bool, true, false}
 use mathlib.Core.Logic.{inl, inr}
 use mathlib.Core.List.{List}
@@ -29,9 +29,11 @@ use Rattle.engine.specs.declared.bus.Transfer.the-variants as transfer
 use Rattle.writing.specs.Writing.{nextOf}
 use Rattle.writing.specs.declared.call.WriteCall.{WriteCall}
 use Rattle.model_gauge.specs.Gauge.{stored}
+use Rattle.courses.specs.declared.course.End.{End}
+use Rattle.courses.specs.declared.course.End.the-variants as end
 use Rattle.promises.specs.Flash.{placeOf, Overlaid}
 use Rattle.promises.specs.Writes.{acknowledged, World, began, shows, run}
-use Rattle.promises.specs.Demand3.{clean, Answered, all-acked, some-acked, none-acked, Told, Promised, EndedWell, countOf, Goes, ended-well, went-on, started-over, Accepted}
+use Rattle.promises.specs.Demand3.{clean, Answered, all-acked, some-acked, none-acked, Told, Promised, endIn, Tells, EndedWell, countOf, Goes, ended-well, went-on, started-over, GoOver, Accepted}
 use Rattle.promises.proofs.Overlay.{overlaid-all, overlaid-rest}
 use Rattle.promises.proofs.Store.{store-empty}
 use Rattle.promises.proofs.Window.{within, window-rest}
@@ -48,20 +50,18 @@ count-acked n i a (none-acked (inl z) e) = rw z (omega arith, omega arith)
 count-acked n i a (none-acked (inr z) e) = rw z (omega arith, omega arith)
 
 -- a call that ended well has had every block acknowledged
-pub done-all : (n i : ℕ) (a : Answer) → numberOf a ≡ 0 → Answered 32 n i a → n ≤ i * 32
+done-all : (n i : ℕ) (a : Answer) → numberOf a ≡ 0 → Answered 32 n i a → n ≤ i * 32
 done-all n i a w (all-acked z h) = h
 done-all n i a w (some-acked z e p h) = absurd (omega arith)
 done-all n i a w (none-acked (inl z) e) = absurd (omega arith)
 done-all n i a w (none-acked (inr z) e) = absurd (omega arith)
 
-well-all : (n i : ℕ) (t : Transfer) → EndedWell t → Told 32 n i t → n ≤ i * 32
-well-all n i (transfer.Write count) w s = absurd w
-well-all n i (transfer.Read command count) w s = absurd w
-well-all n i (transfer.Refused a) w s = absurd w
-well-all n i (transfer.Ended a) w s = done-all n i a w s
+well-all : (n i : ℕ) (e : End) → EndedWell e → Tells 32 n i e → n ≤ i * 32
+well-all n i end.Cut w s = absurd w
+well-all n i (end.Answered a) w s = done-all n i a w s
 
 -- over what a stopped write left, a write of the bytes past any part of what was acknowledged leaves what one clean write would
-pub clean-rest : (address : ℕ) (payload flash : List ℕ) → inWindow address (length payload) ≡ true → length flash ≡ 8192
+clean-rest : (address : ℕ) (payload flash : List ℕ) → inWindow address (length payload) ≡ true → length flash ≡ 8192
     → (i b : ℕ) (now : List ℕ) → b ≤ i * 32 → b ≤ length payload → Overlaid 32 (placeOf address) payload flash i now
     → clean (address + b) (drop b payload) now ≡ clean address payload flash
 clean-rest address payload flash win whole i b now h l v = by (eqb (length payload) 0) refl
@@ -80,7 +80,7 @@ clean-rest address payload flash win whole i b now h l v = by (eqb (length paylo
         rw place (overlaid-rest 32 (placeOf address) payload flash (omega arith) i b now h l v)
 
 -- the next go is inside the window, and a clean write of it is a clean write of all
-pub rest-goes : (address : ℕ) (payload flash : List ℕ) → inWindow address (length payload) ≡ true → length flash ≡ 8192
+rest-goes : (address : ℕ) (payload flash : List ℕ) → inWindow address (length payload) ≡ true → length flash ≡ 8192
     → (i : ℕ) (a : Answer) (now : List ℕ) → Answered 32 (length payload) i a → Overlaid 32 (placeOf address) payload flash i now
     → (inWindow (address + countOf a) (length (drop (countOf a) payload)) ≡ true)
     × (clean (address + countOf a) (drop (countOf a) payload) now ≡ clean address payload flash)
@@ -91,34 +91,54 @@ rest-goes address payload flash win whole i a now told v =
     )
 
 -- a write of all of it again
-pub over-goes : (address : ℕ) (payload flash : List ℕ) → inWindow address (length payload) ≡ true → length flash ≡ 8192
+over-goes : (address : ℕ) (payload flash : List ℕ) → inWindow address (length payload) ≡ true → length flash ≡ 8192
     → (i : ℕ) (now : List ℕ) → Overlaid 32 (placeOf address) payload flash i now → clean address payload now ≡ clean address payload flash
 over-goes address payload flash win whole i now v =
     rw (add-zero address) at (clean-rest address payload flash win whole i 0 now (omega arith) (omega arith) v)
 
--- each go leaves less to do, and the last one leaves what one clean write would
-goes : {address : ℕ} {payload flash after : List ℕ} → inWindow address (length payload) ≡ true → length flash ≡ 8192
-    → Goes address payload flash after → after ≡ clean address payload flash
-goes {address} {payload} {flash} win whole (ended-well config work es room e) =
-    let w : World = run payload es (began config address payload work flash) in
-    let s : Promised address payload flash w = stopped config address payload work flash (record { window = win; room = room; whole = whole }) es in
-    overlaid-all 32 (placeOf address) payload flash (w .acked) (w .flash) (well-all (length payload) (w .acked) (shows payload w) e (s .told)) (s .overlay)
-goes {address} {payload} {flash} {after} win whole (went-on config work es a room e g) =
-    let w : World = run payload es (began config address payload work flash) in
-    let s : Promised address payload flash w = stopped config address payload work flash (record { window = win; room = room; whole = whole }) es in
-    let told : Answered 32 (length payload) (w .acked) a = rw e at (s .told) in
-    let r = rest-goes address payload flash win whole (w .acked) a (w .flash) told (s .overlay) in
-    goes {address = address + countOf a} {payload = drop (countOf a) payload} {flash = w .flash} (r .0) (s .bytes .size ∙ whole) g ∙ r .1
-goes {address} {payload} {flash} {after} win whole (started-over config work es n room e g) =
-    let w : World = run payload es (began config address payload work flash) in
-    let s : Promised address payload flash w = stopped config address payload work flash (record { window = win; room = room; whole = whole }) es in
-    goes {address = address} {payload = payload} {flash = w .flash} win (s .bytes .size ∙ whole) g
-    ∙ over-goes address payload flash win whole (w .acked) (w .flash) (s .overlay)
+-- what a go leaves: i blocks acknowledged, the flash as an overlay of them, no byte more or fewer, and what its end says
+abbrev pub LeftBy : ℕ → List ℕ → List ℕ → End → List ℕ → Type 0
+LeftBy address payload flash e now = (i : ℕ) × Overlaid 32 (placeOf address) payload flash i now × (length now ≡ length flash) × Tells 32 (length payload) i e
+
+-- where every go leaves that, each leaves less to do, and the last one leaves what one clean write would
+module _ (Go : ℕ → List ℕ → List ℕ → End → List ℕ → Type 0)
+    (leaves : (address : ℕ) (payload flash : List ℕ) (e : End) (now : List ℕ) → inWindow address (length payload) ≡ true → length flash ≡ 8192
+    → Go address payload flash e now → LeftBy address payload flash e now) where
+  pub goes : {address : ℕ} {payload flash after : List ℕ} → inWindow address (length payload) ≡ true → length flash ≡ 8192
+      → Goes Go address payload flash after → after ≡ clean address payload flash
+  goes {address} {payload} {flash} {after} win whole (ended-well e w g) =
+      let l = leaves address payload flash e after win whole g in
+      overlaid-all 32 (placeOf address) payload flash (l .0) after (well-all (length payload) (l .0) e w (l .3)) (l .1)
+  goes {address} {payload} {flash} {after} win whole (went-on {now = now} a g on) =
+      let l = leaves address payload flash (end.Answered a) now win whole g in
+      let r = rest-goes address payload flash win whole (l .0) a now (l .3) (l .1) in
+      goes {address = address + countOf a} {payload = drop (countOf a) payload} {flash = now} (r .0) (l .2 ∙ whole) on ∙ r .1
+  goes {address} {payload} {flash} {after} win whole (started-over {now = now} g on) =
+      let l = leaves address payload flash end.Cut now win whole g in
+      goes {address = address} {payload = payload} {flash = now} win (l .2 ∙ whole) on ∙ over-goes address payload flash win whole (l .0) now (l .1)
+
+-- what the machine shows, as a stop
+told-end : (k n i : ℕ) (t : Transfer) → Told k n i t → Tells k n i (endIn t)
+told-end k n i (transfer.Write count) h = h
+told-end k n i (transfer.Read command count) h = absurd h
+told-end k n i (transfer.Refused a) h = absurd h
+told-end k n i (transfer.Ended a) h = h
+
+over-leaves : (address : ℕ) (payload flash : List ℕ) (e : End) (now : List ℕ) → inWindow address (length payload) ≡ true → length flash ≡ 8192
+    → GoOver address payload flash e now → LeftBy address payload flash e now
+over-leaves address payload flash e now win whole g =
+    let w : World = run payload (g .es) (began (g .config) address payload (g .work) flash) in
+    let s : Promised address payload flash w = stopped (g .config) address payload (g .work) flash (record { window = win; room = g .room; whole = whole }) (g .es) in (
+      w .acked,
+      subst (Overlaid 32 (placeOf address) payload flash (w .acked)) (sym (g .leaves)) (s .overlay),
+      ap length (g .leaves) ∙ s .bytes .size,
+      subst (Tells 32 (length payload) (w .acked)) (sym (g .ends)) (told-end 32 (length payload) (w .acked) (shows payload w) (s .told)),
+    )
 
 -- GO ON, any number of times
 pub resumed : (address : ℕ) (payload flash after : List ℕ) → inWindow address (length payload) ≡ true → length flash ≡ 8192
-    → Goes address payload flash after → after ≡ clean address payload flash
-resumed address payload flash after win whole g = goes win whole g
+    → Goes GoOver address payload flash after → after ≡ clean address payload flash
+resumed address payload flash after win whole g = goes GoOver over-leaves win whole g
 
 -- ---- the clean write
 
@@ -151,14 +171,17 @@ shows-done call payload w e = rw e
 -- and that is what a write leaves whose every transfer is acknowledged
 pub unbroken : (config : Config) (address : ℕ) (payload work flash : List ℕ) → Accepted address payload work flash
     → (n : ℕ) → length payload ≤ n * 32
-    → EndedWell (shows payload (run payload (replicate n acknowledged) (began config address payload work flash)))
+    → EndedWell (endIn (shows payload (run payload (replicate n acknowledged) (began config address payload work flash))))
     × (run payload (replicate n acknowledged) (began config address payload work flash) .flash ≡ clean address payload flash)
 unfolding if_then_else_
 unbroken config address payload work flash a n l =
     let w : World = run payload (replicate n acknowledged) (began config address payload work flash) in
     let shown : shows payload w ≡ transfer.Ended answer.Done = shows-done (w .call) payload (length (w .work)) (done-at (eqb (length payload) 0) refl) in
-    let e : EndedWell (shows payload w) = rw shown refl in
-    (e, resumed address payload flash (run payload (replicate n acknowledged) (began config address payload work flash) .flash) (a .window) (a .whole) (ended-well config work (replicate n acknowledged) (a .room) e))
+    let e : EndedWell (endIn (shows payload w)) = rw shown refl in (
+      e,
+      resumed address payload flash (run payload (replicate n acknowledged) (began config address payload work flash) .flash) (a .window) (a .whole)
+          (ended-well (endIn (shows payload w)) e (record { config = config; work = work; es = replicate n acknowledged; room = a .room; ends = refl; leaves = refl })),
+    )
   where
     done-at : (t : Bool) → eqb (length payload) 0 ≡ t → run payload (replicate n acknowledged) (began config address payload work flash) .call .phase ≡ phase.Ended answer.Done
     done-at true t = ap (λ (w : World). w .call .phase) (run-empty config address payload work flash a (eqb-true _ _ t) (replicate n acknowledged))

@@ -1,26 +1,21 @@
 -- Demand 3 on the model's courses: each byte of a course is one of the events that the demand speaks of, so every run over every course keeps it.
 -- Assumes nothing.
-use Prim.Native.Nat.{ℕ, _+_, _*_, _≤_, _<_}
+use Prim.Native.Nat.{ℕ, _*_, _≤_}
 use mathlib.Core.Path.{_≡_}
 use mathlib.Core.Bool.{true}
 use mathlib.Core.List.{List, [], _∷_, _++_}
-use lib.ListN.{length, drop, replicate}
-use Rattle.protocol.specs.Answer.{numberOf}
+use lib.ListN.{length, replicate}
 use Rattle.protocol.specs.Window.{inWindow}
 use Rattle.protocol.specs.declared.common.Config.{Config}
-use Rattle.protocol.specs.declared.error.Answer.{Answer}
-use Rattle.engine.specs.declared.bus.Transfer.{Transfer}
-use Rattle.engine.specs.declared.bus.Transfer.the-variants as transfer
 use Rattle.model_gauge.specs.declared.gauge.Event.the-variants as model
 use Rattle.model_gauge.specs.declared.gauge.Event.{Event as ModelEvent}
 use Rattle.model_gauge.specs.declared.gauge.Gauge.{Gauge}
 use Rattle.courses.specs.Course.{eventsOf, soundOf}
 use Rattle.courses.specs.WriteRun.{World as ModelWorld, Left, world, leftOf, runOf}
 use Rattle.courses.specs.declared.course.End.{End}
-use Rattle.courses.specs.declared.course.End.the-variants as end
 use Rattle.promises.specs.Flash.{placeOf, Overlaid, Stands}
 use Rattle.promises.specs.Writes.{Event, acknowledged, failed, unheard, timedOut, World, began, shows, run}
-use Rattle.promises.specs.Demand3.{clean, Answered, countOf, Accepted}
+use Rattle.promises.specs.Demand3.{clean, endIn, Tells, EndedWell, Goes, Accepted}
 
 -- ---- a run over a course
 
@@ -51,19 +46,7 @@ ranIn config address payload work flash course = run payload (eventsIn (eventsOf
 abbrev pub left-over : Left → ModelWorld
 left-over l = world (l .run .writer) (l .work) (l .flash)
 
--- a run is cut where a transfer is shown, and else has the answer that is shown
-abbrev pub endIn : Transfer → End
-endIn (transfer.Write n) = end.Cut
-endIn (transfer.Read command count) = end.Cut
-endIn (transfer.Refused a) = end.Answered a
-endIn (transfer.Ended a) = end.Answered a
-
 -- ---- what is promised of a run
-
--- what its end says of i acknowledged blocks of k bytes, of n bytes in all: cut, a block is left to send
-abbrev pub Tells : ℕ → ℕ → ℕ → End → Type 0
-Tells k n i end.Cut = i * k < n
-Tells k n i (end.Answered a) = Answered k n i a
 
 -- the flash that it leaves as an overlay, the same byte by byte, and what its end says
 pub record Leaves (address : ℕ) (payload flash : List ℕ) (i : ℕ) (left : Left) : Type 0 where
@@ -73,29 +56,22 @@ pub record Leaves (address : ℕ) (payload flash : List ℕ) (i : ℕ) (left : L
 
 -- ---- going on
 
--- it ended with the answer 0
-abbrev pub RanWell : End → Type 0
-RanWell end.Cut = ⊥
-RanWell (end.Answered a) = numberOf a ≡ 0
-
 -- one go: a write is run over a course, and what is left of it is run on over a further course, any number of times; a call that has ended stays as it is
 pub data Go (config : Config) (address : ℕ) (payload work flash : List ℕ) (gauge : Gauge) : Left → Type 0 where
   started : (course : List ℕ) → soundOf course ≡ true → Go config address payload work flash gauge (ran config address payload work flash gauge course)
   ran-on : {left : Left} (course : List ℕ) → soundOf course ≡ true → Go config address payload work flash gauge left
       → Go config address payload work flash gauge (runOf payload course (left-over left))
 
--- goes one after the other, each with settings, a work buffer, a gauge and courses of its own: from a flash to what the last go leaves, which ended well.
--- After an error the next go sends only the bytes past the count, to the address that many further on; a call that was cut and is not run on is
--- followed by one that sends all of them again, to the same address
-pub data GoesOn : ℕ → List ℕ → List ℕ → List ℕ → Type 0 where
-  ended-well : {address : ℕ} {payload flash : List ℕ} (config : Config) (work : List ℕ) (gauge : Gauge) (left : Left) → 39 ≤ length work
-      → Go config address payload work flash gauge left → RanWell (left .run .end) → GoesOn address payload flash (left .flash)
-  went-on : {address : ℕ} {payload flash after : List ℕ} (config : Config) (work : List ℕ) (gauge : Gauge) (left : Left) (a : Answer) → 39 ≤ length work
-      → Go config address payload work flash gauge left → left .run .end ≡ end.Answered a
-      → GoesOn (address + countOf a) (drop (countOf a) payload) (left .flash) after → GoesOn address payload flash after
-  started-over : {address : ℕ} {payload flash after : List ℕ} (config : Config) (work : List ℕ) (gauge : Gauge) (left : Left) → 39 ≤ length work
-      → Go config address payload work flash gauge left → left .run .end ≡ end.Cut
-      → GoesOn address payload (left .flash) after → GoesOn address payload flash after
+-- a go over courses: settings, a work buffer, a gauge and courses of its own
+pub record GoOnCourses (address : ℕ) (payload flash : List ℕ) (e : End) (now : List ℕ) : Type 0 where
+  pub config : Config
+  pub work : List ℕ
+  pub gauge : Gauge
+  pub left : Left
+  pub room : 39 ≤ length work
+  pub go : Go config address payload work flash gauge left
+  pub ends : e ≡ left .run .end
+  pub leaves : now ≡ left .flash
 
 -- DEMAND 3 ON COURSES
 pub record OnCourses : Type 0 where
@@ -117,9 +93,9 @@ pub record OnCourses : Type 0 where
       → ran config address payload work flash gauge (course ++ further) ≡ runOf payload further (left-over (ran config address payload work flash gauge course))
   -- go on, any number of times: what is left is what one clean write leaves
   pub goes-on : (address : ℕ) (payload flash after : List ℕ) → inWindow address (length payload) ≡ true → length flash ≡ 8192
-      → GoesOn address payload flash after → after ≡ clean address payload flash
+      → Goes GoOnCourses address payload flash after → after ≡ clean address payload flash
   -- and that is what a run over heard transfers leaves, enough of them: it ends well
   pub unbroken : (config : Config) (address : ℕ) (payload work flash : List ℕ) → Accepted address payload work flash
       → (gauge : Gauge) (n : ℕ) → length payload ≤ n * 32
-      → RanWell (ran config address payload work flash gauge (replicate n 0) .run .end)
+      → EndedWell (ran config address payload work flash gauge (replicate n 0) .run .end)
       × (ran config address payload work flash gauge (replicate n 0) .flash ≡ clean address payload flash)

@@ -21,6 +21,8 @@ use Rattle.protocol.specs.declared.error.Answer.{Answer}
 use Rattle.engine.specs.declared.bus.Transfer.{Transfer}
 use Rattle.engine.specs.declared.bus.Transfer.the-variants as transfer
 use Rattle.writing.specs.Frames.{blockBytes}
+use Rattle.courses.specs.declared.course.End.{End}
+use Rattle.courses.specs.declared.course.End.the-variants as end
 use Rattle.promises.specs.Flash.{placeOf, store, Overlaid, Stands}
 use Rattle.promises.specs.Writes.{Event, acknowledged, World, began, shows, handed, run, runLent, events, Lends, Alike}
 
@@ -48,32 +50,48 @@ pub record Promised (address : ℕ) (payload flash : List ℕ) (w : World) : Typ
   pub bytes : Stands 32 address payload flash (w .acked) (w .flash)
   pub told : Told 32 (length payload) (w .acked) (shows payload w)
 
--- the machine shows the answer 0
-abbrev pub EndedWell : Transfer → Type 0
-EndedWell (transfer.Write count) = ⊥
-EndedWell (transfer.Read command count) = ⊥
-EndedWell (transfer.Refused a) = ⊥
-EndedWell (transfer.Ended a) = numberOf a ≡ 0
+-- ---- going on
+
+-- how a go stopped: cut, where the machine shows a transfer, or with the answer that it shows
+abbrev pub endIn : Transfer → End
+endIn (transfer.Write n) = end.Cut
+endIn (transfer.Read command count) = end.Cut
+endIn (transfer.Refused a) = end.Answered a
+endIn (transfer.Ended a) = end.Answered a
+
+-- what that says of i acknowledged blocks of k bytes, of n bytes in all: cut, a block is left to send
+abbrev pub Tells : ℕ → ℕ → ℕ → End → Type 0
+Tells k n i end.Cut = i * k < n
+Tells k n i (end.Answered a) = Answered k n i a
+
+-- it ended with the answer 0
+abbrev pub EndedWell : End → Type 0
+EndedWell end.Cut = ⊥
+EndedWell (end.Answered a) = numberOf a ≡ 0
 
 -- the count that an answer gives; none given means zero
 abbrev pub countOf : Answer → ℕ
 countOf a = if eqb (numberOf a) 6 then detailOf a else 0
 
--- goes one after the other, each with settings, a work buffer and events of its own: from a flash to what the last go leaves, which ended well.
--- After an error the next go sends only the bytes past the count, to the address that many further on; after a stop in the middle it sends all of
--- them again, to the same address
-pub data Goes : ℕ → List ℕ → List ℕ → List ℕ → Type 0 where
-  ended-well : {address : ℕ} {payload flash : List ℕ} (config : Config) (work : List ℕ) (es : List Event) → 39 ≤ length work
-      → EndedWell (shows payload (run payload es (began config address payload work flash)))
-      → Goes address payload flash (run payload es (began config address payload work flash) .flash)
-  went-on : {address : ℕ} {payload flash after : List ℕ} (config : Config) (work : List ℕ) (es : List Event) (a : Answer) → 39 ≤ length work
-      → shows payload (run payload es (began config address payload work flash)) ≡ transfer.Ended a
-      → Goes (address + countOf a) (drop (countOf a) payload) (run payload es (began config address payload work flash) .flash) after
-      → Goes address payload flash after
-  started-over : {address : ℕ} {payload flash after : List ℕ} (config : Config) (work : List ℕ) (es : List Event) (n : ℕ) → 39 ≤ length work
-      → shows payload (run payload es (began config address payload work flash)) ≡ transfer.Write n
-      → Goes address payload (run payload es (began config address payload work flash) .flash) after
-      → Goes address payload flash after
+-- goes one after the other, from a flash to what the last one leaves, which ended well; `Go address payload flash e now` says of one go how it stopped
+-- and what flash it left. After an error the next go sends only the bytes past the count, to the address that many further on; after a stop in the
+-- middle it sends all of them again, to the same address
+pub data Goes (Go : ℕ → List ℕ → List ℕ → End → List ℕ → Type 0) : ℕ → List ℕ → List ℕ → List ℕ → Type 0 where
+  ended-well : {address : ℕ} {payload flash after : List ℕ} (e : End) → EndedWell e → Go address payload flash e after
+      → Goes Go address payload flash after
+  went-on : {address : ℕ} {payload flash now after : List ℕ} (a : Answer) → Go address payload flash (end.Answered a) now
+      → Goes Go (address + countOf a) (drop (countOf a) payload) now after → Goes Go address payload flash after
+  started-over : {address : ℕ} {payload flash now after : List ℕ} → Go address payload flash end.Cut now
+      → Goes Go address payload now after → Goes Go address payload flash after
+
+-- a go over events: settings, a work buffer and events of its own
+pub record GoOver (address : ℕ) (payload flash : List ℕ) (e : End) (now : List ℕ) : Type 0 where
+  pub config : Config
+  pub work : List ℕ
+  pub es : List Event
+  pub room : 39 ≤ length work
+  pub ends : e ≡ endIn (shows payload (run payload es (began config address payload work flash)))
+  pub leaves : now ≡ run payload es (began config address payload work flash) .flash
 
 -- an accepted write: inside the window, with room for every frame, on a flash of 8,192 bytes
 pub record Accepted (address : ℕ) (payload work flash : List ℕ) : Type 0 where
@@ -98,11 +116,11 @@ pub record Demand3 : Type 0 where
       → Alike (runLent payload steps (began config address payload work flash)) (run payload (events steps) (began config address payload work flash))
   -- go on from the count, any number of times
   pub resumed : (address : ℕ) (payload flash after : List ℕ) → inWindow address (length payload) ≡ true → length flash ≡ 8192
-      → Goes address payload flash after → after ≡ clean address payload flash
+      → Goes GoOver address payload flash after → after ≡ clean address payload flash
   -- and that is what a write leaves whose every transfer is acknowledged: it ends well
   pub unbroken : (config : Config) (address : ℕ) (payload work flash : List ℕ) → Accepted address payload work flash
       → (n : ℕ) → length payload ≤ n * 32
-      → EndedWell (shows payload (run payload (replicate n acknowledged) (began config address payload work flash)))
+      → EndedWell (endIn (shows payload (run payload (replicate n acknowledged) (began config address payload work flash))))
       × (run payload (replicate n acknowledged) (began config address payload work flash) .flash ≡ clean address payload flash)
   -- the overlay and the bytes say the same, for blocks of any length
   pub agree : (k address : ℕ) (payload flash : List ℕ) → inWindow address (length payload) ≡ true → length flash ≡ 8192 → (i : ℕ) (now : List ℕ)

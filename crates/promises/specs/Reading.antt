@@ -14,8 +14,8 @@ use Rattle.model_gauge.specs.declared.gauge.Gauge.{Gauge}
 use Rattle.courses.specs.Course.{soundOf}
 use Rattle.courses.specs.ReadRun.{World, Left, world, runOf}
 use Rattle.promises.specs.Flash.{placeOf}
-use Rattle.promises.specs.Demand3.{Accepted}
-use Rattle.promises.specs.Courses.{ran, endIn, RanWell}
+use Rattle.promises.specs.Demand3.{endIn, EndedWell, Accepted}
+use Rattle.promises.specs.Courses.{ran}
 
 -- the n bytes of the flash from an address on
 abbrev pub flashBytes : ℕ → ℕ → List ℕ → List ℕ
@@ -43,7 +43,7 @@ pub record ReadsTrue : Type 0 where
   pub reads : (config : Config) (address : ℕ) (buffer work flash : List ℕ) → Accepted address buffer work flash
       → (gauge : Gauge) (course : List ℕ) → soundOf course ≡ true
       → (readRan config address buffer work flash gauge course .flash ≡ flash)
-      × (RanWell (readRan config address buffer work flash gauge course .run .end)
+      × (EndedWell (readRan config address buffer work flash gauge course .run .end)
       → readRan config address buffer work flash gauge course .buffer ≡ flashBytes address (length buffer) flash)
   -- a run is cut where the call then shows a transfer, and else has the answer that it shows
   pub ends : (config : Config) (address : ℕ) (buffer work flash : List ℕ) → Accepted address buffer work flash
@@ -57,5 +57,5 @@ pub record ReadsTrue : Type 0 where
   pub reads-back : (config config′ : Config) (address : ℕ) (payload work flash buffer work′ : List ℕ) → Accepted address payload work flash
       → length buffer ≡ length payload → 39 ≤ length work′
       → (gauge gauge′ : Gauge) (n m : ℕ) → blocksOf (length payload) ≤ n → blocksOf (length payload) < m
-      → RanWell (readRan config′ address buffer work′ (ran config address payload work flash gauge (replicate n 0) .flash) gauge′ (replicate m 0) .run .end)
+      → EndedWell (readRan config′ address buffer work′ (ran config address payload work flash gauge (replicate n 0) .flash) gauge′ (replicate m 0) .run .end)
       × (readRan config′ address buffer work′ (ran config address payload work flash gauge (replicate n 0) .flash) gauge′ (replicate m 0) .buffer ≡ payload)
