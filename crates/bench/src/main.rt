@@ -1,4 +1,4 @@
-// The bench program: reads standard input in large pieces, and writes a line for each line of it as soon as it can. The rest is in `session`.
+// The bench program: reads standard input in large pieces and writes what the lines of each give before it reads on. The rest is in `session`.
 use libc::STDIN_FILENO;
 use libc::STDOUT_FILENO;
 use protocol::bytes;
@@ -8,19 +8,45 @@ use session::OUT_BYTES;
 use session::REPLY_BYTES;
 use session::REQUEST_BYTES;
 use session::Session;
+ghost use mathlib.Core.Path.{_≡_};
+ghost use lib.ListN.{take as front};
+ghost use Rattle.session.specs.Session.{world, takeOf};
 
-// How many bytes of the next piece were read: 0 at the end of the input, which a read that fails counts as.
-fn read(piece: &mut [u8; 65536]) -> usize {
+// What a read brought.
+enum Brought {
+    // So many bytes of the next piece.
+    Bytes(usize),
+    // The end of the input.
+    End,
+    // An error, which was told on standard error.
+    Failed,
+}
+
+// Reads the next piece.
+fn read(piece: &mut [u8; 65536]) -> Brought {
     let got = libc::read(STDIN_FILENO, piece);
-    io::count(got, piece)
+    if got < 0 {
+        os::fail(b"bench: standard input");
+        return Brought::Failed;
+    }
+    let n = io::count(got, piece);
+    if n == 0 {
+        Brought::End
+    } else {
+        Brought::Bytes(n)
+    }
 }
 
-// Writes the n bytes that a turn laid; whether that went well.
+// Writes the n bytes that are laid; whether that went well, and if not, why, on standard error.
 fn write(out: &[u8; OUT_BYTES], n: usize) -> bool {
-    io::write_all(STDOUT_FILENO, bytes::front(out, n))
+    if io::write_all(STDOUT_FILENO, bytes::front(out, n)) {
+        return true;
+    }
+    os::fail(b"bench: standard output");
+    false
 }
 
-// A turn of a piece of n bytes.
+// The lines of a piece of n bytes.
 fn take(
     session: Session,
     piece: &[u8; 65536],
@@ -30,7 +56,9 @@ fn take(
     reply: &mut [u8; REPLY_BYTES],
     buffer: &mut [u8; BUFFER_BYTES],
     out: &mut [u8; OUT_BYTES],
-) -> Session {
+) -> Session
+    ensures { λ r. ⌜ world r (now (held .exit)) (now (request .exit)) (now (reply .exit)) (now (buffer .exit)) (now (out .exit)) ≡ takeOf (front n (now (piece .entry))) (world session (now (held .entry)) (now (request .entry)) (now (reply .entry)) (now (buffer .entry)) (now (out .entry))) ⌝ }
+{
     session::take(
         session,
         bytes::front(piece, n),
@@ -42,6 +70,7 @@ fn take(
     )
 }
 
+// The bound on its turns, which no input reaches, is what the prover sees the loop end by.
 fn main() {
     let mut piece = io::large_buffer();
     let mut held = [0u8; HELD_BYTES];
@@ -65,14 +94,18 @@ fn main() {
                 &mut out,
             );
         } else {
-            n = read(&mut piece);
-            if n == 0 {
-                session = session::end(session, &request, &buffer, &mut out);
-            } else {
-                session = session::next_piece(session);
+            match read(&mut piece) {
+                Brought::Bytes(k) => {
+                    n = k;
+                    session = session::next_piece(session);
+                }
+                Brought::End => {
+                    session = session::end(session, &request, &buffer, &mut out);
+                }
+                Brought::Failed => return,
             }
         }
-        if !write(&out, session.printed) {
+        if !write(&out, session.laid) {
             return;
         }
         turns -= 1;

@@ -70,13 +70,6 @@ filled-front n b h =
     let l : length f ≡ n = length-replicate n 0xA5 in
     rw e (ap (λ (k : ℕ). take k (over f b)) (sym l) ∙ take-over f b)
 
-pub length-filled : (n : ℕ) (b : List ℕ) → length (filled n b) ≡ length b
-unfolding filled
-length-filled n b =
-    let f : List ℕ = replicate (min n (length b)) 0xA5 in
-    let l : length f ≡ min n (length b) = length-replicate (min n (length b)) 0xA5 in
-    length-over f b (omega arith)
-
 -- the payload stands in the bytes that the line was decoded over
 pub payload-in : (line t : List ℕ) (at : ℕ) → take (length (drop at line)) (drop at (line ++ t)) ≡ drop at line
 payload-in line t at = by (leb at (length line)) refl

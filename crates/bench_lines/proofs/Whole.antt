@@ -39,7 +39,8 @@ use Rattle.bench_lines.specs.Saying.{bytesSaid, showWrite, showRead, say
 use Rattle.bench_lines.specs.Bench.{lineBytes, thenSay, closing, wroteThen, writeThen, writeLines, gotThen, readThen, readLines, writeRun, readRun, requestThen, benchOf}
 use Rattle.bench_lines.proofs.Machine.{machineOf}
 use Rattle.bench_lines.proofs.Lines.{decoded-line}
-use Rattle.bench_lines.proofs.Kept.{length-decoded, length-after, filled-front, length-filled, payload-in}
+use Rattle.bench_stage.proofs.Laws.{length-filled}
+use Rattle.bench_lines.proofs.Kept.{length-decoded, length-after, filled-front, payload-in}
 
 -- the rest of a run, from a stage on
 onward : Stage → List ℕ → List ℕ → List ℕ → List (List ℕ) → List ℕ → List (List ℕ)
@@ -163,6 +164,10 @@ asked-line line R h =
     (λ p. inr (ap requestLine (p .0), long-request (lineBytes line) (omega (arith, p .1))))
     (decoded-line line R)
 
+lent-open : (n lent : ℕ) → n ≤ lent → stage.lentEnd n lent ≡ end.Open
+unfolding stage.lentEnd if_then_else_
+lent-open n lent h = rw (le-leb n lent h)
+
 -- a run from its request on
 begin-on : (q : Request) (l R Y B : List ℕ) (lines : List (List ℕ)) (rest : List ℕ) → Small (length l) q → ((at : ℕ) → take (length (drop at l)) (drop at R) ≡ drop at l)
     → 8193 ≤ length Y → 8192 ≤ length B → onward (stage.beginBy q l (length B)) R Y (stage.fillBy q B) lines rest ≡ requestThen q l lines rest
@@ -175,7 +180,8 @@ begin-on (request.Read kind n) l R Y B lines rest small payload y b =
     let fits : n ≤ length B = omega arith in
     let e : min n (length B) ≡ n = omega arith in
     let k : n ≤ length (stage.filled n B) = rw length-filled fits in
-    rw (e, read-lines lines R Y (stage.filled n B) (readStart kind (configOf l) (length (drop 10 l)) n 39) n rest y k, filled-front n B fits)
+    let o : stage.lentEnd n (length B) ≡ end.Open = lent-open n (length B) fits in
+    rw (o, e, read-lines lines R Y (stage.filled n B) (readStart kind (configOf l) (length (drop 10 l)) n 39) n rest y k, filled-front n B fits)
 begin-on request.Bad l R Y B lines rest small payload y b = refl
 
 -- the payload of the bytes that were decoded

@@ -69,7 +69,7 @@ readLines call buffer (line ∷ lines) rest =
     readThen (outcomeLine (lineBytes line)) call buffer (lineBytes line)
     (λ next after. thenSay (showRead next after) (readLines next after lines rest))
 
--- the call that a request line asks for, and its transfers; 11 where it asks for none
+-- the call that a request line asks for, and its transfers; 11 where it asks for none. The input of a command is what follows its ten bytes
 unfoldable pub writeRun : WriteCall → List ℕ → List (List ℕ) → List ℕ → List (List ℕ)
 writeRun call payload lines rest = thenSay (showWrite call payload) (writeLines call payload lines rest)
 

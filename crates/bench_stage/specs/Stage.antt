@@ -65,9 +65,13 @@ filled n buffer = over (replicate (min n (length buffer)) 0xA5) buffer
 unfoldable pub beginWrite : WriteKind → ℕ → List ℕ → Stage
 beginWrite kind at line = writeStage (writeStart kind (configOf line) (length (drop at line)) 39) at (length (drop at line)) end.Open
 
--- a reading call starts, with a buffer of n bytes of those that are lent
+-- 8 where less is lent than a buffer of n bytes
+unfoldable pub lentEnd : ℕ → ℕ → End
+lentEnd n lent = if leb n lent then end.Open else end.Stopped answer.WrongBuffer
+
+-- a reading call starts, with a buffer of n bytes of those that are lent; the input of a command is what follows its ten bytes
 unfoldable pub beginRead : ReadKind → ℕ → List ℕ → ℕ → Stage
-beginRead kind n line lent = readStage (readStart kind (configOf line) (length (drop 10 line)) (min n lent) 39) n end.Open
+beginRead kind n line lent = readStage (readStart kind (configOf line) (length (drop 10 line)) (min n lent) 39) n (lentEnd n lent)
 
 unfoldable pub beginBy : Request → List ℕ → ℕ → Stage
 beginBy (request.Write kind at) line lent = beginWrite kind at line
@@ -126,7 +130,7 @@ goRead call n line lent = if leb n lent then heardRead call line n else readStag
 unfoldable pub goBuffer : ReadCall → ℕ → List ℕ → List ℕ → List ℕ
 goBuffer call n line buffer = if leb n (length buffer) then heardBuffer call line (take n buffer) ++ drop n buffer else buffer
 
--- a line: the first one is the request, the others are outcomes
+-- a line: a request where there is no call, and else an outcome
 unfoldable pub feedOf : Run → List ℕ → List ℕ → List ℕ → ℕ → Stage
 feedOf run.Nothing line request reply lent = beginOf (bytesIn line request) lent
 feedOf (run.Write call at n) line request reply lent = goWrite call at (bytesIn line reply) (length (take n (drop at request)))
@@ -147,6 +151,6 @@ bufferAfter run.Nothing line request reply buffer = beginBuffer (bytesIn line re
 bufferAfter (run.Write call at n) line request reply buffer = buffer
 bufferAfter (run.Read call n) line request reply buffer = goBuffer call n (bytesIn line reply) buffer
 
--- input ends: no outcomes are left, or a last line lacks its line feed
+-- input ends: no outcomes are left, or so many bytes of a last line that lacks its line feed; one that is too long to be held is as bad
 unfoldable pub closeOf : Run → ℕ → Stage
 closeOf r left = if eqb left 0 then record { run = r; end = end.Cut } else record { run = r; end = end.Stopped answer.BadLine }

@@ -18,7 +18,7 @@ use writing::call::WriteReported;
 ghost use mathlib.Core.Path.{_≡_};
 ghost use lib.ListN.{length};
 ghost use Rattle.hex.specs.Hex.{outDecoded};
-ghost use Rattle.bench_stage.specs.Stage.{fresh, writeStage, readStage, byteCount, filled, beginWrite, beginRead, beginOf, beginBuffer, wroteOf, goWrite, gotOf, heardRead, heardBuffer, goRead, goBuffer, feedOf, requestAfter, replyAfter, bufferAfter, closeOf};
+ghost use Rattle.bench_stage.specs.Stage.{fresh, writeStage, readStage, byteCount, filled, beginWrite, lentEnd, beginRead, beginOf, beginBuffer, wroteOf, goWrite, gotOf, heardRead, heardBuffer, goRead, goBuffer, feedOf, requestAfter, replyAfter, bufferAfter, closeOf};
 
 // The call that a run is about.
 pub enum Run {
@@ -41,7 +41,8 @@ pub enum Run {
 pub enum End {
     // It does, as far as its call does.
     Open,
-    // It was stopped: with 11 by a bad line, with 9 by a wrong reply, or with 8 where less is lent than its buffer has.
+    // It was stopped: with 11 by a bad line, with 9 by a wrong reply, with 8 where less is lent than its payload or its buffer has, or with 10
+    // where its call had ended.
     Stopped(Answer),
     // No outcomes are left.
     Cut,
@@ -116,7 +117,18 @@ fn begin_write(kind: WriteKind, at: usize, line: &[u8]) -> Stage
     writes(call, at, payload.len(), End::Open)
 }
 
-// A reading call starts. Its buffer is `len` bytes A5, or as many as are lent.
+// Whether a buffer of `len` bytes has room in what is lent: 8 where it has not.
+fn lent_end(len: usize, lent: usize) -> End
+    ensures { λ r. ⌜ r ≡ lentEnd len lent ⌝ }
+{
+    if len <= lent {
+        End::Open
+    } else {
+        End::Stopped(Answer::WrongBuffer)
+    }
+}
+
+// A reading call starts. Its buffer is `len` bytes A5; where less is lent, what is lent is filled and the run is stopped.
 fn begin_read(kind: ReadKind, len: usize, line: &[u8], buffer: &mut [u8]) -> Stage
     ensures { λ r. ⌜ (r ≡ beginRead kind len (now (line .entry)) (length (now (buffer .entry)))) × (now (buffer .exit) ≡ filled len (now (buffer .entry))) ⌝ }
 {
@@ -125,7 +137,7 @@ fn begin_read(kind: ReadKind, len: usize, line: &[u8], buffer: &mut [u8]) -> Sta
     let lent = bytes::front(buffer, len);
     let input = fields::rest(line, INPUT_AT);
     let call = bench_calls::start_read(kind, request::config(line), input, lent, &work);
-    reads(call, len, End::Open)
+    reads(call, len, lent_end(len, buffer.len()))
 }
 
 // The bytes of a request line begin a run, or stop it.
@@ -202,7 +214,8 @@ fn go_read(call: ReadCall, len: usize, line: &[u8], buffer: &mut [u8]) -> Stage
     }
 }
 
-// A line of input. The bytes of the request line are kept in `request`, those of an outcome line go through `reply`.
+// A line of input: a request where there is no call, and else an outcome. The bytes of the request line are kept in `request`, those of an outcome line
+// go through `reply`. Whoever feeds it stops where the stage has ended or its last line was printed.
 pub fn feed(run: Run, line: &[u8], request: &mut [u8], reply: &mut [u8], buffer: &mut [u8]) -> Stage
     ensures { λ r. ⌜ (r ≡ feedOf run (now (line .entry)) (now (request .entry)) (now (reply .entry)) (length (now (buffer .entry)))) × (now (request .exit) ≡ requestAfter run (now (line .entry)) (now (request .entry))) × (now (reply .exit) ≡ replyAfter run (now (line .entry)) (now (reply .entry))) × (now (buffer .exit) ≡ bufferAfter run (now (line .entry)) (now (request .entry)) (now (reply .entry)) (now (buffer .entry))) ⌝ }
 {

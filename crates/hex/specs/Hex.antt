@@ -45,7 +45,7 @@ outDecoded s out =
     if ltb (length out) (length s / 2) then out else
     bytesOf s ++ drop (length (bytesOf s)) out
 
--- the digit of a value below 16
+-- the digit of a value below 16 (of which the remainder is the value itself)
 unfoldable pub digitOf : ℕ → ℕ
 digitOf v = if ltb v 10 then v + 48 else v % 16 + 55
 

@@ -7,9 +7,9 @@ ghost use Rattle.hex.specs.Hex.{valueOf, pairOf, digitOf, decodedOf, out
 pub enum Decoded {
     // So many bytes, which stand at the front of what was lent.
     Bytes(usize),
-    // No bytes: an odd number of digits, or a byte that is no digit.
+    // No bytes: an odd number of digits, or, where there is room, a byte that is no digit.
     Bad,
-    // More bytes than what was lent has room for.
+    // An even number of digits, whatever they are, for more bytes than what was lent has room for.
     TooLong,
 }
 

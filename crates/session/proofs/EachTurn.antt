@@ -22,7 +22,7 @@ use Rattle.bench_lines.specs.Saying.{Saying, asked, last, bytesSaid, saidOf}
 use Rattle.bench_lines.specs.Bench.{thenSay}
 use Rattle.bench_lines.proofs.Machine.{machineOf}
 use Rattle.bench_lines.proofs.Room.{Short, AllShort, printed-whole}
-use Rattle.session.specs.Session.{World, world, heldBytes, lineBytes, Sized, moreOf, saidSession, printOf, printOut, laidOf, lineOf, turnBy, turnOf, goesOn, turnsOf, atByte, takeOf}
+use Rattle.session.specs.Session.{World, world, heldBytes, longestLine, Sized, moreOf, saidSession, printOf, printOut, laidOf, lineOf, turnBy, turnOf, goesOn, turnsOf, atByte, takeOf}
 use Rattle.session.specs.Output.{written}
 use Rattle.session.proofs.Laws.{goes-on-inside}
 use Rattle.session.proofs.Kept.{Fits, fits-feed, length-request, length-reply, length-buffer, length-laid, length-held}
@@ -45,15 +45,15 @@ before w = take (w .session .have) (w .held)
 
 -- a line that has no room is answered
 abbrev tooLong : ℕ → List ℕ → World → World
-tooLong n H w = laidOf (stage.closeOf (w .session .run) 1) n (w .session .printed) H (w .request) (w .reply) (w .buffer) (w .out)
+tooLong n H w = laidOf (stage.closeOf (w .session .run) 1) n (w .session .laid) H (w .request) (w .reply) (w .buffer) (w .out)
 
-said-size : (say : Saying) (room : ℕ) (r : Run) (at laid : ℕ) → saidSession (saidOf say room) r at laid .printed ≡ laid + printedOf (bytesSaid say) room
+said-size : (say : Saying) (room : ℕ) (r : Run) (at laid : ℕ) → saidSession (saidOf say room) r at laid .laid ≡ laid + printedOf (bytesSaid say) room
 unfolding saidSession saidOf bytesSaid
 said-size (asked s) room r at laid = refl
 said-size (last s) room r at laid = refl
 
 -- a short line is laid whole after what is laid
-pub written-said : (say : Saying) (r : Run) (at laid : ℕ) (H R Y B O : List ℕ) → Short (bytesSaid say) → laid + lineBytes ≤ length O
+pub written-said : (say : Saying) (r : Run) (at laid : ℕ) (H R Y B O : List ℕ) → Short (bytesSaid say) → laid + longestLine ≤ length O
     → written (world (saidSession (saidOf say (length O - laid)) r at laid) H R Y B (take laid O ++ outPrinted (bytesSaid say) (drop laid O))) ≡ take laid O ++ feedBytes (bytesSaid say)
 unfolding written
 written-said say r at laid H R Y B O h room = ap (λ (n : ℕ). take n (take laid O ++ outPrinted x (drop laid O))) size ∙ take-append-add (take laid O) _ (length (feedBytes x)) ∙ ap (λ (l : List ℕ). take laid O ++ l) (whole .1)
@@ -67,7 +67,7 @@ written-said say r at laid H R Y B O h room = ap (λ (n : ℕ). take n (take lai
     whole : (printedOf x (length (drop laid O)) ≡ length (feedBytes x)) × (take (length (feedBytes x)) (outPrinted x (drop laid O)) ≡ feedBytes x)
     whole = printed-whole x (drop laid O) h (omega (arith, length-drop laid O))
 
-    size : saidSession (saidOf say (length O - laid)) r at laid .printed ≡ length (take laid O) + length (feedBytes x)
+    size : saidSession (saidOf say (length O - laid)) r at laid .laid ≡ length (take laid O) + length (feedBytes x)
     size = said-size say (length O - laid) r at laid ∙ rw (front, ← whole .0, length-drop)
 
 -- how much of what the machine gives is looked at, and at which inputs
@@ -86,10 +86,10 @@ module _ (view : List (List ℕ) → List (List ℕ) → List ℕ) (Ends : List 
       → AllShort (shown w lines rest) → Ends rest → G w ≡ written w ++ view lines (shown w lines rest)
 
   module _ (G : World → List ℕ) (off : (v : World) → v .session .on ≡ false → G v ≡ written v) where
-    said-lays : (say : Saying) (r : Run) (at laid : ℕ) (H R Y B O line : List ℕ) (lines more : List (List ℕ)) → laid + lineBytes ≤ length O → AllShort (thenSay say more)
+    said-lays : (say : Saying) (r : Run) (at laid : ℕ) (H R Y B O line : List ℕ) (lines more : List (List ℕ)) → laid + longestLine ≤ length O → AllShort (thenSay say more)
         → ((p : ℕ) → AllShort more
-        → G (world (record { run = r; have = 0; at = at; printed = p; on = true }) H R Y B (take laid O ++ outPrinted (bytesSaid say) (drop laid O)))
-        ≡ written (world (record { run = r; have = 0; at = at; printed = p; on = true }) H R Y B (take laid O ++ outPrinted (bytesSaid say) (drop laid O))) ++ view lines more)
+        → G (world (record { run = r; have = 0; at = at; laid = p; on = true }) H R Y B (take laid O ++ outPrinted (bytesSaid say) (drop laid O)))
+        ≡ written (world (record { run = r; have = 0; at = at; laid = p; on = true }) H R Y B (take laid O ++ outPrinted (bytesSaid say) (drop laid O))) ++ view lines more)
         → G (world (saidSession (saidOf say (length O - laid)) r at laid) H R Y B (take laid O ++ outPrinted (bytesSaid say) (drop laid O))) ≡ take laid O ++ view (line ∷ lines) (thenSay say more)
     unfolding thenSay saidSession saidOf bytesSaid
     said-lays (asked s) r at laid H R Y B O line lines more e a go =
@@ -98,13 +98,13 @@ module _ (view : List (List ℕ) → List (List ℕ) → List ℕ) (Ends : List 
         off _ refl ∙ written-said (last s) r at laid H R Y B O (a .0) e
         ∙ ap (λ (l : List ℕ). take laid O ++ l) (sym (step line s lines [] ∙ rw (none lines) (append-nil (feedBytes s))))
 
-    last-lays : (say : Saying) (r : Run) (at laid : ℕ) (H R Y B O : List ℕ) → laid + lineBytes ≤ length O → say ≡ last (bytesSaid say) → Short (bytesSaid say)
+    last-lays : (say : Saying) (r : Run) (at laid : ℕ) (H R Y B O : List ℕ) → laid + longestLine ≤ length O → say ≡ last (bytesSaid say) → Short (bytesSaid say)
         → G (world (saidSession (saidOf say (length O - laid)) r at laid) H R Y B (take laid O ++ outPrinted (bytesSaid say) (drop laid O))) ≡ take laid O ++ feedBytes (bytesSaid say)
     unfolding saidSession saidOf bytesSaid
     last-lays (asked s) r at laid H R Y B O e l h = absurd (let z : _≡_ {A = ℕ} 0 1 = cc in omega arith)
     last-lays (last s) r at laid H R Y B O e l h = off _ refl ∙ written-said (last s) r at laid H R Y B O h e
 
-    module _ (piece t : List ℕ) (w : World) (good : Good w) (inside : w .session .at < length piece) (fits : w .session .printed + lineBytes ≤ length (w .out))
+    module _ (piece t : List ℕ) (w : World) (good : Good w) (inside : w .session .at < length piece) (fits : w .session .laid + longestLine ≤ length (w .out))
         (go : (v : World) → Good v → w .session .at < v .session .at → v .session .at ≤ length piece → Lays G v (drop (v .session .at) piece ++ t)) where
       -- a line is whole
       turn-line : (line H : List ℕ) (next : ℕ) (lines : List (List ℕ)) (rest : List ℕ) → length H ≡ heldBytes → w .session .at < next → next ≤ length piece
@@ -118,7 +118,7 @@ module _ (view : List (List ℕ) → List (List ℕ) → List ℕ) (Ends : List 
           let B = stage.bufferAfter (w .session .run) line (w .request) (w .reply) (w .buffer) in
           let b : length B ≡ length (w .buffer) = length-buffer (w .session .run) line (w .request) (w .reply) (w .buffer) in
           let f : Fits (s .run) (length (w .buffer)) = fits-feed (w .session .run) line (w .request) (w .reply) (length (w .buffer)) (omega (arith, good .sized .buffer)) (good .fits) in
-          said-lays (saying s R B) (s .run) next (w .session .printed) H R Y B (w .out) line lines _ fits a
+          said-lays (saying s R B) (s .run) next (w .session .laid) H R Y B (w .out) line lines _ fits a
           (λ k m.
           go _
           (record {
@@ -127,7 +127,7 @@ module _ (view : List (List ℕ) → List (List ℕ) → List ℕ) (Ends : List 
               request = length-request (w .session .run) line (w .request) ∙ good .sized .request;
               reply = length-reply (w .session .run) line (w .reply) ∙ good .sized .reply;
               buffer = b ∙ good .sized .buffer;
-              out = length-laid (w .session .printed) (bytesSaid (saying s R B)) (w .out) (omega arith) ∙ good .sized .out;
+              out = length-laid (w .session .laid) (bytesSaid (saying s R B)) (w .out) (omega arith) ∙ good .sized .out;
             };
             fits = subst (λ (n : ℕ). Fits (s .run) n) (sym b) f;
             room = omega arith;
@@ -138,7 +138,7 @@ module _ (view : List (List ℕ) → List (List ℕ) → List ℕ) (Ends : List 
       -- the piece is used up
       turn-more : (H : List ℕ) (k : ℕ) → length H ≡ heldBytes → k ≤ heldBytes → take k H ≡ before w ++ drop (w .session .at) piece
           → length (drop (w .session .at) piece) ≤ length (beforeFeed (drop (w .session .at) piece))
-          → Lays (λ v. G (world (moreOf (v .session .run) k (length piece) (v .session .printed)) H (v .request) (v .reply) (v .buffer) (v .out))) w (drop (w .session .at) piece ++ t)
+          → Lays (λ v. G (world (moreOf (v .session .run) k (length piece) (v .session .laid)) H (v .request) (v .reply) (v .buffer) (v .out))) w (drop (w .session .at) piece ++ t)
       unfolding moreOf written
       turn-more H k h le e none-left lines rest p q a z =
           let s = drop (w .session .at) piece in
@@ -146,7 +146,7 @@ module _ (view : List (List ℕ) → List (List ℕ) → List ℕ) (Ends : List 
           let d : drop (length piece) piece ++ t ≡ t = rw drop-length in
           let x : linesFrom (before w) (s ++ t) ≡ linesFrom (take k H) (drop (length piece) piece ++ t) = rw (lines-append s t (before w), m .0, m .1, e, d) in
           let y : restFrom (before w) (s ++ t) ≡ restFrom (take k H) (drop (length piece) piece ++ t) = rw (rest-append s t (before w), m .1, e, d) in
-          go (world (record { run = w .session .run; have = k; at = length piece; printed = w .session .printed; on = true }) H (w .request) (w .reply) (w .buffer) (w .out))
+          go (world (record { run = w .session .run; have = k; at = length piece; laid = w .session .laid; on = true }) H (w .request) (w .reply) (w .buffer) (w .out))
           (record {
             sized = record { held = h; request = good .sized .request; reply = good .sized .reply; buffer = good .sized .buffer; out = good .sized .out };
             fits = good .fits;
@@ -161,7 +161,7 @@ module _ (view : List (List ℕ) → List (List ℕ) → List ℕ) (Ends : List 
           ≡ written w ++ feedBytes (bytesSaid (saying (stage.closeOf (w .session .run) 1) (w .request) (w .buffer)))
       unfolding laidOf printOf printOut written
       closed H n short =
-          last-lays (saying (stage.closeOf (w .session .run) 1) (w .request) (w .buffer)) (stage.closeOf (w .session .run) 1 .run) n (w .session .printed) H (w .request) (w .reply) (w .buffer) (w .out)
+          last-lays (saying (stage.closeOf (w .session .run) 1) (w .request) (w .buffer)) (stage.closeOf (w .session .run) 1 .run) n (w .session .laid) H (w .request) (w .reply) (w .buffer) (w .out)
           fits (close-last (w .session .run) 1 (w .request) (w .buffer)) short
 
       -- its line feed never comes
@@ -253,8 +253,8 @@ module _ (view : List (List ℕ) → List (List ℕ) → List ℕ) (Ends : List 
     unfolding turnsOf goesOn if_then_else_
     off-turns zero v o = rw (off v o) (append-nil (written v))
     off-turns (suc turns) v o =
-        let e : goesOn (v .session .on) (v .session .at) (length piece) (v .session .printed) (length (v .out)) ≡ false =
-        ap (λ (b : Bool). goesOn b (v .session .at) (length piece) (v .session .printed) (length (v .out))) o in
+        let e : goesOn (v .session .on) (v .session .at) (length piece) (v .session .laid) (length (v .out)) ≡ false =
+        ap (λ (b : Bool). goesOn b (v .session .at) (length piece) (v .session .laid) (length (v .out))) o in
         rw (e, off v o) (append-nil (written v))
 
     -- turn after turn
@@ -263,13 +263,13 @@ module _ (view : List (List ℕ) → List (List ℕ) → List ℕ) (Ends : List 
     unfolding turnsOf if_then_else_
     turns-lay zero w good lt le lines rest p q a z = ap (λ (l : List ℕ). written w ++ l) (go w good lt le lines rest p q a z)
     turns-lay (suc turns) w good lt le lines rest p q a z =
-        by (λ v g l k. turns-lay turns v g l k) (goesOn (w .session .on) (w .session .at) (length piece) (w .session .printed) (length (w .out))) refl
+        by (λ v g l k. turns-lay turns v g l k) (goesOn (w .session .on) (w .session .at) (length piece) (w .session .laid) (length (w .out))) refl
       where
         by : ((v : World) → Good v → m < v .session .at → v .session .at ≤ length piece → Lays (λ u. both (turnsOf turns piece u)) v (drop (v .session .at) piece ++ t))
-            → (f : Bool) → goesOn (w .session .on) (w .session .at) (length piece) (w .session .printed) (length (w .out)) ≡ f
+            → (f : Bool) → goesOn (w .session .on) (w .session .at) (length piece) (w .session .laid) (length (w .out)) ≡ f
             → both (if f then turnsOf turns piece (turnOf piece w) else w) ≡ written w ++ view lines (shown w lines rest)
         by next true e =
-            let g = goes-on-inside (w .session .on) (w .session .at) (length piece) (w .session .printed) (length (w .out)) e in
+            let g = goes-on-inside (w .session .on) (w .session .at) (length piece) (w .session .laid) (length (w .out)) e in
             turn (λ v. both (turnsOf turns piece v)) (off-turns turns) piece t w good (g .1) (g .2) (λ v k l n. next v k (omega arith) n) lines rest p q a z
         by next false e = ap (λ (l : List ℕ). written w ++ l) (go w good lt le lines rest p q a z)
 
@@ -289,11 +289,11 @@ module _ (view : List (List ℕ) → List (List ℕ) → List ℕ) (Ends : List 
           on = good .on;
         }
 
-        room : 0 + lineBytes ≤ length (w .out)
+        room : 0 + longestLine ≤ length (w .out)
         room = omega (arith, good .sized .out)
 
         goes : goesOn (w .session .on) (w .session .at) (length piece) 0 (length (w .out)) ≡ true
-        goes = rw (good .on, lt-ltb (w .session .at) (length piece) inside) (le-leb (0 + lineBytes) (length (w .out)) room)
+        goes = rw (good .on, lt-ltb (w .session .at) (length piece) inside) (le-leb (0 + longestLine) (length (w .out)) room)
 
         by : (n : ℕ) → length piece ≡ n → both (turnsOf n piece fresh) ≡ view lines (shown w lines rest)
         by zero e = absurd (omega arith)

@@ -33,7 +33,8 @@ use Rattle.bench_stage.specs.Stage as stage
 use Rattle.bench_stage.specs.declared.Run.{Run}
 use Rattle.bench_stage.specs.declared.Run.the-variants as run
 use Rattle.bench_stage.specs.declared.End.the-variants as end
-use Rattle.bench_lines.proofs.Kept.{length-decoded, length-after, length-filled, length-stored}
+use Rattle.bench_stage.proofs.Laws.{length-filled}
+use Rattle.bench_lines.proofs.Kept.{length-decoded, length-after, length-stored}
 
 -- the buffer of a reading call has room in n bytes
 abbrev pub Fits : Run → ℕ → Type 0

@@ -22,7 +22,7 @@ use Rattle.bench_lines.specs.Saying.{Saying, asked, last, saidOf}
 use Rattle.bench_lines.specs.declared.Said.{Said}
 use Rattle.bench_lines.specs.declared.Said.the-variants as said
 use Rattle.session.specs.declared.Session.{Session}
-use Rattle.session.specs.Session.{World, world, lineBytes, moreOf, saidSession, printOf, printOut, laidOf, lineOf, turnBy, turnOf, goesOn, turnsOf}
+use Rattle.session.specs.Session.{World, world, longestLine, moreOf, saidSession, printOf, printOut, laidOf, lineOf, turnBy, turnOf, goesOn, turnsOf}
 
 -- what is after the laid bytes is all that is lent
 pub all-after : (out : List ℕ) (laid : ℕ) → take (length out - laid) (drop laid out) ≡ drop laid out
@@ -57,20 +57,20 @@ module _ (piece : List ℕ) (w : World) (u : Took) (held : List ℕ)
   pub took-line : (r : Session) (s : Stage) (line request reply buffer out : List ℕ) (len next : ℕ) → u ≡ took.Line len next → line ≡ take len held
       → s ≡ feedOf (w .session .run) line (w .request) (w .reply) (length (w .buffer)) → request ≡ requestAfter (w .session .run) line (w .request)
       → reply ≡ replyAfter (w .session .run) line (w .reply) → buffer ≡ bufferAfter (w .session .run) line (w .request) (w .reply) (w .buffer)
-      → r ≡ printOf s next (w .session .printed) request buffer (length (w .out)) → out ≡ printOut s (w .session .printed) request buffer (w .out)
+      → r ≡ printOf s next (w .session .laid) request buffer (length (w .out)) → out ≡ printOut s (w .session .laid) request buffer (w .out)
       → world r held request reply buffer out ≡ turnOf piece w
   unfolding turnOf turnBy lineOf laidOf
   took-line r s line request reply buffer out len next e l f a b c p q = rw (← took-as, e, ← held-as, ← l, ← f, ← a, ← b, ← c, p, q)
 
   -- the piece was used up
-  pub took-more : (r : Session) (have : ℕ) → u ≡ took.More have → r ≡ moreOf (w .session .run) have (length piece) (w .session .printed)
+  pub took-more : (r : Session) (have : ℕ) → u ≡ took.More have → r ≡ moreOf (w .session .run) have (length piece) (w .session .laid)
       → world r held (w .request) (w .reply) (w .buffer) (w .out) ≡ turnOf piece w
   unfolding turnOf turnBy
   took-more r have e p = rw (← took-as, e, ← held-as, p)
 
   -- a line had no room
   pub took-long : (r : Session) (s : Stage) (out : List ℕ) → u ≡ took.Long → s ≡ closeOf (w .session .run) 1
-      → r ≡ printOf s (length piece) (w .session .printed) (w .request) (w .buffer) (length (w .out)) → out ≡ printOut s (w .session .printed) (w .request) (w .buffer) (w .out)
+      → r ≡ printOf s (length piece) (w .session .laid) (w .request) (w .buffer) (length (w .out)) → out ≡ printOut s (w .session .laid) (w .request) (w .buffer) (w .out)
       → world r held (w .request) (w .reply) (w .buffer) out ≡ turnOf piece w
   unfolding turnOf turnBy laidOf
   took-long r s out e f p q = rw (← took-as, e, ← held-as, ← f, p, q)
@@ -97,15 +97,15 @@ turn-uses piece w h =
     by false false = rw at-said (omega arith)
 
 -- what `goesOn` says
-pub goes-on-inside : (on : Bool) (at end laid room : ℕ) → goesOn on at end laid room ≡ true → (on ≡ true) × (at < end) × (laid + lineBytes ≤ room)
+pub goes-on-inside : (on : Bool) (at end laid room : ℕ) → goesOn on at end laid room ≡ true → (on ≡ true) × (at < end) × (laid + longestLine ≤ room)
 unfolding goesOn if_then_else_
 goes-on-inside on at end laid room = by₁ on
   where
-    by₂ : (t : Bool) → ltb at end ≡ t → (if t then leb (laid + lineBytes) room else false) ≡ true → (at < end) × (laid + lineBytes ≤ room)
-    by₂ true e q = (ltb-true at end e, leb-true (laid + lineBytes) room q)
+    by₂ : (t : Bool) → ltb at end ≡ t → (if t then leb (laid + longestLine) room else false) ≡ true → (at < end) × (laid + longestLine ≤ room)
+    by₂ true e q = (ltb-true at end e, leb-true (laid + longestLine) room q)
     by₂ false e q = absurd (let z : _≡_ {A = ℕ} 0 1 = cc in omega arith)
 
-    by₁ : (o : Bool) → (if o then (if ltb at end then leb (laid + lineBytes) room else false) else false) ≡ true → (o ≡ true) × (at < end) × (laid + lineBytes ≤ room)
+    by₁ : (o : Bool) → (if o then (if ltb at end then leb (laid + longestLine) room else false) else false) ≡ true → (o ≡ true) × (at < end) × (laid + longestLine ≤ room)
     by₁ true q = let h = by₂ (ltb at end) refl q in (refl, h .0, h .1)
     by₁ false q = absurd (let z : _≡_ {A = ℕ} 0 1 = cc in omega arith)
 
@@ -116,7 +116,7 @@ pub record Leads (piece : List ℕ) (w v : World) : Type 0 where
   pub same : turnsOf turns piece w ≡ v
 
 abbrev on-in : List ℕ → World → Bool
-on-in piece w = goesOn (w .session .on) (w .session .at) (length piece) (w .session .printed) (length (w .out))
+on-in piece w = goesOn (w .session .on) (w .session .at) (length piece) (w .session .laid) (length (w .out))
 
 -- one of them is made
 pub leads-on : (piece : List ℕ) (w u v : World) → on-in piece w ≡ true → u ≡ turnOf piece w → Leads piece w v → Leads piece u v
@@ -124,7 +124,7 @@ unfolding turnsOf if_then_else_
 leads-on piece w u v e q l = subst (λ (x : World). Leads piece x v) (sym q) (by (l .turns) (l .enough) (l .same))
   where
     inside : w .session .at < length piece
-    inside = goes-on-inside (w .session .on) (w .session .at) (length piece) (w .session .printed) (length (w .out)) e .1
+    inside = goes-on-inside (w .session .on) (w .session .at) (length piece) (w .session .laid) (length (w .out)) e .1
 
     by : (turns : ℕ) → length piece ≤ turns + w .session .at → turnsOf turns piece w ≡ v → Leads piece (turnOf piece w) v
     by zero n q = absurd (omega (arith, n, inside))

@@ -22,7 +22,7 @@ use Rattle.bench_lines.proofs.Whole.{whole}
 use Rattle.bench_lines.specs.Saying.{bytesSaid}
 use Rattle.bench_lines.proofs.Room.{Short, AllShort, all-short}
 use Rattle.session.specs.declared.Session.{Session}
-use Rattle.session.specs.Session.{World, world, heldBytes, lineBytes, Sized, startOf, atByte, printOf, printOut, turnOf, goesOn, turnsOf, takeOf, endSession, endOut, endOf}
+use Rattle.session.specs.Session.{World, world, heldBytes, longestLine, Sized, startOf, atByte, printOf, printOut, turnOf, goesOn, turnsOf, takeOf, endSession, endOut, endOf}
 use Rattle.session.specs.Output.{feeds, printed, early, printedSoFar, written, pieceOut, piecesOut, bytesOut, bytesSoFar, concat, WholeBench}
 use Rattle.session.proofs.Kept.{Fits}
 use Rattle.session.proofs.Long.{saying}
@@ -148,13 +148,13 @@ close-so-far w whole rest good z e =
 turns-stay : (turns : ℕ) (piece : List ℕ) (w : World) → w .session .at ≤ turnsOf turns piece w .session .at
 unfolding turnsOf if_then_else_
 turns-stay zero piece w = omega arith
-turns-stay (suc turns) piece w = by (turns-stay turns piece (turnOf piece w)) (goesOn (w .session .on) (w .session .at) (length piece) (w .session .printed) (length (w .out))) refl
+turns-stay (suc turns) piece w = by (turns-stay turns piece (turnOf piece w)) (goesOn (w .session .on) (w .session .at) (length piece) (w .session .laid) (length (w .out))) refl
   where
     by : turnOf piece w .session .at ≤ turnsOf turns piece (turnOf piece w) .session .at
-        → (f : Bool) → goesOn (w .session .on) (w .session .at) (length piece) (w .session .printed) (length (w .out)) ≡ f
+        → (f : Bool) → goesOn (w .session .on) (w .session .at) (length piece) (w .session .laid) (length (w .out)) ≡ f
         → w .session .at ≤ (if f then turnsOf turns piece (turnOf piece w) else w) .session .at
     by next true e =
-        let g = goes-on-inside (w .session .on) (w .session .at) (length piece) (w .session .printed) (length (w .out)) e in
+        let g = goes-on-inside (w .session .on) (w .session .at) (length piece) (w .session .laid) (length (w .out)) e in
         omega (arith, turn-uses piece w (g .1), next)
     by next false e = omega arith
 
@@ -165,11 +165,11 @@ take-uses piece w sized o inside = by (length piece) refl
     fresh : World
     fresh = world (atByte (w .session) (w .session .at)) (w .held) (w .request) (w .reply) (w .buffer) (w .out)
 
-    room : 0 + lineBytes ≤ length (w .out)
+    room : 0 + longestLine ≤ length (w .out)
     room = omega (arith, sized .out)
 
     goes : goesOn (w .session .on) (w .session .at) (length piece) 0 (length (w .out)) ≡ true
-    goes = rw (o, lt-ltb (w .session .at) (length piece) inside) (le-leb (0 + lineBytes) (length (w .out)) room)
+    goes = rw (o, lt-ltb (w .session .at) (length piece) inside) (le-leb (0 + longestLine) (length (w .out)) room)
 
     by : (n : ℕ) → length piece ≡ n → w .session .at < turnsOf n piece fresh .session .at
     by zero e = absurd (omega arith)

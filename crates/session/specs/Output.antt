@@ -32,7 +32,7 @@ printedSoFar input =
 
 -- what is written: the bytes that are laid
 unfoldable pub written : World → List ℕ
-written w = take (w .session .printed) (w .out)
+written w = take (w .session .laid) (w .out)
 
 -- a piece, `take` after `take` while the run goes on and the piece lasts, and then what follows it. One for each byte is enough (`advances`).
 unfoldable pub pieceOut : ℕ → List ℕ → World → (World → List ℕ) → List ℕ
@@ -42,13 +42,14 @@ pieceOut (suc takes) piece w more =
     (if ltb (w .session .at) (length piece) then written (takeOf piece w) ++ pieceOut takes piece (takeOf piece w) more else more w)
     else []
 
--- piece after piece, and `last` once there is none
+-- piece after piece, and `final` once there is none
 unfoldable pub piecesOut : (World → List ℕ) → List (List ℕ) → World → List ℕ
-piecesOut last [] w = if w .session .on then last w else []
-piecesOut last (piece ∷ pieces) w =
-    pieceOut (length piece) piece (world (atByte (w .session) 0) (w .held) (w .request) (w .reply) (w .buffer) (w .out)) (piecesOut last pieces)
+piecesOut final [] w = if w .session .on then final w else []
+piecesOut final (piece ∷ pieces) w =
+    pieceOut (length piece) piece (world (atByte (w .session) 0) (w .held) (w .request) (w .reply) (w .buffer) (w .out)) (piecesOut final pieces)
 
--- what the program writes for an input that comes in these pieces
+-- what the program writes for an input that comes in these pieces, each a read of its own. A read that brings nothing is the end; an empty piece changes
+-- nothing
 unfoldable pub bytesOut : List (List ℕ) → World → List ℕ
 bytesOut pieces w = piecesOut (λ v. written (endOf v)) pieces w
 

@@ -37,8 +37,8 @@ abbrev pub heldBytes : ℕ
 heldBytes = 16404
 
 -- the longest line that is printed, an end of 8,200 bytes with its line feed
-abbrev pub lineBytes : ℕ
-lineBytes = 16401
+abbrev pub longestLine : ℕ
+longestLine = 16401
 
 -- where lines are gathered
 abbrev pub outBytes : ℕ
@@ -54,20 +54,20 @@ pub record Sized (w : World) : Type 0 where
 
 -- nothing read yet
 unfoldable pub startOf : Session
-startOf = record { run = run.Nothing; have = 0; at = 0; printed = 0; on = true }
+startOf = record { run = run.Nothing; have = 0; at = 0; laid = 0; on = true }
 
 -- at a byte of its piece, with nothing laid
 unfoldable pub atByte : Session → ℕ → Session
-atByte s at = record { run = s .run; have = s .have; at = at; printed = 0; on = s .on }
+atByte s at = record { run = s .run; have = s .have; at = at; laid = 0; on = s .on }
 
 -- a piece of n bytes that is used up, with so many bytes laid
 unfoldable pub moreOf : Run → ℕ → ℕ → ℕ → Session
-moreOf r have n laid = record { run = r; have = have; at = n; printed = laid; on = true }
+moreOf r have n laid = record { run = r; have = have; at = n; laid = laid; on = true }
 
 -- after a transfer the run goes on, after the last line it does not
 unfoldable pub saidSession : Said → Run → ℕ → ℕ → Session
-saidSession (said.Asked n) r at laid = record { run = r; have = 0; at = at; printed = laid + n; on = true }
-saidSession (said.Last n) r at laid = record { run = r; have = 0; at = at; printed = laid + n; on = false }
+saidSession (said.Asked n) r at laid = record { run = r; have = 0; at = at; laid = laid + n; on = true }
+saidSession (said.Last n) r at laid = record { run = r; have = 0; at = at; laid = laid + n; on = false }
 
 -- the line of a stage, after the bytes that are laid, where there is room for n in all
 unfoldable pub printOf : Stage → ℕ → ℕ → List ℕ → List ℕ → ℕ → Session
@@ -85,7 +85,7 @@ laidOf stage at laid held request reply buffer out =
 -- a whole line is fed to the run
 unfoldable pub lineOf : List ℕ → ℕ → List ℕ → World → World
 lineOf line at held w =
-    laidOf (feedOf (w .session .run) line (w .request) (w .reply) (length (w .buffer))) at (w .session .printed) held
+    laidOf (feedOf (w .session .run) line (w .request) (w .reply) (length (w .buffer))) at (w .session .laid) held
     (requestAfter (w .session .run) line (w .request))
     (replyAfter (w .session .run) line (w .reply))
     (bufferAfter (w .session .run) line (w .request) (w .reply) (w .buffer))
@@ -95,9 +95,9 @@ lineOf line at held w =
 unfoldable pub turnBy : Took → ℕ → List ℕ → World → World
 turnBy (took.Line len next) n held w = lineOf (take len held) next held w
 turnBy (took.More have) n held w =
-    world (moreOf (w .session .run) have n (w .session .printed)) held (w .request) (w .reply) (w .buffer) (w .out)
+    world (moreOf (w .session .run) have n (w .session .laid)) held (w .request) (w .reply) (w .buffer) (w .out)
 turnBy took.Long n held w =
-    laidOf (closeOf (w .session .run) 1) n (w .session .printed) held (w .request) (w .reply) (w .buffer) (w .out)
+    laidOf (closeOf (w .session .run) 1) n (w .session .laid) held (w .request) (w .reply) (w .buffer) (w .out)
 
 -- one turn of a piece
 unfoldable pub turnOf : List ℕ → World → World
@@ -107,13 +107,13 @@ turnOf piece w =
 
 -- whether another turn can be made: the run goes on, the piece lasts, and the longest line has room after what is laid
 unfoldable pub goesOn : Bool → ℕ → ℕ → ℕ → ℕ → Bool
-goesOn on at end laid room = if on then (if ltb at end then leb (laid + lineBytes) room else false) else false
+goesOn on at end laid room = if on then (if ltb at end then leb (laid + longestLine) room else false) else false
 
 -- turn after turn
 unfoldable pub turnsOf : ℕ → List ℕ → World → World
 turnsOf zero piece w = w
 turnsOf (suc turns) piece w =
-    if goesOn (w .session .on) (w .session .at) (length piece) (w .session .printed) (length (w .out)) then turnsOf turns piece (turnOf piece w) else w
+    if goesOn (w .session .on) (w .session .at) (length piece) (w .session .laid) (length (w .out)) then turnsOf turns piece (turnOf piece w) else w
 
 -- the lines of a piece, once what was laid before is written; a turn for each byte is enough
 unfoldable pub takeOf : List ℕ → World → World

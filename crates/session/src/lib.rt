@@ -12,7 +12,7 @@ ghost use mathlib.Core.Path.{_≡_};
 ghost use Prim.Native.Nat.{_+_, _≤_};
 ghost use lib.ListN.{length};
 ghost use lib.Dec.{leb};
-ghost use Rattle.session.specs.Session.{world, lineBytes, Sized, startOf, atByte, goesOn, printOf, printOut, turnOf, turnsOf, takeOf, endSession, endOut};
+ghost use Rattle.session.specs.Session.{world, longestLine, Sized, startOf, atByte, goesOn, printOf, printOut, turnOf, turnsOf, takeOf, endSession, endOut};
 
 // The sizes of what is lent. Each has room for the longest that it may hold: a line's digits, the bytes of a request and of an outcome, and a reading
 // call's buffer.
@@ -38,7 +38,7 @@ pub struct Session {
     // Where the piece goes on.
     pub at: usize,
     // How many bytes are laid at the front of `out`, to be written now.
-    pub printed: usize,
+    pub laid: usize,
     // Whether the run goes on.
     pub on: bool,
 }
@@ -51,7 +51,7 @@ pub fn start() -> Session
         run: Run::Nothing,
         have: 0,
         at: 0,
-        printed: 0,
+        laid: 0,
         on: true,
     }
 }
@@ -65,7 +65,7 @@ fn at_byte(session: Session, at: usize) -> Session
         run,
         have: session.have,
         at,
-        printed: 0,
+        laid: 0,
         on: session.on,
     }
 }
@@ -79,7 +79,7 @@ pub fn next_piece(session: Session) -> Session
 
 // Whether the longest line has room after what is laid.
 fn has_room(laid: usize, room: usize) -> bool
-    ensures { λ r. ⌜ r ≡ leb (laid + lineBytes) room ⌝ }
+    ensures { λ r. ⌜ r ≡ leb (laid + longestLine) room ⌝ }
 {
     if room < LINE_BYTES {
         return false;
@@ -117,14 +117,14 @@ fn print(
             run,
             have: 0,
             at,
-            printed: laid + n,
+            laid: laid + n,
             on: true,
         },
         Said::Last(n) => Session {
             run,
             have: 0,
             at,
-            printed: laid + n,
+            laid: laid + n,
             on: false,
         },
     }
@@ -140,11 +140,11 @@ fn turn(
     buffer: &mut [u8],
     out: &mut [u8],
 ) -> Session
-    requires { ⌜ session .printed ≤ length (now out) ⌝ }
+    requires { ⌜ session .laid ≤ length (now out) ⌝ }
     ensures { λ r. ⌜ world r (now (held .exit)) (now (request .exit)) (now (reply .exit)) (now (buffer .exit)) (now (out .exit)) ≡ turnOf (now (piece .entry)) (world session (now (held .entry)) (now (request .entry)) (now (reply .entry)) (now (buffer .entry)) (now (out .entry))) ⌝ }
 {
     let run = session.run;
-    let laid = session.printed;
+    let laid = session.laid;
     match pieces::take(piece, session.at, held, session.have) {
         Took::Line { len, next } => {
             let stage = bench_stage::feed(run, bytes::front(held, len), request, reply, buffer);
@@ -154,7 +154,7 @@ fn turn(
             run,
             have,
             at: piece.len(),
-            printed: laid,
+            laid,
             on: true,
         },
         Took::Long => print(
@@ -181,13 +181,14 @@ fn turns(
     ensures { λ r. ⌜ world r (now (held .exit)) (now (request .exit)) (now (reply .exit)) (now (buffer .exit)) (now (out .exit)) ≡ turnsOf (length (now (piece .entry))) (now (piece .entry)) (world session (now (held .entry)) (now (request .entry)) (now (reply .entry)) (now (buffer .entry)) (now (out .entry))) ⌝ }
 {
     let mut here = session;
-    while goes_on(here.on, here.at, piece.len(), here.printed, out.len()) {
+    while goes_on(here.on, here.at, piece.len(), here.laid, out.len()) {
         here = turn(here, piece, held, request, reply, buffer, out);
     }
     here
 }
 
-// The lines of a piece from where it goes on, up to the end of the run, while what they print has room in `out`. What was laid before is written.
+// The lines of a piece from where it goes on, up to the end of the run, while the longest line has room in `out` after what is laid. What was laid before
+// is written.
 pub fn take(
     session: Session,
     piece: &[u8],

@@ -1,6 +1,7 @@
 -- `bench::main` meets its contract: nothing has to hold from turn to turn, and the measure is the number of turns that are left.
 -- Assumes nothing.
 use native.Mathlib.Omega.{arith}
+use borrow.Author.Needs.{needs}
 use Rattle.bench.proofs.main.Statement.{statement}
 use Rattle.bench.proofs.main.Tie as tie
 
@@ -26,17 +27,29 @@ take-requires c κs = tt
 read-requires : tie.Need-read-requires Inv-loop μ-loop
 read-requires c κs = tt
 
-end-requires : tie.Need-end-requires Inv-loop μ-loop
-end-requires c κs = tt
+enum-known-k : tie.Need-enum-known-k Inv-loop μ-loop
+enum-known-k c = search needs
 
 next-piece-requires : tie.Need-next-piece-requires Inv-loop μ-loop
 next-piece-requires c κs = tt
 
-write-requires : tie.Need-write-requires Inv-loop μ-loop
-write-requires c κs = tt
+enum-told : tie.Need-enum-told Inv-loop μ-loop
+enum-told c = search needs
+
+end-requires : tie.Need-end-requires Inv-loop μ-loop
+end-requires c κs = tt
+
+enum-told-2 : tie.Need-enum-told-2 Inv-loop μ-loop
+enum-told-2 c = search needs
 
 returns : tie.Need-returns Inv-loop μ-loop
 returns c = tt
+
+write-requires : tie.Need-write-requires Inv-loop μ-loop
+write-requires c κs = tt
+
+returns-2 : tie.Need-returns-2 Inv-loop μ-loop
+returns-2 c = tt
 
 sub-turns : tie.Need-sub-turns Inv-loop μ-loop
 sub-turns c = omega arith
@@ -47,11 +60,11 @@ loop-less c = omega arith
 loop-again : tie.Need-loop-again Inv-loop μ-loop
 loop-again c = tt
 
-returns-2 : tie.Need-returns-2 Inv-loop μ-loop
-returns-2 c = tt
-
 returns-3 : tie.Need-returns-3 Inv-loop μ-loop
 returns-3 c = tt
+
+returns-4 : tie.Need-returns-4 Inv-loop μ-loop
+returns-4 c = tt
 
 pub main-spec : {M : Type 1} → statement M
 main-spec =
@@ -64,12 +77,16 @@ main-spec =
     loop-holds
     take-requires
     read-requires
-    end-requires
+    enum-known-k
     next-piece-requires
-    write-requires
+    enum-told
+    end-requires
+    enum-told-2
     returns
+    write-requires
+    returns-2
     sub-turns
     loop-less
     loop-again
-    returns-2
-    returns-3)
+    returns-3
+    returns-4)

@@ -4,7 +4,7 @@ use Prim.Native.Nat.{_+_, _<_}
 use mathlib.Core.Path.{sym}
 use native.Mathlib.Omega.{arith}
 use borrow.Author.Tests.{lt-leb}
-use Rattle.session.specs.Session.{lineBytes}
+use Rattle.session.specs.Session.{longestLine}
 use Rattle.session.proofs.Laws.{room-left}
 use Rattle.session.proofs.has_room.Statement.{statement}
 use Rattle.session.proofs.has_room.Tie as tie
@@ -12,11 +12,11 @@ use Rattle.session.proofs.has_room.Tie as tie
 returns : tie.Need-returns
 returns c =
     let a = c .before .args in
-    let h : a .room < a .laid + lineBytes = omega arith in
-    sym (lt-leb (a .laid + lineBytes) (a .room) h)
+    let h : a .room < a .laid + longestLine = omega arith in
+    sym (lt-leb (a .laid + longestLine) (a .room) h)
 
 returns-2 : tie.Need-returns-2
-returns-2 c = let a = c .before .args in room-left (a .laid) lineBytes (a .room) (omega arith)
+returns-2 c = let a = c .before .args in room-left (a .laid) longestLine (a .room) (omega arith)
 
 pub has-room-spec : {M : Type 1} → statement M
 has-room-spec = tie.close (tie.spec returns returns-2)

@@ -1,0 +1,18 @@
+-- `bench::take` meets its contract: the piece is the first n bytes of what was read.
+-- Assumes nothing.
+use mathlib.Core.Path.{_∙_}
+use borrow.Author.Needs.{needs}
+use Rattle.bench.proofs.take.Statement.{statement}
+use Rattle.bench.proofs.take.Tie as tie
+
+front-requires : tie.Need-front-requires
+front-requires c κs = search needs
+
+take-requires : tie.Need-take-requires
+take-requires c κs = search needs
+
+returns : tie.Need-returns
+returns c = c .take .ensures .0 ∙ rw (c .before .before .before .before .before .before .front .ensures)
+
+pub take-spec : {M : Type 1} → statement M
+take-spec = tie.close (tie.spec front-requires take-requires returns)
