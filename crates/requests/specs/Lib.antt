@@ -1,3 +1,4 @@
 pub mod Fields
 pub mod Outcome
 pub mod Request
+pub mod Figures
