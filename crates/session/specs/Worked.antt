@@ -1,0 +1,109 @@
+-- Worked runs of the bench program, document 01's own first, as one table under one statement. (01, The bench program; Slips that look right)
+-- Assumes nothing.
+use Prim.Native.Nat.{ℕ}
+use mathlib.Core.Path.{_≡_, refl}
+use mathlib.Core.List.{List, [], _∷_, _++_}
+use lib.ListN.{replicate}
+use Rattle.smbus_pec.specs.Pec.{bitStep, bitSteps, byteStep, pecOf}
+use Rattle.protocol.specs.Pick.{if_then_else_}
+use Rattle.protocol.specs.Bytes as bytes
+use Rattle.protocol.specs.Frame as frame
+use Rattle.protocol.specs.Reply as reply
+use Rattle.protocol.specs.Window.{inWindow}
+use Rattle.engine.specs.Pick.{case_waiting_ended_, case_acknowledged_error_timeout_, case_retry_spent_}
+use Rattle.engine.specs.Budget as budget
+use Rattle.engine.specs.Bus as bus
+use Rattle.engine.specs.Limit as limit
+use Rattle.writing.specs.Frames as frames
+use Rattle.writing.specs.Writing as writing
+use Rattle.reading.specs.Pick.{case_refused_fault_headed_block_}
+use Rattle.reading.specs.Parts as parts
+use Rattle.reading.specs.Reading as reading
+use Rattle.interface.specs.Plans as interface
+use Rattle.r5.specs.Plans as r5
+use Rattle.hex.specs.Hex as hex
+use Rattle.pieces.specs.Pieces as pieces
+use Rattle.requests.specs.Fields as fields
+use Rattle.requests.specs.Request as request
+use Rattle.requests.specs.Outcome as outcome
+use Rattle.bench_calls.specs.Calls as calls
+use Rattle.printing.specs.Printing as printing
+use Rattle.bench_lines.specs.Saying as saying
+use Rattle.bench_lines.specs.Bench as bench
+use Rattle.session.specs.Output.{feeds, printed}
+
+pub data Run : Type 0 where
+  -- whole lines of the input as bytes, the text that follows them, and the lines that are printed, as bytes
+  run : List (List ℕ) → List ℕ → List (List ℕ) → Run
+
+-- a data-flash write of two bytes with one retry, and its frame
+abbrev write : List ℕ
+write = 0x01 ∷ 0x00 ∷ 0x01 ∷ 0x00 ∷ 0x00 ∷ 0x40 ∷ 0xAA ∷ 0xBB ∷ []
+
+abbrev sent : List ℕ
+sent = 0x00 ∷ 0x44 ∷ 0x04 ∷ 0x00 ∷ 0x40 ∷ 0xAA ∷ 0xBB ∷ []
+
+-- a read of two bytes of register 12
+abbrev read : List ℕ
+read = 0x04 ∷ 0x00 ∷ 0x00 ∷ 0x00 ∷ 0x12 ∷ 0x02 ∷ 0x00 ∷ []
+
+-- an end: the answer, its detail and the waits, each below 256
+abbrev over : ℕ → ℕ → ℕ → List ℕ
+over answer detail waits = 0xFF ∷ answer ∷ detail ∷ 0x00 ∷ waits ∷ 0x00 ∷ 0x00 ∷ 0x00 ∷ []
+
+abbrev pub runs : List Run
+runs =
+    -- the whole case of document 01
+    run (write ∷ (0x01 ∷ 0x05 ∷ []) ∷ (0x00 ∷ []) ∷ []) [] (sent ∷ sent ∷ over 0 0 1 ∷ [])
+    -- the last allowed attempt met a bus error, or timed out; lines after the end are not looked at
+    ∷ run (write ∷ (0x02 ∷ []) ∷ (0x01 ∷ 0x05 ∷ []) ∷ (0x00 ∷ []) ∷ []) [] (sent ∷ sent ∷ over 1 0x05 1 ∷ [])
+    ∷ run (write ∷ (0x02 ∷ []) ∷ (0x02 ∷ []) ∷ []) [] (sent ∷ sent ∷ over 2 0 1 ∷ [])
+    -- no outcomes left
+    ∷ run (write ∷ (0x02 ∷ []) ∷ []) [] (sent ∷ sent ∷ (0xFE ∷ 0x01 ∷ 0x00 ∷ 0x00 ∷ 0x00 ∷ []) ∷ [])
+    -- a line that lacks its line feed, an empty line, and no input at all
+    ∷ run (write ∷ []) (0x30 ∷ 0x30 ∷ []) (sent ∷ over 11 0 0 ∷ [])
+    ∷ run [] (0x30 ∷ 0x30 ∷ []) (over 11 0 0 ∷ [])
+    ∷ run (write ∷ [] ∷ []) [] (sent ∷ over 11 0 0 ∷ [])
+    ∷ run [] [] (over 11 0 0 ∷ [])
+    -- lower case, an odd number of digits, a carriage return
+    ∷ run (write ∷ []) (0x30 ∷ 0x31 ∷ 0x30 ∷ 0x61 ∷ 0x0A ∷ []) (sent ∷ over 11 0 0 ∷ [])
+    ∷ run (write ∷ []) (0x30 ∷ 0x30 ∷ 0x30 ∷ 0x0A ∷ []) (sent ∷ over 11 0 0 ∷ [])
+    ∷ run (write ∷ []) (0x30 ∷ 0x30 ∷ 0x0D ∷ 0x0A ∷ []) (sent ∷ over 11 0 0 ∷ [])
+    -- a read: its buffer when it ends well, is cut, or gets a wrong reply; a bad outcome line
+    ∷ run (read ∷ (0x00 ∷ 0x11 ∷ 0x22 ∷ []) ∷ []) [] ((0x01 ∷ 0x12 ∷ 0x02 ∷ 0x00 ∷ []) ∷ (over 0 0 0 ++ (0x11 ∷ 0x22 ∷ [])) ∷ [])
+    ∷ run (read ∷ []) [] ((0x01 ∷ 0x12 ∷ 0x02 ∷ 0x00 ∷ []) ∷ (0xFE ∷ 0x00 ∷ 0x00 ∷ 0x00 ∷ 0x00 ∷ 0xA5 ∷ 0xA5 ∷ []) ∷ [])
+    ∷ run (read ∷ (0x00 ∷ 0x11 ∷ []) ∷ []) [] ((0x01 ∷ 0x12 ∷ 0x02 ∷ 0x00 ∷ []) ∷ (over 9 0 0 ++ (0xA5 ∷ 0xA5 ∷ [])) ∷ [])
+    ∷ run (read ∷ (0x01 ∷ []) ∷ []) [] ((0x01 ∷ 0x12 ∷ 0x02 ∷ 0x00 ∷ []) ∷ (over 11 0 0 ++ (0xA5 ∷ 0xA5 ∷ [])) ∷ [])
+    -- a refused reading call prints its buffer; a refused writing call has none
+    ∷ run ((0x04 ∷ 0x00 ∷ 0x00 ∷ 0x00 ∷ 0x12 ∷ 0x21 ∷ 0x00 ∷ []) ∷ []) [] ((over 4 0 0 ++ replicate 33 0xA5) ∷ [])
+    ∷ run ((0x02 ∷ 0x00 ∷ 0x00 ∷ 0x00 ∷ 0xFF ∷ 0x5F ∷ 0x02 ∷ 0x00 ∷ []) ∷ []) [] ((over 5 0 0 ++ (0xA5 ∷ 0xA5 ∷ [])) ∷ [])
+    ∷ run ((0x05 ∷ 0x00 ∷ 0x00 ∷ 0x00 ∷ 0x00 ∷ 0x35 ∷ 0x44 ∷ 0x00 ∷ 0x00 ∷ 0x00 ∷ 0xAA ∷ []) ∷ []) [] (over 7 0 0 ∷ [])
+    ∷ run ((0x09 ∷ 0x00 ∷ 0x00 ∷ 0x00 ∷ 0xAA ∷ []) ∷ []) [] (over 8 0 0 ∷ [])
+    -- 11 before 8: a flag that is none, with a key that is too short
+    ∷ run ((0x09 ∷ 0x04 ∷ 0x00 ∷ 0x00 ∷ 0xAA ∷ []) ∷ []) [] (over 11 0 0 ∷ [])
+    -- 33 bytes to data flash: frames of 36 and 5 bytes, and 32 bytes committed where the second failed
+    ∷ run ((0x01 ∷ 0x00 ∷ 0x00 ∷ 0x00 ∷ 0x00 ∷ 0x40 ∷ replicate 33 0xC3) ∷ (0x00 ∷ []) ∷ (0x02 ∷ []) ∷ []) []
+    ((0x00 ∷ 0x44 ∷ 0x22 ∷ 0x00 ∷ 0x40 ∷ replicate 32 0xC3) ∷ (0x00 ∷ 0x44 ∷ 0x03 ∷ 0x20 ∷ 0x40 ∷ 0xC3 ∷ []) ∷ over 6 32 0 ∷ [])
+    -- the address frame of a read with PEC; the command 443500, high byte first
+    ∷ run ((0x02 ∷ 0x02 ∷ 0x00 ∷ 0x00 ∷ 0x00 ∷ 0x40 ∷ 0x01 ∷ 0x00 ∷ []) ∷ []) []
+    ((0x00 ∷ 0x44 ∷ 0x02 ∷ 0x00 ∷ 0x40 ∷ 0xAB ∷ []) ∷ (0xFE ∷ 0x00 ∷ 0x00 ∷ 0x00 ∷ 0x00 ∷ 0xA5 ∷ []) ∷ [])
+    ∷ run ((0x05 ∷ 0x00 ∷ 0x00 ∷ 0x00 ∷ 0x00 ∷ 0x35 ∷ 0x44 ∷ 0x00 ∷ 0x00 ∷ 0x00 ∷ []) ∷ (0x00 ∷ []) ∷ []) [] ((0x00 ∷ 0x44 ∷ 0x02 ∷ 0x35 ∷ 0x00 ∷ []) ∷ over 0 0 0 ∷ [])
+    ∷ []
+
+-- what document 01 has the program write, for each of them
+abbrev pub Hold : List Run → Type 0
+Hold [] = Unit {0}
+Hold (run lines text out ∷ more) = (printed (feeds lines ++ text) ≡ feeds out) × Hold more
+
+pub runs-hold : Hold runs
+unfolding bitStep bitSteps byteStep pecOf if_then_else_ bytes.over bytes.blockIn bytes.storedAt bytes.sendOf frame.sealed frame.pairOf frame.macBytes frame.commandBytes frame.registerBytes frame.infoBytes frame.laidOf frame.workLaid
+    reply.plainAsk reply.macAsk reply.leadOf reply.aroundOf reply.countOf reply.checkedOf reply.heardOf reply.dataOf inWindow case_waiting_ended_ case_acknowledged_error_timeout_ case_retry_spent_ budget.failed budget.nothing budget.waited
+    bus.writeOf bus.phaseAfter bus.fitsOf limit.windowed limit.commanded limit.measured limit.admitted frames.isPlain frames.isFlash frames.countOf frames.halfBytes frames.blockBytes frames.infoCBytes frames.bytesAt
+    writing.planOf writing.startOf writing.ownBytes writing.dueBytes writing.shownOf writing.workShown writing.nextOf writing.workAfter writing.partOf writing.advanceOf writing.gaveUp writing.retryOf writing.endOf writing.failOf writing.settleOf writing.repliedOf writing.reportOf
+    case_refused_fault_headed_block_ parts.hasHead parts.headBytes parts.countOf parts.blockAsk parts.askOf parts.mostOf
+    reading.plainPlan reading.macPlan reading.startOf reading.dueAsk reading.shownHead reading.workHead reading.shownOf reading.workShown reading.nextOf reading.workAfter reading.headedOf reading.advanceOf reading.retryOf reading.endOf reading.failOf reading.heardHead reading.verdictOf reading.heardBlock reading.acknowledgedOf reading.outcomeOf reading.judgeOf reading.storedOf reading.reportOf reading.bufferAfter
+    interface.readRegister interface.commandPec interface.commandReads interface.dispatchCommand r5.macWrite r5.readDataflash r5.writeDataflash hex.valueOf hex.pairOf hex.bytesOf hex.digitOf hex.hexOf pieces.linesFrom pieces.restFrom
+    fields.pairAt fields.quadAt request.configOf request.writesOf request.wholeOf request.readsOf request.commandOf request.readLine request.writeLine request.requestLine outcome.acknowledgedLine outcome.errorLine outcome.timeoutLine outcome.outcomeLine
+    calls.writeStart calls.readStart printing.feedBytes printing.quadOf printing.writeSaid printing.readSaid printing.endSaid printing.openSaid saying.sizeOf saying.tellOf saying.zeros saying.showWrite saying.showRead
+    bench.lineBytes bench.thenSay bench.closing bench.wroteThen bench.writeThen bench.writeLines bench.gotThen bench.readThen bench.readLines bench.writeRun bench.readRun bench.requestThen bench.benchOf feeds printed
+runs-hold = (refl, (refl, (refl, (refl, (refl, (refl, (refl, (refl, (refl, (refl, (refl, (refl, (refl, (refl, (refl, (refl, (refl, (refl, (refl, (refl, (refl, (refl, (refl, tt)))))))))))))))))))))))
