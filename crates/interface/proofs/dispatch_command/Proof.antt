@@ -17,7 +17,7 @@ start-requires c κs = search needs
 
 returns : tie.Need-returns
 unfolding dispatchCommand
-returns c = cc
+returns c = rw (c .start .ensures, c .before .command-reads .ensures, c .before .before .command-pec .ensures)
 
 pub dispatch-command-spec : {M : Type 1} → statement M
 dispatch-command-spec =

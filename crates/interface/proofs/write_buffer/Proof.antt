@@ -14,7 +14,7 @@ start-requires c κs = search needs
 
 returns : tie.Need-returns
 unfolding writeBuffer
-returns c = cc
+returns c = rw (c .start .ensures, c .before .new .ensures)
 
 pub write-buffer-spec : {M : Type 1} → statement M
 write-buffer-spec = tie.close (tie.spec new-requires start-requires returns)

@@ -14,7 +14,7 @@ start-requires c κs = search needs
 
 returns : tie.Need-returns
 unfolding writeRegister
-returns c = cc
+returns c = rw (c .start .ensures, c .before .new .ensures)
 
 pub write-register-spec : {M : Type 1} → statement M
 write-register-spec = tie.close (tie.spec new-requires start-requires returns)

@@ -17,7 +17,7 @@ start-requires c κs = search needs
 
 returns : tie.Need-returns
 unfolding writeWithRetries
-returns c = cc
+returns c = rw (c .start .ensures, c .before .new .ensures, c .before .before .plain-limit .ensures)
 
 pub write-with-retries-spec : {M : Type 1} → statement M
 write-with-retries-spec =

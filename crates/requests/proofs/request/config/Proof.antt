@@ -13,7 +13,7 @@ pair-requires c κs = search needs
 
 returns : tie.Need-returns
 unfolding configOf
-returns c = cc
+returns c = rw (c .pair .ensures, c .before .byte .ensures)
 
 pub config-spec : {M : Type 1} → statement M
 config-spec = tie.close (tie.spec byte-requires pair-requires returns)

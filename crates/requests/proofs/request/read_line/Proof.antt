@@ -88,43 +88,43 @@ reads-requires-9 c κs = search needs
 
 returns : tie.Need-returns
 unfolding readLine if_then_else_
-returns c = rw (sym (c .before .before .before .before .byte .ensures) ∙ c .before .before .before .match .keys1) (cc)
+returns c = rw (sym (c .before .before .before .before .byte .ensures) ∙ c .before .before .before .match .keys1, c .reads .ensures, c .before .pair2 .ensures, c .before .before .pair .ensures)
 
 returns-2 : tie.Need-returns-2
 unfolding readLine if_then_else_
-returns-2 c = rw (sym (c .before .before .before .before .byte .ensures) ∙ c .before .before .before .match .keys2) (cc)
+returns-2 c = rw (sym (c .before .before .before .before .byte .ensures) ∙ c .before .before .before .match .keys2, c .reads2 .ensures, c .before .pair3 .ensures, c .before .before .byte2 .ensures)
 
 returns-3 : tie.Need-returns-3
 unfolding readLine if_then_else_
-returns-3 c = rw (sym (c .before .before .before .before .byte .ensures) ∙ c .before .before .before .match .keys3) (cc)
+returns-3 c = rw (sym (c .before .before .before .before .byte .ensures) ∙ c .before .before .before .match .keys3, c .command .ensures, c .before .pair4 .ensures, c .before .before .quad .ensures)
 
 returns-4 : tie.Need-returns-4
 unfolding readLine if_then_else_
-returns-4 c = rw (sym (c .before .before .before .before .byte .ensures) ∙ c .before .before .before .match .keys4) (cc)
+returns-4 c = rw (sym (c .before .before .before .before .byte .ensures) ∙ c .before .before .before .match .keys4, c .reads3 .ensures, c .before .pair5 .ensures, c .before .before .byte3 .ensures)
 
 returns-5 : tie.Need-returns-5
 unfolding readLine if_then_else_
-returns-5 c = rw (sym (c .before .before .byte .ensures) ∙ c .before .match .keys5) (cc)
+returns-5 c = rw (sym (c .before .before .byte .ensures) ∙ c .before .match .keys5, c .reads4 .ensures)
 
 returns-6 : tie.Need-returns-6
 unfolding readLine if_then_else_
-returns-6 c = rw (sym (c .before .before .byte .ensures) ∙ c .before .match .keys6) (cc)
+returns-6 c = rw (sym (c .before .before .byte .ensures) ∙ c .before .match .keys6, c .reads5 .ensures)
 
 returns-7 : tie.Need-returns-7
 unfolding readLine if_then_else_
-returns-7 c = rw (sym (c .before .before .before .before .byte .ensures) ∙ c .before .before .before .match .keys7) (cc)
+returns-7 c = rw (sym (c .before .before .before .before .byte .ensures) ∙ c .before .before .before .match .keys7, c .reads6 .ensures, c .before .pair6 .ensures, c .before .before .byte4 .ensures)
 
 returns-8 : tie.Need-returns-8
 unfolding readLine if_then_else_
-returns-8 c = rw (sym (c .before .before .before .byte .ensures) ∙ c .before .before .match .keys8) (cc)
+returns-8 c = rw (sym (c .before .before .before .byte .ensures) ∙ c .before .before .match .keys8, c .reads7 .ensures, c .before .pair7 .ensures)
 
 returns-9 : tie.Need-returns-9
 unfolding readLine if_then_else_
-returns-9 c = rw (sym (c .before .before .before .byte .ensures) ∙ c .before .before .match .keys9) (cc)
+returns-9 c = rw (sym (c .before .before .before .byte .ensures) ∙ c .before .before .match .keys9, c .reads8 .ensures, c .before .pair8 .ensures)
 
 returns-10 : tie.Need-returns-10
 unfolding readLine if_then_else_
-returns-10 c = rw (sym (c .before .before .byte .ensures) ∙ c .before .match .keys10) (cc)
+returns-10 c = rw (sym (c .before .before .byte .ensures) ∙ c .before .match .keys10, c .reads9 .ensures)
 
 returns-11 : tie.Need-returns-11
 unfolding readLine

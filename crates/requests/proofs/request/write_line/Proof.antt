@@ -76,47 +76,47 @@ read-line-requires c κs = search needs
 
 returns : tie.Need-returns
 unfolding writeLine if_then_else_
-returns c = rw (sym (c .before .before .before .byte .ensures) ∙ c .before .before .match .keys1) (cc)
+returns c = rw (sym (c .before .before .before .byte .ensures) ∙ c .before .before .match .keys1, c .writes .ensures, c .before .pair .ensures)
 
 returns-2 : tie.Need-returns-2
 unfolding writeLine if_then_else_
-returns-2 c = rw (sym (c .before .before .before .byte .ensures) ∙ c .before .before .match .keys2) (cc)
+returns-2 c = rw (sym (c .before .before .before .byte .ensures) ∙ c .before .before .match .keys2, c .writes2 .ensures, c .before .byte2 .ensures)
 
 returns-3 : tie.Need-returns-3
 unfolding writeLine if_then_else_
-returns-3 c = rw (sym (c .before .before .before .byte .ensures) ∙ c .before .before .match .keys3) (cc)
+returns-3 c = rw (sym (c .before .before .before .byte .ensures) ∙ c .before .before .match .keys3, c .writes3 .ensures, c .before .byte3 .ensures)
 
 returns-4 : tie.Need-returns-4
 unfolding writeLine if_then_else_
-returns-4 c = rw (sym (c .before .before .byte .ensures) ∙ c .before .match .keys4) (cc)
+returns-4 c = rw (sym (c .before .before .byte .ensures) ∙ c .before .match .keys4, c .writes4 .ensures)
 
 returns-5 : tie.Need-returns-5
 unfolding writeLine if_then_else_
-returns-5 c = rw (sym (c .before .before .byte .ensures) ∙ c .before .match .keys5) (cc)
+returns-5 c = rw (sym (c .before .before .byte .ensures) ∙ c .before .match .keys5, c .writes5 .ensures)
 
 returns-6 : tie.Need-returns-6
 unfolding writeLine if_then_else_
-returns-6 c = rw (sym (c .before .before .before .byte .ensures) ∙ c .before .before .match .keys6) (cc)
+returns-6 c = rw (sym (c .before .before .before .byte .ensures) ∙ c .before .before .match .keys6, c .writes6 .ensures, c .before .byte4 .ensures)
 
 returns-7 : tie.Need-returns-7
 unfolding writeLine if_then_else_
-returns-7 c = rw (sym (c .before .before .before .before .byte .ensures) ∙ c .before .before .before .match .keys7) (cc)
+returns-7 c = rw (sym (c .before .before .before .before .byte .ensures) ∙ c .before .before .before .match .keys7, c .whole .ensures, c .before .pair3 .ensures, c .before .before .pair2 .ensures)
 
 returns-8 : tie.Need-returns-8
 unfolding writeLine if_then_else_
-returns-8 c = rw (sym (c .before .before .before .before .byte .ensures) ∙ c .before .before .before .match .keys8) (cc)
+returns-8 c = rw (sym (c .before .before .before .before .byte .ensures) ∙ c .before .before .before .match .keys8, c .writes7 .ensures, c .before .pair5 .ensures, c .before .before .pair4 .ensures)
 
 returns-9 : tie.Need-returns-9
 unfolding writeLine if_then_else_
-returns-9 c = rw (sym (c .before .before .byte .ensures) ∙ c .before .match .keys9) (cc)
+returns-9 c = rw (sym (c .before .before .byte .ensures) ∙ c .before .match .keys9, c .writes8 .ensures)
 
 returns-10 : tie.Need-returns-10
 unfolding writeLine if_then_else_
-returns-10 c = rw (sym (c .before .before .byte .ensures) ∙ c .before .match .keys10) (cc)
+returns-10 c = rw (sym (c .before .before .byte .ensures) ∙ c .before .match .keys10, c .whole2 .ensures)
 
 returns-11 : tie.Need-returns-11
 unfolding writeLine if_then_else_
-returns-11 c = rw (sym (c .before .before .byte .ensures) ∙ c .before .match .keys11) (cc)
+returns-11 c = rw (sym (c .before .before .byte .ensures) ∙ c .before .match .keys11, c .writes9 .ensures)
 
 returns-12 : tie.Need-returns-12
 unfolding writeLine

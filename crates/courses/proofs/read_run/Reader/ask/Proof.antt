@@ -29,7 +29,12 @@ same-length c = search needs
 
 returns : tie.Need-returns
 unfolding askedOf askedBuffer
-returns c = ((cc), (cc))
+returns c =
+    let reply = c .before .before .before .before .before .before .before .before .reply .ensures in
+    let heard = c .before .before .before .before .before .before .before .read-outcome .ensures in
+    let cut = c .before .before .before .before .before .front .ensures in
+    let reported = c .before .before .before .report .ensures in
+    (rw (c .after-read .ensures, reported .0, heard, cut, reply), rw (reported .1, heard, cut, reply))
 
 pub ask-spec : {M : Type 1} → statement M
 ask-spec =

@@ -11,7 +11,7 @@ end-of-requires c κs = search needs
 
 returns : tie.Need-returns
 unfolding endedOf
-returns c = cc
+returns c = rw (c .end-of .ensures)
 
 pub ended-spec : {M : Type 1} → statement M
 ended-spec = tie.close (tie.spec end-of-requires returns)

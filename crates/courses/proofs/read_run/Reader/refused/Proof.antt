@@ -1,13 +1,14 @@
 -- `courses::read_run::Reader::refused` meets its contract: the fields are those of `refusedOf`.
 -- Assumes nothing.
 use Prim.Native.Nat.{_-_}
+use mathlib.Core.Path.{refl}
 use Rattle.courses.specs.ReadRun.{refusedOf}
 use Rattle.courses.proofs.read_run.Reader.refused.Statement.{statement}
 use Rattle.courses.proofs.read_run.Reader.refused.Tie as tie
 
 returns : tie.Need-returns
 unfolding refusedOf
-returns c = cc
+returns c = refl
 
 pub refused-spec : {M : Type 1} → statement M
 refused-spec = tie.close (tie.spec returns)

@@ -32,7 +32,12 @@ same-length-2 c = search needs
 
 returns : tie.Need-returns
 unfolding sentOf sentBuffer
-returns c = ((cc), (cc), (cc))
+returns c =
+    let frame = c .before .before .before .before .before .before .before .before .before .before .before .to-send .ensures in
+    let landed = c .before .before .before .before .before .before .before .before .before .land .ensures in
+    let heard = c .before .before .before .before .before .before .outcome .ensures in
+    let reported = c .before .before .before .report .ensures in
+    (rw (c .after-write .ensures, reported .0, heard, frame), rw (reported .1, heard, frame), rw (landed, frame))
 
 pub send-spec : {M : Type 1} → statement M
 send-spec =

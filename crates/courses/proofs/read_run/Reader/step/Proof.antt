@@ -67,7 +67,7 @@ same-length-8 c = search needs
 
 returns-3 : tie.Need-returns-3
 unfolding stepOf
-returns-3 c = at-refused _ _ _ _ _ _ _ (c .before .before .before .before .next .ensures .0) (c .enum-told .given .1) (cc)
+returns-3 c = at-refused _ _ _ _ _ _ _ (c .before .before .before .before .next .ensures .0) (c .enum-told .given .1) (rw (c .before .before .before .before .next .ensures .1))
 
 same-length-9 : tie.Need-same-length-9
 same-length-9 c = search needs
@@ -77,7 +77,7 @@ same-length-10 c = search needs
 
 returns-4 : tie.Need-returns-4
 unfolding stepOf
-returns-4 c = at-ended _ _ _ _ _ _ _ (c .before .before .before .before .next .ensures .0) (c .enum-told2 .given .1) (cc)
+returns-4 c = at-ended _ _ _ _ _ _ _ (c .before .before .before .before .next .ensures .0) (c .enum-told2 .given .1) (rw (c .before .before .before .before .next .ensures .1))
 
 pub step-spec : {M : Type 1} → statement M
 step-spec =

@@ -26,7 +26,9 @@ same-length c = search needs
 
 returns : tie.Need-returns
 unfolding sentOf sentFlash
-returns c = ((cc), (cc))
+returns c =
+    let frame = c .before .before .before .before .before .before .before .to-send .ensures in
+    (rw (c .after-write .ensures, c .before .report .ensures, c .before .before .outcome .ensures, frame), rw (c .before .before .before .before .before .land .ensures, frame))
 
 pub send-spec : {M : Type 1} → statement M
 send-spec =

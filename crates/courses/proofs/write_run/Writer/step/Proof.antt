@@ -33,28 +33,28 @@ same-length-2 c = search needs
 
 returns : tie.Need-returns
 unfolding stepOf
-returns c = at-write _ _ _ _ _ _ _ (c .before .before .before .before .before .before .before .before .before .before .next .ensures .0) (c .before .before .before .before .before .before .transfer .given .1) (cc)
+returns c = at-write _ _ _ _ _ _ _ (c .before .before .before .before .before .before .before .before .before .before .next .ensures .0) (c .before .before .before .before .before .before .transfer .given .1) (rw (c .before .before .send .ensures .0, c .before .before .send .ensures .1, c .before .before .before .before .before .before .before .before .before .before .next .ensures .1))
 
 same-length-3 : tie.Need-same-length-3
 same-length-3 c = search needs
 
 returns-2 : tie.Need-returns-2
 unfolding stepOf
-returns-2 c = at-read _ _ _ _ _ _ _ _ (c .before .before .before .before .next .ensures .0) (c .enum-told .given .1) (cc)
+returns-2 c = at-read _ _ _ _ _ _ _ _ (c .before .before .before .before .next .ensures .0) (c .enum-told .given .1) (rw (c .before .before .before .before .next .ensures .1))
 
 same-length-4 : tie.Need-same-length-4
 same-length-4 c = search needs
 
 returns-3 : tie.Need-returns-3
 unfolding stepOf
-returns-3 c = at-refused _ _ _ _ _ _ _ (c .before .before .before .before .next .ensures .0) (c .enum-told2 .given .1) (cc)
+returns-3 c = at-refused _ _ _ _ _ _ _ (c .before .before .before .before .next .ensures .0) (c .enum-told2 .given .1) (rw (c .before .before .before .before .next .ensures .1))
 
 same-length-5 : tie.Need-same-length-5
 same-length-5 c = search needs
 
 returns-4 : tie.Need-returns-4
 unfolding stepOf
-returns-4 c = at-ended _ _ _ _ _ _ _ (c .before .before .before .before .next .ensures .0) (c .enum-told3 .given .1) (cc)
+returns-4 c = at-ended _ _ _ _ _ _ _ (c .before .before .before .before .next .ensures .0) (c .enum-told3 .given .1) (rw (c .before .before .before .before .next .ensures .1))
 
 pub step-spec : {M : Type 1} → statement M
 step-spec =

@@ -11,7 +11,7 @@ ask-requires c κs = search needs
 
 returns : tie.Need-returns
 unfolding dueAsk
-returns c = cc
+returns c = rw (c .ask .ensures)
 
 pub due-spec : {M : Type 1} → statement M
 due-spec = tie.close (tie.spec ask-requires returns)

@@ -14,7 +14,7 @@ after-requires c κs = search needs
 
 returns : tie.Need-returns
 unfolding headedOf
-returns c = cc
+returns c = rw (c .after .ensures, c .before .count .ensures)
 
 pub headed-spec : {M : Type 1} → statement M
 headed-spec = tie.close (tie.spec count-requires after-requires returns)

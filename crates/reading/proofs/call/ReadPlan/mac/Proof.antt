@@ -11,7 +11,7 @@ mac-requires c κs = search needs
 
 returns : tie.Need-returns
 unfolding macPlan
-returns c = cc
+returns c = rw (c .mac .ensures)
 
 pub mac-spec : {M : Type 1} → statement M
 mac-spec = tie.close (tie.spec mac-requires returns)

@@ -11,7 +11,7 @@ gave-up-requires c κs = search needs
 
 returns : tie.Need-returns
 unfolding endOf
-returns c = cc
+returns c = rw (c .gave-up .ensures)
 
 pub end-spec : {M : Type 1} → statement M
 end-spec = tie.close (tie.spec gave-up-requires returns)

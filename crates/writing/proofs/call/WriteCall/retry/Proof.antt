@@ -11,7 +11,7 @@ wait-requires c κs = search needs
 
 returns : tie.Need-returns
 unfolding retryOf
-returns c = cc
+returns c = rw (c .wait .ensures)
 
 pub retry-spec : {M : Type 1} → statement M
 retry-spec = tie.close (tie.spec wait-requires returns)
