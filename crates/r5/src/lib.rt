@@ -25,89 +25,109 @@ ghost use Rattle.protocol.specs.Common.{noPec};
 ghost use Rattle.r5.specs.Plans.{macRead, macWrite, readSecurityKeys, writeSecurityKeys, readAuthenticationKey, writeAuthenticationKey, readChargingVoltageOverride, writeChargingVoltageOverride, wholeAsk, sendAccessKey, writeMfgInfoC, readMfgInfoC, writeMfgInfo, readMfgInfo, readDataflash, writeDataflash};
 
 // A MAC read of exactly `size` bytes.
-fn mac_read(config: Config, command: MacCommand, size: usize) -> ReadPlan
-    ensures { λ r. ⌜ r ≡ macRead config command size ⌝ }
+fn mac_read(
+    config: Config,
+    command: MacCommand,
+    size: usize,
+    output: &[u8],
+    work: &[u8],
+) -> ReadCall
+    ensures { λ r. ⌜ r ≡ reading-of (macRead config command size) (length (now (output .entry))) (length (now (work .entry))) ⌝ }
 {
-    ReadPlan::mac(config, Limit::Exactly(size), command, size)
+    let plan = ReadPlan::mac(config, Limit::Exactly(size), command, size);
+    ReadCall::start(plan, output, work)
 }
 
 // A MAC write of exactly `size` bytes.
-fn mac_write(config: Config, command: MacCommand, size: usize) -> WritePlan
-    ensures { λ r. ⌜ r ≡ macWrite config command size ⌝ }
+fn mac_write(
+    config: Config,
+    command: MacCommand,
+    size: usize,
+    payload: &[u8],
+    work: &[u8],
+) -> WriteCall
+    ensures { λ r. ⌜ r ≡ writing-of (macWrite config command size) (length (now (payload .entry))) (length (now (work .entry))) ⌝ }
 {
-    WritePlan::new(config, Limit::Exactly(size), Frames::Mac(command))
+    let plan = WritePlan::new(config, Limit::Exactly(size), Frames::Mac(command));
+    WriteCall::start(plan, payload, work)
 }
 
 // Reads the 28 bytes of the security keys.
 pub fn read_security_keys(config: Config, output: &[u8], work: &[u8]) -> ReadCall
     ensures { λ r. ⌜ r ≡ reading-of (readSecurityKeys config) (length (now (output .entry))) (length (now (work .entry))) ⌝ }
 {
-    let plan = mac_read(
+    mac_read(
         config,
         MacCommand::SecurityKeys,
         SECURITY_KEYS_R5_DATA_LEN_BYTES,
-    );
-    ReadCall::start(plan, output, work)
+        output,
+        work,
+    )
 }
 
 // Writes the 28 bytes of the security keys.
 pub fn write_security_keys(config: Config, keys: &[u8], work: &[u8]) -> WriteCall
     ensures { λ r. ⌜ r ≡ writing-of (writeSecurityKeys config) (length (now (keys .entry))) (length (now (work .entry))) ⌝ }
 {
-    let plan = mac_write(
+    mac_write(
         config,
         MacCommand::SecurityKeys,
         SECURITY_KEYS_R5_DATA_LEN_BYTES,
-    );
-    WriteCall::start(plan, keys, work)
+        keys,
+        work,
+    )
 }
 
 // Reads the 16 bytes of the authentication key.
 pub fn read_authentication_key(config: Config, output: &[u8], work: &[u8]) -> ReadCall
     ensures { λ r. ⌜ r ≡ reading-of (readAuthenticationKey config) (length (now (output .entry))) (length (now (work .entry))) ⌝ }
 {
-    let plan = mac_read(
+    mac_read(
         config,
         MacCommand::AuthenticationKey,
         AUTH_KEY_DATA_LEN_BYTES,
-    );
-    ReadCall::start(plan, output, work)
+        output,
+        work,
+    )
 }
 
 // Writes the 16 bytes of the authentication key.
 pub fn write_authentication_key(config: Config, key: &[u8], work: &[u8]) -> WriteCall
     ensures { λ r. ⌜ r ≡ writing-of (writeAuthenticationKey config) (length (now (key .entry))) (length (now (work .entry))) ⌝ }
 {
-    let plan = mac_write(
+    mac_write(
         config,
         MacCommand::AuthenticationKey,
         AUTH_KEY_DATA_LEN_BYTES,
-    );
-    WriteCall::start(plan, key, work)
+        key,
+        work,
+    )
 }
 
 // Reads the ten bytes of the charging voltage override, which `ChargingVoltageOverride::from_bytes` turns into figures.
 pub fn read_charging_voltage_override(config: Config, output: &[u8], work: &[u8]) -> ReadCall
     ensures { λ r. ⌜ r ≡ reading-of (readChargingVoltageOverride config) (length (now (output .entry))) (length (now (work .entry))) ⌝ }
 {
-    let plan = mac_read(
+    mac_read(
         config,
         MacCommand::ChargingVoltageOverride,
         CHRG_VOLTAGE_OVERRIDE_SIZE_BYTES,
-    );
-    ReadCall::start(plan, output, work)
+        output,
+        work,
+    )
 }
 
 // Writes the ten bytes that `ChargingVoltageOverride::to_bytes` makes of the figures.
 pub fn write_charging_voltage_override(config: Config, figures: &[u8], work: &[u8]) -> WriteCall
     ensures { λ r. ⌜ r ≡ writing-of (writeChargingVoltageOverride config) (length (now (figures .entry))) (length (now (work .entry))) ⌝ }
 {
-    let plan = mac_write(
+    mac_write(
         config,
         MacCommand::ChargingVoltageOverride,
         CHRG_VOLTAGE_OVERRIDE_SIZE_BYTES,
-    );
-    WriteCall::start(plan, figures, work)
+        figures,
+        work,
+    )
 }
 
 // Reads a register of any length by its address, never with a PEC: the same as `read_buffer`.

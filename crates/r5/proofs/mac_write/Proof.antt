@@ -1,6 +1,5 @@
--- `r5::mac_write` meets its contract: the plan is that of `macWrite`.
+-- `r5::mac_write` meets its contract: the call is started with the plan of `macWrite`.
 -- Assumes nothing.
-use Prim.Native.Nat.{_-_}
 use borrow.Author.Needs.{needs}
 use Rattle.r5.specs.Plans.{macWrite}
 use Rattle.r5.proofs.mac_write.Statement.{statement}
@@ -9,9 +8,12 @@ use Rattle.r5.proofs.mac_write.Tie as tie
 new-requires : tie.Need-new-requires
 new-requires c κs = search needs
 
+start-requires : tie.Need-start-requires
+start-requires c κs = search needs
+
 returns : tie.Need-returns
 unfolding macWrite
-returns c = rw (c .new .ensures)
+returns c = rw (c .start .ensures, c .before .new .ensures)
 
 pub mac-write-spec : {M : Type 1} → statement M
-mac-write-spec = tie.close (tie.spec new-requires returns)
+mac-write-spec = tie.close (tie.spec new-requires start-requires returns)
