@@ -110,7 +110,7 @@ module _ (R Y B H : List ℕ) (n : ℕ) (lines : List (List ℕ)) (rest : List �
 module _ (R Y B : List ℕ) (n : ℕ) (lines : List (List ℕ)) (rest : List ℕ) (fits : n ≤ length B)
     (more : (after : List ℕ) (call : ReadCall) → length after ≡ length B → machineOf (run.Read call n) R Y after lines rest ≡ readLines call (take n after) lines rest) where
   read-on : (t : Told) (call : ReadCall) (l : List ℕ)
-      → onward (stage.heardReadBy t call l n) R Y (stage.heardBufferBy t call l (take n B) ++ drop n B) lines rest
+      → onward (stage.heardReadBy t call n l n) R Y (stage.heardBufferBy t call l (take n B) ++ drop n B) lines rest
       ≡ readThen t call (take n B) l (λ next after. thenSay (showRead next after) (readLines next after lines rest))
   unfolding onward stage.heardReadBy stage.heardBufferBy stage.readStage sayOf sayRead thenSay readThen
   read-on (told.Outcome o) call l =
@@ -122,7 +122,7 @@ module _ (R Y B : List ℕ) (n : ℕ) (lines : List (List ℕ)) (rest : List ℕ
   read-on told.Bad call l = rw take-append-drop
 
   read-on-line : (call : ReadCall) (l m : List ℕ) → (l ≡ m) ⊎ ((outcomeLine l ≡ told.Bad) × (outcomeLine m ≡ told.Bad))
-      → onward (stage.heardRead call l n) R Y (stage.heardBuffer call l (take n B) ++ drop n B) lines rest
+      → onward (stage.heardRead call n l n) R Y (stage.heardBuffer call l (take n B) ++ drop n B) lines rest
       ≡ readThen (outcomeLine m) call (take n B) m (λ next after. thenSay (showRead next after) (readLines next after lines rest))
   unfolding stage.heardRead stage.heardReadBy stage.heardBuffer stage.heardBufferBy readThen
   read-on-line call l m (inl q) = rw q (read-on (outcomeLine m) call m)
@@ -137,9 +137,11 @@ read-closes true R B call n s u p q = rw p
 read-closes false R B call n s u p q = rw q
 
 go-fits : (call : ReadCall) (n : ℕ) (l B : List ℕ) → n ≤ length B
-    → (stage.goRead call n l (length B) ≡ stage.heardRead call l n) × (stage.goBuffer call n l B ≡ stage.heardBuffer call l (take n B) ++ drop n B)
-unfolding stage.goRead stage.goBuffer if_then_else_
-go-fits call n l B h = (rw (le-leb n (length B) h), rw (le-leb n (length B) h))
+    → (stage.goRead call n l (length B) ≡ stage.heardRead call n l n) × (stage.goBuffer call n l B ≡ stage.heardBuffer call l (take n B) ++ drop n B)
+unfolding stage.goRead stage.goBuffer
+go-fits call n l B h =
+    let e : min n (length B) ≡ n = omega arith in
+    (rw e, refl)
 
 -- a reading call from its first outcome on
 read-lines : (lines : List (List ℕ)) (R Y B : List ℕ) (call : ReadCall) (n : ℕ) (rest : List ℕ) → 8193 ≤ length Y → n ≤ length B

@@ -108,27 +108,27 @@ unfoldable pub gotOf : ReadReported → ℕ → Stage
 gotOf (got.Refused a call) n = readStage call n (end.Stopped a)
 gotOf (got.Taken call) n = readStage call n end.Open
 
-unfoldable pub heardReadBy : Told → ReadCall → List ℕ → ℕ → Stage
-heardReadBy (told.Outcome o) call line n = gotOf (reading.reportOf call o (drop 1 line) n 39) n
-heardReadBy told.Bad call line n = readStage call n (end.Stopped answer.BadLine)
+unfoldable pub heardReadBy : Told → ReadCall → ℕ → List ℕ → ℕ → Stage
+heardReadBy (told.Outcome o) call n line lent = gotOf (reading.reportOf call o (drop 1 line) lent 39) n
+heardReadBy told.Bad call n line lent = readStage call n (end.Stopped answer.BadLine)
 
 unfoldable pub heardBufferBy : Told → ReadCall → List ℕ → List ℕ → List ℕ
 heardBufferBy (told.Outcome o) call line buffer = reading.bufferAfter call o (drop 1 line) buffer 39
 heardBufferBy told.Bad call line buffer = buffer
 
--- the bytes of an outcome line go to a reading call with a buffer of n bytes
-unfoldable pub heardRead : ReadCall → List ℕ → ℕ → Stage
-heardRead call line n = heardReadBy (outcomeLine line) call line n
+-- the bytes of an outcome line go to a reading call with a buffer of n bytes, of which so many are lent
+unfoldable pub heardRead : ReadCall → ℕ → List ℕ → ℕ → Stage
+heardRead call n line lent = heardReadBy (outcomeLine line) call n line lent
 
 unfoldable pub heardBuffer : ReadCall → List ℕ → List ℕ → List ℕ
 heardBuffer call line buffer = heardBufferBy (outcomeLine line) call line buffer
 
 -- its buffer is the first n bytes of those that are lent
 unfoldable pub goRead : ReadCall → ℕ → List ℕ → ℕ → Stage
-goRead call n line lent = if leb n lent then heardRead call line n else readStage call n (end.Stopped answer.WrongBuffer)
+goRead call n line lent = heardRead call n line (min n lent)
 
 unfoldable pub goBuffer : ReadCall → ℕ → List ℕ → List ℕ → List ℕ
-goBuffer call n line buffer = if leb n (length buffer) then heardBuffer call line (take n buffer) ++ drop n buffer else buffer
+goBuffer call n line buffer = heardBuffer call line (take n buffer) ++ drop n buffer
 
 -- a line: a request where there is no call, and else an outcome
 unfoldable pub feedOf : Run → List ℕ → List ℕ → List ℕ → ℕ → Stage

@@ -190,12 +190,11 @@ fn got(reported: ReadReported, len: usize) -> Stage
     }
 }
 
-// The bytes of an outcome line go to a reading call with its own buffer.
-fn heard_read(call: ReadCall, line: &[u8], buffer: &mut [u8]) -> Stage
-    ensures { λ r. ⌜ (r ≡ heardRead call (now (line .entry)) (length (now (buffer .entry)))) × (now (buffer .exit) ≡ heardBuffer call (now (line .entry)) (now (buffer .entry))) ⌝ }
+// The bytes of an outcome line go to a reading call with its own buffer, of `len` bytes where enough is lent.
+fn heard_read(call: ReadCall, len: usize, line: &[u8], buffer: &mut [u8]) -> Stage
+    ensures { λ r. ⌜ (r ≡ heardRead call len (now (line .entry)) (length (now (buffer .entry)))) × (now (buffer .exit) ≡ heardBuffer call (now (line .entry)) (now (buffer .entry))) ⌝ }
 {
     let work = [0u8; LEAST_WORK_BUFFER];
-    let len = buffer.len();
     let reply = fields::rest(line, 1);
     match outcome::read(line) {
         Told::Outcome(outcome) => got(call.report(outcome, reply, buffer, &work), len),
@@ -207,11 +206,8 @@ fn heard_read(call: ReadCall, line: &[u8], buffer: &mut [u8]) -> Stage
 fn go_read(call: ReadCall, len: usize, line: &[u8], buffer: &mut [u8]) -> Stage
     ensures { λ r. ⌜ (r ≡ goRead call len (now (line .entry)) (length (now (buffer .entry)))) × (now (buffer .exit) ≡ goBuffer call len (now (line .entry)) (now (buffer .entry))) ⌝ }
 {
-    if len <= buffer.len() {
-        heard_read(call, line, &mut buffer[..len])
-    } else {
-        reads(call, len, End::Stopped(Answer::WrongBuffer))
-    }
+    let end = bytes::least(len, buffer.len());
+    heard_read(call, len, line, &mut buffer[..end])
 }
 
 // A line of input: a request where there is no call, and else an outcome. The bytes of the request line are kept in `request`, those of an outcome line

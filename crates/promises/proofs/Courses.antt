@@ -36,7 +36,7 @@ use Rattle.promises.specs.Flash.{placeOf, blockOf, Overlaid}
 use Rattle.promises.specs.Writes as written
 use Rattle.promises.specs.Writes.{World, began, shows, step, run}
 use Rattle.promises.specs.Demand3.{clean, Told, endIn, Tells, EndedWell, ended-well, Accepted}
-use Rattle.promises.specs.Courses.{eventIn, eventsIn, beside, ran, ranIn, left-over, Leaves, Go, started, ran-on, GoOnCourses, OnCourses}
+use Rattle.promises.specs.Courses.{eventIn, eventsIn, beside, ran, ranIn, left-over, Leaves, Runs, started, ran-on, GoOnCourses, OnCourses}
 use Rattle.promises.proofs.Window.{within}
 use Rattle.promises.proofs.Frames.{takes-block, block-points}
 use Rattle.promises.proofs.Machine.{worldAt, frameOf, shows-block, shows-ended, lays, hands-out, laid-long, step-sent, step-ended}
@@ -241,14 +241,14 @@ module _ (config : Config) (address : ℕ) (payload work flash : List ℕ) (a : 
   -- ---- going on
 
   -- a go is a run over one course
-  one-course : {left : Left} → Go config address payload work flash gauge left
+  one-course : {left : Left} → Runs config address payload work flash gauge left
       → (course : List ℕ) × (soundOf course ≡ true) × (left ≡ ran config address payload work flash gauge course)
   one-course (started course p) = (course, p, refl)
   one-course (ran-on course p g) =
       let o = one-course g in
       (o .0 ++ course, sound-both (o .0) course (o .1) p, ap (λ (l : Left). runOf payload course (left-over l)) (o .2) ∙ sym (runs-on (o .0) course (o .1) p))
 
-  go-leaves : (left : Left) → Go config address payload work flash gauge left → (i : ℕ) × Leaves address payload flash i left
+  go-leaves : (left : Left) → Runs config address payload work flash gauge left → (i : ℕ) × Leaves address payload flash i left
   go-leaves left g =
       let o = one-course g in
       (ranIn config address payload work flash (o .0) .acked, subst (Leaves address payload flash _) (sym (o .2)) (run-leaves config address payload work flash a gauge (o .0) (o .1)))

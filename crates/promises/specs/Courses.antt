@@ -57,19 +57,19 @@ pub record Leaves (address : ℕ) (payload flash : List ℕ) (i : ℕ) (left : L
 -- ---- going on
 
 -- one go: a write is run over a course, and what is left of it is run on over a further course, any number of times; a call that has ended stays as it is
-pub data Go (config : Config) (address : ℕ) (payload work flash : List ℕ) (gauge : Gauge) : Left → Type 0 where
-  started : (course : List ℕ) → soundOf course ≡ true → Go config address payload work flash gauge (ran config address payload work flash gauge course)
-  ran-on : {left : Left} (course : List ℕ) → soundOf course ≡ true → Go config address payload work flash gauge left
-      → Go config address payload work flash gauge (runOf payload course (left-over left))
+pub data Runs (config : Config) (address : ℕ) (payload work flash : List ℕ) (gauge : Gauge) : Left → Type 0 where
+  started : (course : List ℕ) → soundOf course ≡ true → Runs config address payload work flash gauge (ran config address payload work flash gauge course)
+  ran-on : {left : Left} (course : List ℕ) → soundOf course ≡ true → Runs config address payload work flash gauge left
+      → Runs config address payload work flash gauge (runOf payload course (left-over left))
 
--- a go over courses: settings, a work buffer, a gauge and courses of its own
+-- a go over courses: settings, a work buffer, a read pointer and courses of its own
 pub record GoOnCourses (address : ℕ) (payload flash : List ℕ) (e : End) (now : List ℕ) : Type 0 where
   pub config : Config
   pub work : List ℕ
   pub gauge : Gauge
   pub left : Left
   pub room : 39 ≤ length work
-  pub go : Go config address payload work flash gauge left
+  pub go : Runs config address payload work flash gauge left
   pub ends : e ≡ left .run .end
   pub leaves : now ≡ left .flash
 

@@ -67,7 +67,23 @@ figures =
     ∷ asks (line 0x08 (0x00 ∷ [])) request.Bad
     ∷ asks (line 0x14 (replicate 9 0xAA)) request.Bad
     ∷ asks (line 0x14 (replicate 11 0xAA)) request.Bad
+    ∷ asks (line 0x04 (0x12 ∷ 0x02 ∷ [])) request.Bad
+    ∷ asks (line 0x04 (0x12 ∷ 0x02 ∷ 0x01 ∷ 0x00 ∷ [])) request.Bad
+    ∷ asks (line 0x05 (0x78 ∷ 0x56 ∷ 0x34 ∷ 0x12 ∷ 0x02 ∷ [])) request.Bad
+    ∷ asks (line 0x06 (0x12 ∷ 0x02 ∷ [])) request.Bad
+    ∷ asks (line 0x0C (0x12 ∷ 0x02 ∷ 0x01 ∷ 0x00 ∷ [])) request.Bad
+    ∷ asks (line 0x0E (0x34 ∷ 0x12 ∷ 0x78 ∷ [])) request.Bad
+    ∷ asks (line 0x0E (0x34 ∷ 0x12 ∷ 0x78 ∷ 0x56 ∷ 0x00 ∷ [])) request.Bad
+    ∷ asks (line 0x0F (0x02 ∷ [])) request.Bad
+    ∷ asks (line 0x10 (0x34 ∷ 0x12 ∷ 0x78 ∷ [])) request.Bad
+    ∷ asks (line 0x11 (0x02 ∷ 0x01 ∷ 0x00 ∷ [])) request.Bad
     -- a payload, an input or a read length of 8,192 bytes, and of one more
+    ∷ asks (line 0x01 (0x34 ∷ 0x12 ∷ replicate 8192 0xAA)) (request.Write (writes.DataFlash 0x1234) 6)
+    ∷ asks (line 0x01 (0x34 ∷ 0x12 ∷ replicate 8193 0xAA)) request.Bad
+    ∷ asks (line 0x02 (0x34 ∷ 0x12 ∷ 0x00 ∷ 0x20 ∷ [])) (request.Read (reads.DataFlash 0x1234) 8192)
+    ∷ asks (line 0x02 (0x34 ∷ 0x12 ∷ 0x01 ∷ 0x20 ∷ [])) request.Bad
+    ∷ asks (line 0x05 (0x78 ∷ 0x56 ∷ 0x34 ∷ 0x12 ∷ 0x00 ∷ 0x20 ∷ [])) (request.Read (reads.Command 0x12345678) 8192)
+    ∷ asks (line 0x05 (0x78 ∷ 0x56 ∷ 0x34 ∷ 0x12 ∷ 0x01 ∷ 0x20 ∷ [])) request.Bad
     ∷ asks (line 0x15 (replicate 8192 0xAA)) (request.Write writes.Plain 4)
     ∷ asks (line 0x15 (replicate 8193 0xAA)) request.Bad
     ∷ asks (line 0x05 (0x78 ∷ 0x56 ∷ 0x34 ∷ 0x12 ∷ 0x00 ∷ 0x00 ∷ replicate 8192 0xAA)) (request.Read (reads.Command 0x12345678) 0)
@@ -88,6 +104,8 @@ figures =
     -- settings: the retries low byte first, bit 0 the PEC of writes, bit 1 that of reads
     ∷ sets (0x08 ∷ 0x01 ∷ 0x02 ∷ 0x01 ∷ []) (record { «max_bus_retries» = 0x0102; «pec_write» = true; «pec_read» = false })
     ∷ sets (0x08 ∷ 0x02 ∷ 0xFF ∷ 0xFF ∷ []) (record { «max_bus_retries» = 65535; «pec_write» = false; «pec_read» = true })
+    ∷ sets (0x08 ∷ 0x03 ∷ 0x00 ∷ 0x00 ∷ []) (record { «max_bus_retries» = 0; «pec_write» = true; «pec_read» = true })
+    ∷ sets (0x08 ∷ 0x00 ∷ 0x00 ∷ 0x00 ∷ []) (record { «max_bus_retries» = 0; «pec_write» = false; «pec_read» = false })
     ∷ []
 
 -- the definitions give each figure
@@ -99,4 +117,4 @@ Hold (sets s c ∷ more) = (configOf s ≡ c) × Hold more
 
 pub figures-hold : Hold figures
 unfolding pairAt quadAt configOf writesOf wholeOf readsOf commandOf readLine writeLine requestLine acknowledgedLine errorLine timeoutLine outcomeLine if_then_else_
-figures-hold = (refl, (refl, (refl, (refl, (refl, (refl, (refl, (refl, (refl, (refl, (refl, (refl, (refl, (refl, (refl, (refl, (refl, (refl, (refl, (refl, (refl, (refl, (refl, (refl, (refl, (refl, (refl, (refl, (refl, (refl, (refl, (refl, (refl, (refl, (refl, (refl, (refl, (refl, (refl, (refl, (refl, (refl, (refl, (refl, (refl, (refl, (refl, (refl, (refl, (refl, (refl, tt)))))))))))))))))))))))))))))))))))))))))))))))))))
+figures-hold = (refl, (refl, (refl, (refl, (refl, (refl, (refl, (refl, (refl, (refl, (refl, (refl, (refl, (refl, (refl, (refl, (refl, (refl, (refl, (refl, (refl, (refl, (refl, (refl, (refl, (refl, (refl, (refl, (refl, (refl, (refl, (refl, (refl, (refl, (refl, (refl, (refl, (refl, (refl, (refl, (refl, (refl, (refl, (refl, (refl, (refl, (refl, (refl, (refl, (refl, (refl, (refl, (refl, (refl, (refl, (refl, (refl, (refl, (refl, (refl, (refl, (refl, (refl, (refl, (refl, (refl, (refl, (refl, (refl, tt)))))))))))))))))))))))))))))))))))))))))))))))))))))))))))))))))))))

@@ -63,21 +63,17 @@ unfolding stage.gotOf stage.readStage
 fits-got (got.Refused a call) len n h = h
 fits-got (got.Taken call) len n h = h
 
-fits-heard : (t : Told) (call : ReadCall) (len n : ℕ) (l : List ℕ) → len ≤ n → Fits (stage.heardReadBy t call l len .run) n
+fits-heard : (t : Told) (call : ReadCall) (len lent n : ℕ) (l : List ℕ) → len ≤ n → Fits (stage.heardReadBy t call len l lent .run) n
 unfolding stage.heardReadBy stage.readStage
-fits-heard (told.Outcome o) call len n l h = fits-got _ len n h
-fits-heard told.Bad call len n l h = h
+fits-heard (told.Outcome o) call len lent n l h = fits-got _ len n h
+fits-heard told.Bad call len lent n l h = h
 
 -- a line leaves it so
 pub fits-feed : (r : Run) (line R Y : List ℕ) (n : ℕ) → 8192 ≤ n → Fits r n → Fits (stage.feedOf r line R Y n .run) n
-unfolding stage.feedOf stage.beginOf stage.goWrite stage.goRead stage.heardRead stage.readStage if_then_else_
+unfolding stage.feedOf stage.beginOf stage.goWrite stage.goRead stage.heardRead
 fits-feed run.Nothing line R Y n b h = fits-begin (requestLine (stage.bytesIn line R)) (stage.bytesIn line R) n b (small-request (stage.bytesIn line R))
 fits-feed (run.Write call at len) line R Y n b h = fits-write (outcomeLine (stage.bytesIn line Y)) call at _ n (stage.bytesIn line Y)
-fits-feed (run.Read call len) line R Y n b h = by (leb len n)
-  where
-    by : (t : Bool) → Fits ((if t then stage.heardReadBy (outcomeLine (stage.bytesIn line Y)) call (stage.bytesIn line Y) len else stage.readStage call len (end.Stopped answer.WrongBuffer)) .run) n
-    by true = fits-heard (outcomeLine (stage.bytesIn line Y)) call len n (stage.bytesIn line Y) h
-    by false = h
+fits-feed (run.Read call len) line R Y n b h = fits-heard (outcomeLine (stage.bytesIn line Y)) call len _ n (stage.bytesIn line Y) h
 
 pub length-request : (r : Run) (line R : List ℕ) → length (stage.requestAfter r line R) ≡ length R
 unfolding stage.requestAfter
@@ -103,14 +99,10 @@ length-heard (told.Outcome o) call l B = length-after call o (drop 1 l) B 39
 length-heard told.Bad call l B = refl
 
 pub length-buffer : (r : Run) (line R Y B : List ℕ) → length (stage.bufferAfter r line R Y B) ≡ length B
-unfolding stage.bufferAfter stage.beginBuffer stage.goBuffer stage.heardBuffer if_then_else_
+unfolding stage.bufferAfter stage.beginBuffer stage.goBuffer stage.heardBuffer
 length-buffer run.Nothing line R Y B = length-begin (requestLine (stage.bytesIn line R)) B
 length-buffer (run.Write call at len) line R Y B = refl
-length-buffer (run.Read call len) line R Y B = by (leb len (length B))
-  where
-    by : (t : Bool) → length (if t then stage.heardBufferBy (outcomeLine (stage.bytesIn line Y)) call (stage.bytesIn line Y) (take len B) ++ drop len B else B) ≡ length B
-    by true = rw (length-append, length-heard, length-take, length-drop) (omega arith)
-    by false = refl
+length-buffer (run.Read call len) line R Y B = rw (length-append, length-heard, length-take, length-drop) (omega arith)
 
 length-printed : (s out : List ℕ) → length (outPrinted s out) ≡ length out
 unfolding outPrinted if_then_else_

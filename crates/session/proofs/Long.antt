@@ -52,7 +52,7 @@ pub long-says : (r : Run) (line R Y B : List ℕ) → length R * 2 < length line
 unfolding stage.feedOf stage.requestAfter stage.bufferAfter stage.closeOf stage.beginOf stage.beginBy stage.fresh stage.goWrite stage.goWriteBy stage.goRead stage.goBuffer stage.heardRead stage.heardReadBy stage.heardBuffer stage.heardBufferBy stage.writeStage stage.readStage sayOf sayWrite sayRead requestLine outcomeLine if_then_else_
 long-says run.Nothing line R Y B x y f = rw (no-bytes line R x)
 long-says (run.Write call at len) line R Y B x y f = rw (no-bytes line Y y)
-long-says (run.Read call len) line R Y B x y f = rw (no-bytes line Y y, le-leb len (length B) f, take-append-drop)
+long-says (run.Read call len) line R Y B x y f = rw (no-bytes line Y y, take-append-drop)
 
 -- the end of the input gives a last line
 pub close-last : (r : Run) (k : ℕ) (R B : List ℕ) → saying (stage.closeOf r k) R B ≡ last (bytesSaid (saying (stage.closeOf r k) R B))
