@@ -74,6 +74,11 @@ runs =
     ∷ run (read ∷ []) [] ((0x01 ∷ 0x12 ∷ 0x02 ∷ 0x00 ∷ []) ∷ (0xFE ∷ 0x00 ∷ 0x00 ∷ 0x00 ∷ 0x00 ∷ 0xA5 ∷ 0xA5 ∷ []) ∷ [])
     ∷ run (read ∷ (0x00 ∷ 0x11 ∷ []) ∷ []) [] ((0x01 ∷ 0x12 ∷ 0x02 ∷ 0x00 ∷ []) ∷ (over 9 0 0 ++ (0xA5 ∷ 0xA5 ∷ [])) ∷ [])
     ∷ run (read ∷ (0x01 ∷ []) ∷ []) [] ((0x01 ∷ 0x12 ∷ 0x02 ∷ 0x00 ∷ []) ∷ (over 11 0 0 ++ (0xA5 ∷ 0xA5 ∷ [])) ∷ [])
+    -- a PEC that differs: it ends a call with no retries, and after one of a data-flash read the block's address goes out again
+    ∷ run ((0x04 ∷ 0x02 ∷ 0x00 ∷ 0x00 ∷ 0x12 ∷ 0x01 ∷ 0x00 ∷ []) ∷ (0x00 ∷ 0x11 ∷ 0x00 ∷ []) ∷ []) [] ((0x01 ∷ 0x12 ∷ 0x02 ∷ 0x00 ∷ []) ∷ (over 3 0 0 ++ (0xA5 ∷ [])) ∷ [])
+    ∷ run ((0x02 ∷ 0x02 ∷ 0x01 ∷ 0x00 ∷ 0x00 ∷ 0x40 ∷ 0x01 ∷ 0x00 ∷ []) ∷ (0x00 ∷ []) ∷ (0x00 ∷ replicate 36 0x00) ∷ (0x00 ∷ []) ∷ []) []
+    ((0x00 ∷ 0x44 ∷ 0x02 ∷ 0x00 ∷ 0x40 ∷ 0xAB ∷ []) ∷ (0x01 ∷ 0x44 ∷ 0x24 ∷ 0x00 ∷ [])
+    ∷ (0x00 ∷ 0x44 ∷ 0x02 ∷ 0x00 ∷ 0x40 ∷ 0xAB ∷ []) ∷ (0x01 ∷ 0x44 ∷ 0x24 ∷ 0x00 ∷ []) ∷ (0xFE ∷ 0x01 ∷ 0x00 ∷ 0x00 ∷ 0x00 ∷ 0xA5 ∷ []) ∷ [])
     -- a refused reading call prints its buffer; a refused writing call has none
     ∷ run ((0x04 ∷ 0x00 ∷ 0x00 ∷ 0x00 ∷ 0x12 ∷ 0x21 ∷ 0x00 ∷ []) ∷ []) [] ((over 4 0 0 ++ replicate 33 0xA5) ∷ [])
     ∷ run ((0x02 ∷ 0x00 ∷ 0x00 ∷ 0x00 ∷ 0xFF ∷ 0x5F ∷ 0x02 ∷ 0x00 ∷ []) ∷ []) [] ((over 5 0 0 ++ (0xA5 ∷ 0xA5 ∷ [])) ∷ [])
@@ -150,4 +155,4 @@ unfolding bitStep bitSteps byteStep pecOf if_then_else_ bytes.over bytes.blockIn
     fields.pairAt fields.quadAt request.configOf request.writesOf request.wholeOf request.readsOf request.commandOf request.readLine request.writeLine request.requestLine outcome.acknowledgedLine outcome.errorLine outcome.timeoutLine outcome.outcomeLine
     calls.writeStart calls.readStart printing.feedBytes printing.quadOf printing.writeSaid printing.readSaid printing.endSaid printing.openSaid saying.sizeOf saying.tellOf saying.zeros saying.showWrite saying.showRead
     bench.lineBytes bench.thenSay bench.closing bench.wroteThen bench.writeThen bench.writeLines bench.gotThen bench.readThen bench.readLines bench.writeRun bench.readRun bench.requestThen bench.benchOf feeds printed
-runs-hold = (refl, (refl, (refl, (refl, (refl, (refl, (refl, (refl, (refl, (refl, (refl, (refl, (refl, (refl, (refl, (refl, (refl, (refl, (refl, (refl, (refl, (refl, (refl, (refl, (refl, (refl, (refl, (refl, (refl, (refl, (refl, (refl, (refl, (refl, (refl, (refl, (refl, (refl, (refl, (refl, (refl, (refl, (refl, (refl, tt))))))))))))))))))))))))))))))))))))))))))))
+runs-hold = (refl, (refl, (refl, (refl, (refl, (refl, (refl, (refl, (refl, (refl, (refl, (refl, (refl, (refl, (refl, (refl, (refl, (refl, (refl, (refl, (refl, (refl, (refl, (refl, (refl, (refl, (refl, (refl, (refl, (refl, (refl, (refl, (refl, (refl, (refl, (refl, (refl, (refl, (refl, (refl, (refl, (refl, (refl, (refl, (refl, (refl, tt))))))))))))))))))))))))))))))))))))))))))))))
