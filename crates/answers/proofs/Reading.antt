@@ -1,6 +1,6 @@
 -- At a report to a reading call each answer is given exactly when its row says so.
 -- Assumes nothing.
-use Prim.Native.Nat.{ℕ, _≤_, _<_}
+use Prim.Native.Nat.{ℕ, _≤_}
 use mathlib.Core.Path.{_≡_, refl, sym, ap, subst, _∙_}
 use mathlib.Core.Bool.{Bool, true, false, false≢true}
 use mathlib.Core.List.{List}
@@ -25,7 +25,7 @@ use Rattle.reading.specs.Reading.{dueAsk, headedOf, advanceOf, retryOf, endOf, 
 use Rattle.reading.specs.declared.call.ReadCall.{ReadCall}
 use Rattle.reading.specs.declared.call.Verdict.{Verdict}
 use Rattle.reading.specs.declared.call.Verdict.the-variants as verdict
-use Rattle.answers.specs.Rows.{Same, saidR, OpenR, asked, Damaged, made, Reads}
+use Rattle.answers.specs.Rows.{saidR, OpenR, asked, Damaged, made, Reads}
 use Rattle.answers.proofs.Laws.{fits-same, same-fits, other-fits, fits-other}
 
 module _ (call : ReadCall) (o : Outcome) (bytes : List ℕ) (n w : ℕ) where

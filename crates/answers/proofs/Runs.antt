@@ -1,11 +1,10 @@
 -- What a report can lead to, and what stays true of a call however it is fed.
 -- Assumes nothing.
-use Prim.Native.Nat.{ℕ, _+_, _-_, _*_, _≤_, _<_, min}
+use Prim.Native.Nat.{ℕ, _+_, _-_, _*_, _≤_, _<_}
 use mathlib.Core.Path.{_≡_, refl, sym, ap, subst, _∙_}
-use mathlib.Core.Bool.{Bool, true, false, _&&_, _||_}
+use mathlib.Core.Bool.{Bool, true, false}
 use mathlib.Core.List.{List, [], _∷_}
 use native.Mathlib.Omega.{arith}
-use native.Mathlib.Nat.{add-mul, mul-le-mul-right, le-trans}
 use lib.Dec.{leb, eqb}
 use borrow.Author.Tests.{leb-true, leb-false, eqb-true, eqb-false}
 use Rattle.protocol.specs.Pick.{if_then_else_}
@@ -25,7 +24,6 @@ use Rattle.writing.specs.Frames as frames
 use Rattle.writing.specs.Writing.{startOf, advanceOf, retryOf, endOf, failOf, settleOf, repliedOf, reportOf}
 use Rattle.writing.specs.declared.call.WritePlan.{WritePlan}
 use Rattle.writing.specs.declared.call.WriteCall.{WriteCall}
-use Rattle.writing.specs.declared.call.WriteReported.the-variants as wrote
 use Rattle.answers.specs.Runs.{WriteReport, callW, reportedW, feedW, TameW}
 
 -- where a report can lead a writing call

@@ -21,7 +21,6 @@ use Rattle.protocol.specs.declared.reply.Heard.the-variants as heard
 use Rattle.engine.specs.Pick.{case_waiting_ended_, case_acknowledged_error_timeout_, case_retry_spent_}
 use Rattle.engine.specs.Budget.{failed, moreOf}
 use Rattle.engine.specs.Bus.{writeOf, phaseAfter, fitsOf}
-use Rattle.engine.specs.declared.bus.Lent.{Lent}
 use Rattle.engine.specs.declared.bus.Outcome.{Outcome}
 use Rattle.engine.specs.declared.bus.Outcome.the-variants as outcome
 use Rattle.engine.specs.declared.bus.Phase.{Phase}
@@ -41,7 +40,7 @@ use Rattle.reading.specs.declared.call.Verdict.{Verdict}
 use Rattle.reading.specs.declared.call.Verdict.the-variants as verdict
 use Rattle.reading.specs.declared.call.ReadReported.{ReadReported}
 use Rattle.reading.specs.declared.call.ReadReported.the-variants as read
-use Rattle.answers.specs.Rows.{Same, Refusal, Ending, Ends, SortW, Kept, SortR, Shown}
+use Rattle.answers.specs.Rows.{Refusal, Ending, Ends, SortW, Kept, SortR, Shown}
 use Rattle.answers.proofs.Laws.{fits-same}
 
 -- a call goes on or is done

@@ -1,20 +1,19 @@
 -- Each call by name stays within its bounds, however it is fed.
 -- Assumes nothing.
-use Prim.Native.Nat.{ℕ, _+_, _-_, _*_, _≤_, _<_}
-use mathlib.Core.Path.{_≡_, refl, sym, ap, subst, _∙_}
-use mathlib.Core.Bool.{Bool, true, false, _&&_}
+use Prim.Native.Nat.{ℕ, _+_, _-_, _≤_, _<_}
+use mathlib.Core.Path.{_≡_, refl, sym, subst, _∙_}
+use mathlib.Core.Bool.{Bool, true, false}
 use mathlib.Core.Logic.{_⊎_, inl, inr}
 use mathlib.Core.List.{List, []}
 use native.Mathlib.Omega.{arith}
 use lib.Dec.{ltb, eqb}
-use lib.ListN.{length, take, drop, length-take}
+use lib.ListN.{length, take, length-take}
 use borrow.Author.Tests.{lt-ltb, eq-eqb}
 use Rattle.protocol.specs.Pick.{if_then_else_}
 use Rattle.protocol.specs.Frame.{pairOf, macBytes, fixedPair, commandBytes, registerBytes, infoBytes, sealed, laidOf}
 use Rattle.protocol.specs.Reply as reply
 use Rattle.protocol.specs.declared.common.Config.{Config}
 use Rattle.protocol.specs.declared.error.Answer.{Answer}
-use Rattle.protocol.specs.declared.error.Answer.the-variants as answer
 use Rattle.protocol.specs.declared.frame.MacCommand.{MacCommand}
 use Rattle.protocol.specs.declared.frame.MacCommand.the-variants as mac
 use Rattle.engine.specs.Pick.{case_waiting_ended_}
@@ -37,8 +36,8 @@ use Rattle.reading.specs.declared.call.ReadPlan.{ReadPlan}
 use Rattle.reading.specs.declared.call.ReadCall.{ReadCall}
 use Rattle.interface.specs.Plans.{plainLimit, writeWithRetries, writeRegister, readRegister, commandReads, dispatchCommand, readBuffer, writeBuffer}
 use Rattle.r5.specs.Plans.{macRead, macWrite, wholeAsk, sendAccessKey, writeMfgInfoC, readMfgInfoC, writeMfgInfo, readMfgInfo, readDataflash, writeDataflash}
-use Rattle.answers.specs.Runs.{WriteReport, feedW, TameW, ReadReport, Reader, feedR, TameR}
-use Rattle.answers.specs.Within.{Inside, WritesBy, write-with-retries, write-register, write-register-unchecked, write-buffer, write-security-keys, write-authentication-key, write-charging-voltage-override, send-access-key, write-mfg-info-c, write-mfg-info, write-dataflash, WritesOn, WritesWithin, ReadsBy, read-register, read-buffer, dispatch-command, read-security-keys, read-authentication-key, read-charging-voltage-override, read-mfg-info-c, read-mfg-info, read-dataflash, ReadsOn, ReadsWithin, Within}
+use Rattle.answers.specs.Runs.{WriteReport, feedW, ReadReport, Reader, feedR}
+use Rattle.answers.specs.Within.{Inside, WritesBy, write-with-retries, write-register, write-register-unchecked, write-buffer, write-security-keys, write-authentication-key, write-charging-voltage-override, send-access-key, write-mfg-info-c, write-mfg-info, write-dataflash, WritesOn, WritesWithin, ReadsBy, read-register, read-buffer, dispatch-command, read-security-keys, read-authentication-key, read-charging-voltage-override, read-mfg-info-c, read-mfg-info, read-dataflash, ReadsWithin, Within}
 use Rattle.answers.proofs.Calls.{starts-as}
 use Rattle.answers.proofs.Fits.{Fits, admitted-fits, blocks-inside, blocks-few}
 use Rattle.answers.proofs.Runs as runs

@@ -1,9 +1,9 @@
 -- At a report to a writing call each answer is given exactly when its row says so.
 -- Assumes nothing.
-use Prim.Native.Nat.{ℕ, _*_, _≤_, _<_}
+use Prim.Native.Nat.{ℕ, _*_}
 use mathlib.Core.Path.{_≡_, refl, sym, ap, subst, _∙_}
 use mathlib.Core.Bool.{Bool, true, false, false≢true}
-use mathlib.Core.Logic.{_⊎_, inl, inr, _↔_}
+use mathlib.Core.Logic.{_↔_}
 use native.Mathlib.Omega.{arith}
 use lib.Dec.{leb, eqb}
 use borrow.Author.Tests.{leb-true, eqb-true, eqb-false, le-leb, eq-eqb, ne-eqb}
@@ -21,7 +21,7 @@ use Rattle.writing.specs.Frames as frames
 use Rattle.writing.specs.Writing.{advanceOf, gaveUp, retryOf, endOf, failOf, settleOf, repliedOf, reportOf}
 use Rattle.writing.specs.declared.call.WriteCall.{WriteCall}
 use Rattle.writing.specs.declared.call.WriteReported.the-variants as wrote
-use Rattle.answers.specs.Rows.{Same, Failure, saidW, OpenW, Partial, Writes}
+use Rattle.answers.specs.Rows.{Failure, saidW, OpenW, Partial, Writes}
 use Rattle.answers.proofs.Laws.{fits-same, same-fits, other-fits, fits-other}
 
 module _ (call : WriteCall) (o : Outcome) (r n w : ℕ) where

@@ -1,6 +1,6 @@
 -- What is lent keeps its length: where a line is decoded, where a buffer is filled or a block stored.
 -- Assumes nothing.
-use Prim.Native.Nat.{ℕ, _+_, _-_, _*_, _/_, _%_, _≤_, _<_, min}
+use Prim.Native.Nat.{ℕ, _+_, _-_, _/_, _%_, _≤_, _<_, min}
 use mathlib.Core.Path.{_≡_, refl, sym, ap, _∙_}
 use mathlib.Core.Bool.{Bool, true, false}
 use mathlib.Core.List.{List, [], _++_}
@@ -8,7 +8,7 @@ use native.Mathlib.Omega.{arith}
 use lib.ListN.{length, take, drop, replicate, length-append, length-take, length-drop, length-replicate, drop-of-length-le}
 use lib.Seq.{drop-append-le, take-append-seam}
 use lib.Dec.{ltb, leb, eqb}
-use borrow.Author.Tests.{ltb-false, leb-true, leb-false, le-leb}
+use borrow.Author.Tests.{ltb-false, leb-true, leb-false}
 use Rattle.hex.specs.Hex.{bytesOf, outDecoded}
 use Rattle.hex.proofs.Inverse.{length-bytes}
 use Rattle.protocol.specs.Pick.{if_then_else_}

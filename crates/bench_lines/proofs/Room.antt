@@ -1,9 +1,9 @@
 -- Every line of the bench has room in 16,401 bytes, so that it is printed whole.
 -- Assumes nothing.
-use Prim.Native.Nat.{ℕ, suc, _+_, _-_, _*_, _≤_, _<_, min}
-use mathlib.Core.Path.{_≡_, refl, sym, ap, subst, _∙_}
+use Prim.Native.Nat.{ℕ, _+_, _-_, _*_, _≤_}
+use mathlib.Core.Path.{_≡_, refl, sym, ap, subst}
 use mathlib.Core.Bool.{Bool, true, false}
-use mathlib.Core.List.{List, [], _∷_, _++_}
+use mathlib.Core.List.{List, [], _∷_}
 use native.Mathlib.Omega.{arith}
 use lib.ListN.{length, take, drop, replicate, length-append, length-take, length-drop, length-replicate}
 use lib.Dec.{ltb, leb, eqb}
@@ -37,7 +37,6 @@ use Rattle.requests.specs.declared.request.Request.{Request}
 use Rattle.requests.specs.declared.request.Request.the-variants as request
 use Rattle.requests.proofs.Small.{Small, small-request}
 use Rattle.printing.specs.Printing.{feedBytes, printedOf, outPrinted, quadOf, writeSaid, readSaid, endSaid, openSaid}
-use Rattle.printing.proofs.Laws.{length-feed}
 use Rattle.bench_lines.specs.Saying.{Saying, asked, last, bytesSaid, sizeOf, tellOf, zeros, showWrite, showRead}
 use Rattle.bench_lines.specs.Bench.{lineBytes, thenSay, closing, wroteThen, writeThen, writeLines, gotThen, readThen, readLines, writeRun, readRun, requestThen, benchOf}
 use Rattle.bench_lines.proofs.Kept.{length-after}

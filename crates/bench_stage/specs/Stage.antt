@@ -1,7 +1,7 @@
 -- A run of the bench program, line by line. (01, The bench program)
 -- Assumes nothing.
 use Prim.Native.Nat.{ℕ, min}
-use mathlib.Core.List.{List, [], _++_}
+use mathlib.Core.List.{List, _++_}
 use lib.ListN.{length, take, drop, replicate}
 use lib.Dec.{leb, eqb}
 use Rattle.hex.specs.Hex.{decodedOf, outDecoded}

@@ -1,16 +1,16 @@
 -- How the loops of `decode` and `encode` go on by a pair of digits, and what the two do to each other.
 -- Assumes nothing.
-use Prim.Native.Nat.{ℕ, zero, suc, _+_, _-_, _*_, _/_, _%_, _≤_, _<_}
-use mathlib.Core.Path.{_≡_, refl, sym, ap, subst, _∙_}
-use mathlib.Core.List.{List, [], _∷_, _++_, append-assoc, append-nil}
+use Prim.Native.Nat.{ℕ, suc, _+_, _-_, _*_, _/_, _%_, _≤_, _<_}
+use mathlib.Core.Path.{_≡_, refl, sym, ap, _∙_}
+use mathlib.Core.List.{List, [], _∷_, _++_, append-assoc}
 use native.Mathlib.Nat.{le-of-lt}
 use native.Mathlib.Numerals.{add-one}
 use native.Mathlib.Omega.{arith}
-use lib.ListN.{length, take, drop, getD, set, length-append, length-take, length-drop, length-set, take-append-drop, drop-of-length-le}
-use lib.Seq.{length-take-le, drop-cons, take-suc, take-suc-set, drop-set-lt, drop-drop, set-at, take-length, append-snoc, getD-drop}
+use lib.ListN.{length, take, drop, getD, set, length-append, length-take, take-append-drop}
+use lib.Seq.{length-take-le, drop-cons, take-suc, take-suc-set, drop-drop, set-at, append-snoc}
 use borrow.Author.Tests.{lt-ltb, le-ltb}
 use Rattle.protocol.specs.Pick.{if_then_else_}
-use Rattle.hex.specs.Hex.{valueOf, pairOf, bytesOf, digitOf, hexOf}
+use Rattle.hex.specs.Hex.{pairOf, bytesOf, digitOf, hexOf}
 
 -- two values that calls gave, as a byte
 pub same-byte : (u l a b : ℕ) → u ≡ a → l ≡ b → u * 16 + l ≡ a * 16 + b

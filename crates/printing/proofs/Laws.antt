@@ -1,12 +1,10 @@
 -- How a line comes about: the digits of its first part, those of its second in the tail after them, and the line feed.
 -- Assumes nothing.
 use Prim.Native.Nat.{ℕ, _+_, _-_, _*_, _/_, _≤_, _<_}
-use mathlib.Core.Path.{_≡_, refl, sym, ap, _∙_}
-use mathlib.Core.Bool.{true, false}
+use mathlib.Core.Path.{_≡_, sym, ap, _∙_}
 use mathlib.Core.List.{List, [], _∷_, _++_}
 use native.Mathlib.Omega.{arith}
-use lib.ListN.{length, take, drop, set, length-append, length-take, length-drop}
-use lib.Seq.{take-all}
+use lib.ListN.{length, take, drop, set, length-append, length-drop}
 use borrow.Author.Tests.{le-ltb}
 use Rattle.protocol.specs.Pick.{if_then_else_}
 use Rattle.hex.specs.Hex.{hexOf, outEncoded}

@@ -1,6 +1,6 @@
 -- The settings of a call. (common.rs, Config)
 -- Assumes nothing.
-use mathlib.Core.Bool.{true, false}
+use mathlib.Core.Bool.{false}
 use Rattle.protocol.specs.declared.common.Config.{Config}
 
 -- what a driver starts with (Config::new)

@@ -1,6 +1,6 @@
 -- A read that a request line asks for is of at most 8,192 bytes, and so is the payload that it brings.
 -- Assumes nothing.
-use Prim.Native.Nat.{ℕ, _-_, _≤_, _<_}
+use Prim.Native.Nat.{ℕ, _-_, _≤_}
 use mathlib.Core.Path.{_≡_, refl}
 use mathlib.Core.Bool.{Bool, true, false}
 use mathlib.Core.List.{List}
@@ -12,7 +12,6 @@ use Rattle.protocol.specs.Pick.{if_then_else_}
 use Rattle.requests.specs.Request.{writesOf, wholeOf, readsOf, commandOf, readLine, writeLine, requestLine}
 use Rattle.requests.specs.declared.request.WriteKind.{WriteKind}
 use Rattle.requests.specs.declared.request.ReadKind.{ReadKind}
-use Rattle.requests.specs.declared.request.ReadKind.the-variants as reads
 use Rattle.requests.specs.declared.request.Request.{Request}
 use Rattle.requests.specs.declared.request.Request.the-variants as request
 

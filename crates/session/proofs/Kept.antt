@@ -12,7 +12,6 @@ use borrow.Author.Tests.{leb-true}
 use Rattle.protocol.specs.Pick.{if_then_else_}
 use Rattle.protocol.specs.Bytes.{over}
 use Rattle.protocol.proofs.Laws.{length-over}
-use Rattle.protocol.specs.declared.error.Answer.the-variants as answer
 use Rattle.writing.specs.declared.call.WriteCall.{WriteCall}
 use Rattle.writing.specs.declared.call.WriteReported.{WriteReported}
 use Rattle.writing.specs.declared.call.WriteReported.the-variants as wrote
@@ -32,7 +31,6 @@ use Rattle.pieces.specs.Pieces.{lineTook}
 use Rattle.bench_stage.specs.Stage as stage
 use Rattle.bench_stage.specs.declared.Run.{Run}
 use Rattle.bench_stage.specs.declared.Run.the-variants as run
-use Rattle.bench_stage.specs.declared.End.the-variants as end
 use Rattle.bench_stage.proofs.Laws.{length-filled}
 use Rattle.bench_lines.proofs.Kept.{length-decoded, length-after, length-stored}
 

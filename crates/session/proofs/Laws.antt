@@ -10,7 +10,7 @@ use lib.Seq.{take-all}
 use lib.Dec.{ltb, leb}
 use borrow.Author.Tests.{ltb-true, leb-true, leb-false, le-leb, lt-leb}
 use Rattle.protocol.specs.Pick.{if_then_else_}
-use Rattle.printing.specs.Printing.{feedBytes, printedOf, outPrinted}
+use Rattle.printing.specs.Printing.{feedBytes, printedOf}
 use Rattle.printing.proofs.Laws.{length-feed}
 use Rattle.pieces.specs.Pieces.{beforeFeed, judgeOf, tookOf, lineTook}
 use Rattle.pieces.specs.declared.Took.{Took}

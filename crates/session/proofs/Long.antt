@@ -8,7 +8,7 @@ use mathlib.Core.Logic.{_⊎_, inl, inr}
 use native.Mathlib.Omega.{arith}
 use lib.ListN.{length, take, drop, take-append-drop, length-append}
 use lib.Dec.{ltb, eqb}
-use borrow.Author.Tests.{lt-ltb, le-leb, ne-eqb, eqb-false, ltb-true, ltb-false}
+use borrow.Author.Tests.{lt-ltb, ne-eqb, eqb-false, ltb-true, ltb-false}
 use Rattle.hex.specs.Hex.{decodedOf, bytesOf, outDecoded}
 use Rattle.hex.specs.declared.Decoded.the-variants as decoded
 use Rattle.protocol.specs.Pick.{if_then_else_}

@@ -87,7 +87,7 @@ fn has_room(laid: usize, room: usize) -> bool
     laid <= room - LINE_BYTES
 }
 
-// Whether another turn can be made: the run goes on, its piece ends after `at`, and there is room for what is printed.
+// Whether another turn can be made: the run goes on, its piece ends after `at`, and the longest line has room.
 fn goes_on(on: bool, at: usize, end: usize, laid: usize, room: usize) -> bool
     ensures { λ r. ⌜ r ≡ goesOn on at end laid room ⌝ }
 {
