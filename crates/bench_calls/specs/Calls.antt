@@ -1,14 +1,13 @@
 -- Which call a request line names. (docs/BENCH.md, the table of kinds)
 -- Assumes nothing.
 use Prim.Native.Nat.{ℕ}
-use Rattle.protocol.specs.Common.{noPec}
 use Rattle.protocol.specs.declared.common.Config.{Config}
 use Rattle.writing.specs.Writing.{startOf as writing-of}
 use Rattle.writing.specs.declared.call.WriteCall.{WriteCall}
 use Rattle.reading.specs.Reading.{startOf as reading-of}
 use Rattle.reading.specs.declared.call.ReadCall.{ReadCall}
 use Rattle.interface.specs.Plans.{writeWithRetries, writeRegister, readRegister, dispatchCommand, readBuffer, writeBuffer}
-use Rattle.r5.specs.Plans.{readSecurityKeys, writeSecurityKeys, readAuthenticationKey, writeAuthenticationKey, readChargingVoltageOverride, writeChargingVoltageOverride, sendAccessKey, writeMfgInfoC, readMfgInfoC, writeMfgInfo, readMfgInfo, readDataflash, writeDataflash}
+use Rattle.r5.specs.Plans.{readSecurityKeys, writeSecurityKeys, readAuthenticationKey, writeAuthenticationKey, readChargingVoltageOverride, writeChargingVoltageOverride, readRegisterUnchecked, writeRegisterUnchecked, sendAccessKey, writeMfgInfoC, readMfgInfoC, writeMfgInfo, readMfgInfo, readDataflash, writeDataflash}
 use Rattle.requests.specs.declared.request.WriteKind.{WriteKind}
 use Rattle.requests.specs.declared.request.WriteKind.the-variants as write
 use Rattle.requests.specs.declared.request.ReadKind.{ReadKind}
@@ -21,7 +20,7 @@ writeStart (write.Register address) config n w = writing-of (writeRegister confi
 writeStart (write.Buffer address) config n w = writing-of (writeBuffer config address) n w
 writeStart write.SecurityKeys config n w = writing-of (writeSecurityKeys config) n w
 writeStart write.AuthenticationKey config n w = writing-of (writeAuthenticationKey config) n w
-writeStart (write.RegisterUnchecked address) config n w = writing-of (writeRegister (noPec config) address) n w
+writeStart (write.RegisterUnchecked address) config n w = writing-of (writeRegisterUnchecked config address) n w
 writeStart (write.AccessKey lower upper) config n w = writing-of (sendAccessKey config lower upper) 0 w
 writeStart (write.MfgInfoC lower upper) config n w = writing-of (writeMfgInfoC config lower upper) n w
 writeStart write.MfgInfo config n w = writing-of (writeMfgInfo config) n w
@@ -36,7 +35,7 @@ readStart (read.Command address) config i n w = reading-of (dispatchCommand conf
 readStart (read.Buffer address) config i n w = reading-of (readBuffer config address n) n w
 readStart read.SecurityKeys config i n w = reading-of (readSecurityKeys config) n w
 readStart read.AuthenticationKey config i n w = reading-of (readAuthenticationKey config) n w
-readStart (read.RegisterUnchecked address) config i n w = reading-of (readBuffer config address n) n w
+readStart (read.RegisterUnchecked address) config i n w = reading-of (readRegisterUnchecked config address n) n w
 readStart read.MfgInfoC config i n w = reading-of (readMfgInfoC config n) n w
 readStart read.MfgInfo config i n w = reading-of (readMfgInfo config n) n w
 readStart read.ChargingVoltageOverride config i n w = reading-of (readChargingVoltageOverride config) n w

@@ -3,6 +3,7 @@
 use Prim.Native.Nat.{ℕ}
 use mathlib.Core.Bool.{Bool}
 use Rattle.protocol.specs.Pick.{if_then_else_}
+use Rattle.protocol.specs.Common.{noPec}
 use Rattle.protocol.specs.Reply.{plainAsk}
 use Rattle.protocol.specs.declared.common.Config.{Config}
 use Rattle.protocol.specs.declared.frame.MacCommand.{MacCommand}
@@ -15,6 +16,7 @@ use Rattle.reading.specs.Reading.{plainPlan, macPlan}
 use Rattle.reading.specs.declared.parts.Head.the-variants as head
 use Rattle.reading.specs.declared.parts.Reads.the-variants as reads
 use Rattle.reading.specs.declared.call.ReadPlan.{ReadPlan}
+use Rattle.interface.specs.Plans.{readBuffer, writeRegister}
 
 -- exactly so many bytes, behind a fixed pair
 unfoldable pub macRead : Config → MacCommand → ℕ → ReadPlan
@@ -42,9 +44,21 @@ readChargingVoltageOverride config = macRead config mac.ChargingVoltageOverride 
 abbrev pub writeChargingVoltageOverride : Config → WritePlan
 writeChargingVoltageOverride config = macWrite config mac.ChargingVoltageOverride 10
 
+-- any length, never with PEC: a buffer read
+abbrev pub readRegisterUnchecked : Config → ℕ → ℕ → ReadPlan
+readRegisterUnchecked config address n = readBuffer config address n
+
+-- at most 32 bytes, never with PEC: a register write without it
+abbrev pub writeRegisterUnchecked : Config → ℕ → WritePlan
+writeRegisterUnchecked config address = writeRegister (noPec config) address
+
 -- both halves of an access key
 unfoldable pub sendAccessKey : Config → ℕ → ℕ → WritePlan
 sendAccessKey config lower upper = planOf config limit.Free (frames.AccessKey lower upper)
+
+-- the gauge is unsealed by its access key
+abbrev pub unsealFg : Config → ℕ → ℕ → WritePlan
+unsealFg config lower upper = sendAccessKey config lower upper
 
 -- both halves, then at most 32 bytes of info C
 unfoldable pub writeMfgInfoC : Config → ℕ → ℕ → WritePlan

@@ -20,9 +20,7 @@ ghost use mathlib.Core.Path.{_≡_};
 ghost use lib.ListN.{length};
 ghost use Rattle.writing.specs.Writing.{startOf as writing-of};
 ghost use Rattle.reading.specs.Reading.{startOf as reading-of};
-ghost use Rattle.interface.specs.Plans.{readBuffer, writeRegister};
-ghost use Rattle.protocol.specs.Common.{noPec};
-ghost use Rattle.r5.specs.Plans.{macRead, macWrite, readSecurityKeys, writeSecurityKeys, readAuthenticationKey, writeAuthenticationKey, readChargingVoltageOverride, writeChargingVoltageOverride, wholeAsk, sendAccessKey, writeMfgInfoC, readMfgInfoC, writeMfgInfo, readMfgInfo, readDataflash, writeDataflash};
+ghost use Rattle.r5.specs.Plans.{macRead, macWrite, readSecurityKeys, writeSecurityKeys, readAuthenticationKey, writeAuthenticationKey, readChargingVoltageOverride, writeChargingVoltageOverride, readRegisterUnchecked, writeRegisterUnchecked, wholeAsk, sendAccessKey, unsealFg, writeMfgInfoC, readMfgInfoC, writeMfgInfo, readMfgInfo, readDataflash, writeDataflash};
 
 // A MAC read of exactly `size` bytes.
 fn mac_read(
@@ -132,7 +130,7 @@ pub fn write_charging_voltage_override(config: Config, figures: &[u8], work: &[u
 
 // Reads a register of any length by its address, never with a PEC: the same as `read_buffer`.
 pub fn read_register_unchecked(config: Config, address: u8, buffer: &[u8], work: &[u8]) -> ReadCall
-    ensures { λ r. ⌜ r ≡ reading-of (readBuffer config address (length (now (buffer .entry)))) (length (now (buffer .entry))) (length (now (work .entry))) ⌝ }
+    ensures { λ r. ⌜ r ≡ reading-of (readRegisterUnchecked config address (length (now (buffer .entry)))) (length (now (buffer .entry))) (length (now (work .entry))) ⌝ }
 {
     interface::read_buffer(config, address, buffer, work)
 }
@@ -144,7 +142,7 @@ pub fn write_register_unchecked(
     payload: &[u8],
     work: &[u8],
 ) -> WriteCall
-    ensures { λ r. ⌜ r ≡ writing-of (writeRegister (noPec config) address) (length (now (payload .entry))) (length (now (work .entry))) ⌝ }
+    ensures { λ r. ⌜ r ≡ writing-of (writeRegisterUnchecked config address) (length (now (payload .entry))) (length (now (work .entry))) ⌝ }
 {
     interface::write_register(config.no_pec(), address, payload, work)
 }
@@ -159,7 +157,7 @@ pub fn send_access_key(config: Config, lower: u16, upper: u16, work: &[u8]) -> W
 
 // Unseals the gauge: the same as `send_access_key`.
 pub fn unseal_fg(config: Config, lower: u16, upper: u16, work: &[u8]) -> WriteCall
-    ensures { λ r. ⌜ r ≡ writing-of (sendAccessKey config lower upper) 0 (length (now (work .entry))) ⌝ }
+    ensures { λ r. ⌜ r ≡ writing-of (unsealFg config lower upper) 0 (length (now (work .entry))) ⌝ }
 {
     send_access_key(config, lower, upper, work)
 }
