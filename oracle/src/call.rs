@@ -61,6 +61,14 @@ fn has_wrong_buffer(request: &Request) -> bool {
     }
 }
 
+/// The settings that a driver starts with, as the program `starts` of the port has them.
+#[must_use]
+pub fn default_settings() -> String {
+    let config = Config::new();
+    let pec = u8::from;
+    format!("Config::new : retries {}, pec_write {}, pec_read {}", config.max_bus_retries, pec(config.pec_write), pec(config.pec_read))
+}
+
 fn config(request: &Request) -> Config {
     Config {
         max_bus_retries: usize::from(request.retries),

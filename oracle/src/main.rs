@@ -9,7 +9,7 @@ use oracle::bench::{self, Host};
 use oracle::bus::Transfer;
 use oracle::generate::{self, Sink};
 use oracle::line::{Line, hex};
-use oracle::{list, panics};
+use oracle::{call, list, panics};
 
 const USAGE: &str = "usage: oracle run
        oracle generate exhaustive [--depth N]
@@ -17,6 +17,7 @@ const USAGE: &str = "usage: oracle run
        oracle generate random --seed S --cases N
        oracle generate sample
        oracle replay FILE
+       oracle settings
        oracle panics";
 
 fn main() -> ExitCode {
@@ -26,6 +27,7 @@ fn main() -> ExitCode {
         ["run"] => run(),
         ["generate", name, options @ ..] => generate(name, options),
         ["replay", file] => replay(file),
+        ["settings"] => writeln!(io::stdout(), "{}", call::default_settings()).map(|()| ExitCode::SUCCESS),
         ["panics"] => panics::print(&mut io::stdout().lock()).map(|()| ExitCode::SUCCESS),
         _ => Ok(usage()),
     };

@@ -1,5 +1,6 @@
-// The figures of the charging voltage override.
+// The figures of the charging voltage override, and the settings that a driver starts with.
 use crate::say;
+use protocol::common::Config;
 use protocol::voltage::ChargingVoltageOverride;
 
 // A figure, of those that are looked at.
@@ -17,7 +18,16 @@ fn figure(millivolts: i16) {
     }
 }
 
-// Ten bytes, their five figures, and the bytes of those.
+// The settings that a driver starts with, as the Rust's are printed by oracle/.
+fn settings() {
+    let config = Config::new();
+    say::number(b"Config::new : retries ", config.max_bus_retries as usize);
+    say::number(b", pec_write ", config.pec_write as usize);
+    say::number(b", pec_read ", config.pec_read as usize);
+    say::words(b"\n");
+}
+
+// Ten bytes, their five figures, and the bytes of those; then the settings.
 pub(crate) fn all() {
     let v = ChargingVoltageOverride::from_bytes(b"\xFF\xFF\x00\x80\xFF\x7F\x00\x01\x01\x00");
     say::words(b"FFFF0080FF7F00010100 :");
@@ -32,4 +42,5 @@ pub(crate) fn all() {
     say::words(b" ");
     say::words(&digits);
     say::words(b"\n");
+    settings();
 }
