@@ -1,40 +1,41 @@
--- Demand 2 holds, for any settings, any work buffer that is large enough and any outcomes.
+-- Demand 2 holds, for any settings, any work buffers of one length that is large enough, anything beside a failure and any outcomes.
 -- Assumes nothing.
 use Prim.Native.Nat.{ℕ, _≤_}
 use mathlib.Core.List.{List}
-use lib.ListN.{length}
 use Rattle.protocol.specs.declared.common.Config.{Config}
 use Rattle.original.specs.Bus.{BusOutcome}
+use Rattle.original.specs.Fed.{Lending, Lends}
 use Rattle.original.specs.Equal.{Equal}
 use Rattle.original.proofs.WriteCalls as write-calls
 use Rattle.original.proofs.ReadCalls as read-calls
 
--- `max_bus_retries` is 0 to 65,535, and the work buffer has at least 39 bytes
-pub equal : (config : Config) → config .«max_bus_retries» ≤ 65535 → (work : List ℕ) → 39 ≤ length work → (outcomes : List BusOutcome) → Equal config work outcomes
-equal config small work roomy outcomes = record {
-  plain-write = write-calls.plain-write config small work roomy outcomes;
-  plain-write-refused = write-calls.plain-write-refused config small work roomy outcomes;
-  write-register = write-calls.write-register config small work roomy outcomes;
-  read-register = read-calls.read-register config small work roomy outcomes;
-  dispatch-command = read-calls.dispatch-command config small work roomy outcomes;
-  dispatch-command-refused = read-calls.dispatch-command-refused config small work roomy outcomes;
-  buffer-read = read-calls.buffer-read config small work roomy outcomes;
-  buffer-write = write-calls.buffer-write config small work roomy outcomes;
-  read-security-keys = read-calls.read-security-keys config small work roomy outcomes;
-  write-security-keys = write-calls.write-security-keys config small work roomy outcomes;
-  read-authentication-key = read-calls.read-authentication-key config small work roomy outcomes;
-  write-authentication-key = write-calls.write-authentication-key config small work roomy outcomes;
-  read-register-unchecked = read-calls.read-register-unchecked config small work roomy outcomes;
-  write-register-unchecked = write-calls.write-register-unchecked config small work roomy outcomes;
-  write-register-unchecked-refused = write-calls.write-register-unchecked-refused config small work roomy outcomes;
-  send-access-key = write-calls.send-access-key config small work roomy outcomes;
-  write-mfg-info-c = write-calls.write-mfg-info-c config small work roomy outcomes;
-  read-mfg-info-c = read-calls.read-mfg-info-c config small work roomy outcomes;
-  write-mfg-info = write-calls.write-mfg-info config small work roomy outcomes;
-  read-mfg-info = read-calls.read-mfg-info config small work roomy outcomes;
-  write-charging-voltage-override = write-calls.write-charging-voltage-override config small work roomy outcomes;
-  read-charging-voltage-override = read-calls.read-charging-voltage-override config small work roomy outcomes;
+-- `max_bus_retries` is 0 to 65,535, and every work buffer has the same length, of at least 39 bytes
+pub equal : (config : Config) → config .«max_bus_retries» ≤ 65535 → (w : ℕ) → 39 ≤ w → (lent : ℕ → Lending) → Lends w lent → (outcomes : List BusOutcome) → Equal config w lent outcomes
+equal config small w roomy lent steady outcomes = record {
+  plain-write = write-calls.plain-write config small w roomy lent steady outcomes;
+  plain-write-refused = write-calls.plain-write-refused config small w roomy lent steady outcomes;
+  write-register = write-calls.write-register config small w roomy lent steady outcomes;
+  read-register = read-calls.read-register config small w roomy lent steady outcomes;
+  dispatch-command = read-calls.dispatch-command config small w roomy lent steady outcomes;
+  dispatch-command-refused = read-calls.dispatch-command-refused config small w roomy lent steady outcomes;
+  buffer-read = read-calls.buffer-read config small w roomy lent steady outcomes;
+  buffer-write = write-calls.buffer-write config small w roomy lent steady outcomes;
+  read-security-keys = read-calls.read-security-keys config small w roomy lent steady outcomes;
+  write-security-keys = write-calls.write-security-keys config small w roomy lent steady outcomes;
+  read-authentication-key = read-calls.read-authentication-key config small w roomy lent steady outcomes;
+  write-authentication-key = write-calls.write-authentication-key config small w roomy lent steady outcomes;
+  read-register-unchecked = read-calls.read-register-unchecked config small w roomy lent steady outcomes;
+  write-register-unchecked = write-calls.write-register-unchecked config small w roomy lent steady outcomes;
+  write-register-unchecked-refused = write-calls.write-register-unchecked-refused config small w roomy lent steady outcomes;
+  unseal-fg = write-calls.unseal-fg config small w roomy lent steady outcomes;
+  send-access-key = write-calls.send-access-key config small w roomy lent steady outcomes;
+  write-mfg-info-c = write-calls.write-mfg-info-c config small w roomy lent steady outcomes;
+  read-mfg-info-c = read-calls.read-mfg-info-c config small w roomy lent steady outcomes;
+  write-mfg-info = write-calls.write-mfg-info config small w roomy lent steady outcomes;
+  read-mfg-info = read-calls.read-mfg-info config small w roomy lent steady outcomes;
+  write-charging-voltage-override = write-calls.write-charging-voltage-override config small w roomy lent steady outcomes;
+  read-charging-voltage-override = read-calls.read-charging-voltage-override config small w roomy lent steady outcomes;
   override-figures = read-calls.override-figures;
-  read-dataflash = read-calls.read-dataflash config small work roomy outcomes;
-  write-dataflash = write-calls.write-dataflash config small work roomy outcomes;
+  read-dataflash = read-calls.read-dataflash config small w roomy lent steady outcomes;
+  write-dataflash = write-calls.write-dataflash config small w roomy lent steady outcomes;
 }

@@ -23,9 +23,9 @@ use Rattle.reading.specs.declared.parts.Head.the-variants as head
 use Rattle.reading.specs.declared.parts.Reads.the-variants as reads
 use Rattle.reading.specs.declared.call.ReadPlan.{ReadPlan}
 use Rattle.original.specs.Bus.{BusOutcome, Acknowledged, BusError, Timeout, delivered, Made, write, read, Log, made, delayed, Ok, Err, Waiting, Read, _leaving_, busOp_err_ok_}
-use Rattle.original.specs.Fed.{fedRead}
+use Rattle.original.specs.Fed.{Lending, Lends, fedRead}
 use Rattle.original.specs.OriginalInterface.{toLeBytes, withPec, readChunks, readChunksPec}
-use Rattle.original.proofs.ReadTurns.{length-delivered, at, headAt, askAt, believed, waits-head, waits-read, kept-head, kept-read, turn-head, turn-read, after-failure, after-head, after-block, after-last}
+use Rattle.original.proofs.ReadTurns.{length-delivered, at, headAt, askAt, believed, waits-head, waits-read, turn-head, turn-read, after-failure, after-head, after-block, after-last}
 use Rattle.original.proofs.Replies.{checked-last, stored-chunk, length-chunk}
 
 least : (x : ℕ) → min 32 (min (min (min 32 x) (min 32 x)) x) ≡ min 32 x
@@ -104,7 +104,7 @@ module _ (start : ℕ) where
         let k : min 32 (length buffer - bytesRead) ≡ min 35 (length buffer - bytesRead + 2 + 1) - 3 = omega arith in
         rw (lt-leb (length buffer) bytesRead more, k)
 
-  module _ (retries : ℕ) (limit : Limit) (n w : ℕ) (roomy : 39 ≤ w) (after : 0x4000 ≤ start) (before : start + n ≤ 0x6000) where
+  module _ (retries : ℕ) (limit : Limit) (n w : ℕ) (lent : ℕ → Lending) (steady : Lends w lent) (roomy : 39 ≤ w) (after : 0x4000 ≤ start) (before : start + n ≤ 0x6000) where
     abbrev plan : Bool → ReadPlan
     plan pec = record { retries = retries; limit = limit; head = head.DataFlash start; «head_pec» = pec; reads = reads.Blocks pec }
 
@@ -153,106 +153,106 @@ module _ (start : ℕ) where
 
     -- a call that waits is the loop where it stands
     abbrev Same : Bool → List BusOutcome → Type 0
-    Same pec outcomes = (heading : Bool) (i left waits : ℕ) (buffer work : List ℕ) (done : List Made) → length buffer ≡ n → length work ≡ w → i * 32 < n → waits + left ≤ 65535
-        → fedRead (at (plan pec) n w heading i left waits) buffer work done outcomes ≡ loop pec left buffer (i * 32) heading (record { transfers = done; waits = waits }) outcomes
+    Same pec outcomes = (heading : Bool) (i left waits : ℕ) (buffer : List ℕ) (done : List Made) → length buffer ≡ n → i * 32 < n → waits + left ≤ 65535
+        → fedRead (at (plan pec) n w heading i left waits) buffer lent done outcomes ≡ loop pec left buffer (i * 32) heading (record { transfers = done; waits = waits }) outcomes
 
-    fault : (pec heading : Bool) (outcomes : List BusOutcome) → Same pec outcomes → (i left waits : ℕ) (why : Answer) (buffer work : List ℕ) (done : List Made)
-        → eqb (numberOf why) 0 ≡ false → length buffer ≡ n → length work ≡ w → i * 32 < n → waits + left ≤ 65535 → (t : Bool) → eqb left 0 ≡ t
-        → fedRead (reading.failOf (at (plan pec) n w heading i left waits) why) buffer work done outcomes
+    fault : (pec heading : Bool) (outcomes : List BusOutcome) → Same pec outcomes → (i left waits : ℕ) (why : Answer) (buffer : List ℕ) (done : List Made)
+        → eqb (numberOf why) 0 ≡ false → length buffer ≡ n → i * 32 < n → waits + left ≤ 65535 → (t : Bool) → eqb left 0 ≡ t
+        → fedRead (reading.failOf (at (plan pec) n w heading i left waits) why) buffer lent done outcomes
         ≡ (if eqb left 0 then Err why (record { transfers = done; waits = waits }) outcomes leaving buffer else loop pec (left - 1) buffer (i * 32) true (record { transfers = done; waits = waits + 1 }) outcomes)
     unfolding parts.hasHead if_then_else_
-    fault pec heading outcomes ih i left waits why buffer work done bad b e h c true t =
-        after-failure (plan pec) n w heading i left waits why buffer work done outcomes c bad true t ∙ rw t
-    fault pec heading outcomes ih i left waits why buffer work done bad b e h c false t =
-        after-failure (plan pec) n w heading i left waits why buffer work done outcomes c bad false t
-        ∙ rw t (ih true i (left - 1) (waits + 1) buffer work done b e h (omega (arith, eqb-false left 0 t)))
+    fault pec heading outcomes ih i left waits why buffer done bad b h c true t =
+        after-failure (plan pec) n w lent heading i left waits why buffer done outcomes c bad true t ∙ rw t
+    fault pec heading outcomes ih i left waits why buffer done bad b h c false t =
+        after-failure (plan pec) n w lent heading i left waits why buffer done outcomes c bad false t
+        ∙ rw t (ih true i (left - 1) (waits + 1) buffer done b h (omega (arith, eqb-false left 0 t)))
 
     -- a chunk is in the buffer: another is due, or it was the last one
-    next-chunk : (pec : Bool) (outcomes : List BusOutcome) → Same pec outcomes → (i left waits : ℕ) (buffer work : List ℕ) (done : List Made) → length buffer ≡ n → length work ≡ w → i * 32 < n → waits + left ≤ 65535
+    next-chunk : (pec : Bool) (outcomes : List BusOutcome) → Same pec outcomes → (i left waits : ℕ) (buffer : List ℕ) (done : List Made) → length buffer ≡ n → i * 32 < n → waits + left ≤ 65535
         → (t : Bool) → ltb (suc i * 32) n ≡ t
-        → fedRead (reading.advanceOf (at (plan pec) n w false i left waits)) buffer work done outcomes ≡ loop pec left buffer (i * 32 + min 32 (n - i * 32)) false (record { transfers = done; waits = waits }) outcomes
+        → fedRead (reading.advanceOf (at (plan pec) n w false i left waits)) buffer lent done outcomes ≡ loop pec left buffer (i * 32 + min 32 (n - i * 32)) false (record { transfers = done; waits = waits }) outcomes
     unfolding parts.countOf
-    next-chunk pec outcomes ih i left waits buffer work done b e h c true t =
+    next-chunk pec outcomes ih i left waits buffer done b h c true t =
         let m : suc i * 32 < n = ltb-true (suc i * 32) n t in
         let k : i * 32 + min 32 (n - i * 32) ≡ suc i * 32 = omega arith in
-        rw (k, after-block (plan pec) n w i left waits (omega arith) (omega arith)) (ih false (suc i) left waits buffer work done b e m c)
-    next-chunk pec outcomes ih i left waits buffer work done b e h c false t =
+        rw (k, after-block (plan pec) n w i left waits (omega arith) (omega arith)) (ih false (suc i) left waits buffer done b m c)
+    next-chunk pec outcomes ih i left waits buffer done b h c false t =
         let m : n ≤ suc i * 32 = ltb-false (suc i * 32) n t in
-        after-last (plan pec) n w i left waits buffer work done outcomes (omega arith) (omega arith)
+        after-last (plan pec) n w lent i left waits buffer done outcomes (omega arith) (omega arith)
         ∙ sym (loop-done pec left buffer (i * 32 + min 32 (n - i * 32)) false (record { transfers = done; waits = waits }) outcomes (omega arith))
 
     -- a turn at the address, with what goes out written out
-    turn-address : (pec : Bool) (i left waits : ℕ) (buffer work : List ℕ) (done : List Made) (o : BusOutcome) (outcomes : List BusOutcome) → length buffer ≡ n → length work ≡ w → i * 32 < n
-        → fedRead (at (plan pec) n w true i left waits) buffer work done (o ∷ outcomes)
+    turn-address : (pec : Bool) (i left waits : ℕ) (buffer : List ℕ) (done : List Made) (o : BusOutcome) (outcomes : List BusOutcome) → length buffer ≡ n → i * 32 < n
+        → fedRead (at (plan pec) n w true i left waits) buffer lent done (o ∷ outcomes)
         ≡ (busOp o
-        err (λ e. fedRead (reading.failOf (at (plan pec) n w true i left waits) e) buffer (reading.workAfter (at (plan pec) n w true i left waits) (length buffer) work) (done ++ (write (address pec (i * 32)) ∷ [])) outcomes)
-        ok (λ bytes. fedRead (at (plan pec) n w false i left waits) buffer (reading.workAfter (at (plan pec) n w true i left waits) (length buffer) work) (done ++ (write (address pec (i * 32)) ∷ [])) outcomes))
+        err (λ e. fedRead (reading.failOf (at (plan pec) n w true i left waits) e) buffer lent (done ++ (write (address pec (i * 32)) ∷ [])) outcomes)
+        ok (λ bytes. fedRead (at (plan pec) n w false i left waits) buffer lent (done ++ (write (address pec (i * 32)) ∷ [])) outcomes))
     unfolding parts.countOf
-    turn-address pec i left waits buffer work done o outcomes b e h =
-        rw (← framed pec i, ← after-head (plan pec) n w i left waits (omega arith)) (turn-head (plan pec) n w i left waits buffer work done o outcomes b e (fits-head i))
+    turn-address pec i left waits buffer done o outcomes b h =
+        rw (← framed pec i, ← after-head (plan pec) n w i left waits (omega arith)) (turn-head (plan pec) n w lent steady i left waits buffer done o outcomes b (fits-head i))
 
     -- a turn at a read
-    turn-chunk : (pec : Bool) (i left waits : ℕ) (buffer work : List ℕ) (done : List Made) (o : BusOutcome) (outcomes : List BusOutcome) → length buffer ≡ n → length work ≡ w → i * 32 < n
-        → fedRead (at (plan pec) n w false i left waits) buffer work done (o ∷ outcomes)
+    turn-chunk : (pec : Bool) (i left waits : ℕ) (buffer : List ℕ) (done : List Made) (o : BusOutcome) (outcomes : List BusOutcome) → length buffer ≡ n → i * 32 < n
+        → fedRead (at (plan pec) n w false i left waits) buffer lent done (o ∷ outcomes)
         ≡ (busOp o
-        err (λ e. fedRead (reading.failOf (at (plan pec) n w false i left waits) e) buffer (reading.workAfter (at (plan pec) n w false i left waits) (length buffer) work) (done ++ (read 0x44 (count pec (n - i * 32)) ∷ [])) outcomes)
+        err (λ e. fedRead (reading.failOf (at (plan pec) n w false i left waits) e) buffer lent (done ++ (read 0x44 (count pec (n - i * 32)) ∷ [])) outcomes)
         ok (λ bytes. if not (bad pec (delivered (count pec (n - i * 32)) bytes))
         then fedRead (reading.advanceOf (at (plan pec) n w false i left waits)) (placed (i * 32) (min 32 (n - i * 32)) (delivered (count pec (n - i * 32)) bytes) buffer)
-        (reading.workAfter (at (plan pec) n w false i left waits) (length buffer) work) (done ++ (read 0x44 (count pec (n - i * 32)) ∷ [])) outcomes
-        else fedRead (reading.failOf (at (plan pec) n w false i left waits) answer.Pec) buffer (reading.workAfter (at (plan pec) n w false i left waits) (length buffer) work) (done ++ (read 0x44 (count pec (n - i * 32)) ∷ [])) outcomes))
+        lent (done ++ (read 0x44 (count pec (n - i * 32)) ∷ [])) outcomes
+        else fedRead (reading.failOf (at (plan pec) n w false i left waits) answer.Pec) buffer lent (done ++ (read 0x44 (count pec (n - i * 32)) ∷ [])) outcomes))
     unfolding busOp_err_ok_
-    turn-chunk pec i left waits buffer work done (Acknowledged bytes) outcomes b e h =
+    turn-chunk pec i left waits buffer done (Acknowledged bytes) outcomes b h =
         let reply : List ℕ = delivered (count pec (n - i * 32)) bytes in
         let l : length (delivered (count pec (n - i * 32)) bytes) ≡ count pec (n - i * 32) = length-delivered (count pec (n - i * 32)) bytes in
-        turn-read (plan pec) n w i left waits buffer work done (Acknowledged bytes) outcomes b e
+        turn-read (plan pec) n w lent steady i left waits buffer done (Acknowledged bytes) outcomes b
         ∙ rw (counted pec i, commanded pec i, believes pec i reply l, stored pec i left waits reply buffer b l (omega arith))
-    turn-chunk pec i left waits buffer work done (BusError code) outcomes b e h =
-        turn-read (plan pec) n w i left waits buffer work done (BusError code) outcomes b e ∙ rw (counted pec i, commanded pec i)
-    turn-chunk pec i left waits buffer work done Timeout outcomes b e h =
-        turn-read (plan pec) n w i left waits buffer work done Timeout outcomes b e ∙ rw (counted pec i, commanded pec i)
+    turn-chunk pec i left waits buffer done (BusError code) outcomes b h =
+        turn-read (plan pec) n w lent steady i left waits buffer done (BusError code) outcomes b ∙ rw (counted pec i, commanded pec i)
+    turn-chunk pec i left waits buffer done Timeout outcomes b h =
+        turn-read (plan pec) n w lent steady i left waits buffer done Timeout outcomes b ∙ rw (counted pec i, commanded pec i)
 
     -- a reply is weighed
-    weighed : (pec : Bool) (outcomes : List BusOutcome) → Same pec outcomes → (i left waits : ℕ) (buffer work : List ℕ) (done : List Made) (reply : List ℕ) → length buffer ≡ n → length work ≡ w → i * 32 < n → waits + left ≤ 65535
+    weighed : (pec : Bool) (outcomes : List BusOutcome) → Same pec outcomes → (i left waits : ℕ) (buffer : List ℕ) (done : List Made) (reply : List ℕ) → length buffer ≡ n → i * 32 < n → waits + left ≤ 65535
         → length reply ≡ count pec (n - i * 32) → (t : Bool)
-        → (if not t then fedRead (reading.advanceOf (at (plan pec) n w false i left waits)) (placed (i * 32) (min 32 (n - i * 32)) reply buffer) work done outcomes
-        else fedRead (reading.failOf (at (plan pec) n w false i left waits) answer.Pec) buffer work done outcomes)
+        → (if not t then fedRead (reading.advanceOf (at (plan pec) n w false i left waits)) (placed (i * 32) (min 32 (n - i * 32)) reply buffer) lent done outcomes
+        else fedRead (reading.failOf (at (plan pec) n w false i left waits) answer.Pec) buffer lent done outcomes)
         ≡ (if t then (if eqb left 0 then Err answer.Pec (record { transfers = done; waits = waits }) outcomes leaving buffer else loop pec (left - 1) buffer (i * 32) true (record { transfers = done; waits = waits + 1 }) outcomes)
         else loop pec left (placed (i * 32) (min 32 (n - i * 32)) reply buffer) (i * 32 + min 32 (n - i * 32)) false (record { transfers = done; waits = waits }) outcomes)
     unfolding if_then_else_
-    weighed pec outcomes ih i left waits buffer work done reply b e h c l true =
-        fault pec false outcomes ih i left waits answer.Pec buffer work done refl b e h c (eqb left 0) refl
-    weighed pec outcomes ih i left waits buffer work done reply b e h c l false =
-        next-chunk pec outcomes ih i left waits (placed (i * 32) (min 32 (n - i * 32)) reply buffer) work done (as-long pec i reply buffer b l (omega arith)) e h c (ltb (suc i * 32) n) refl
+    weighed pec outcomes ih i left waits buffer done reply b h c l true =
+        fault pec false outcomes ih i left waits answer.Pec buffer done refl b h c (eqb left 0) refl
+    weighed pec outcomes ih i left waits buffer done reply b h c l false =
+        next-chunk pec outcomes ih i left waits (placed (i * 32) (min 32 (n - i * 32)) reply buffer) done (as-long pec i reply buffer b l (omega arith)) h c (ltb (suc i * 32) n) refl
 
     pub same : (outcomes : List BusOutcome) (pec : Bool) → Same pec outcomes
     unfolding busOp_err_ok_
-    same [] pec true i left waits buffer work done b e h c =
-        waits-head (plan pec) n w i left waits buffer work done b e (fits-head i)
+    same [] pec true i left waits buffer done b h c =
+        waits-head (plan pec) n w lent steady i left waits buffer done b (fits-head i)
         ∙ rw (framed pec i) (sym (address-waits left buffer (i * 32) (record { transfers = done; waits = waits }) (omega arith) pec (omega arith)))
-    same [] pec false i left waits buffer work done b e h c =
-        waits-read (plan pec) n w i left waits buffer work done b e
+    same [] pec false i left waits buffer done b h c =
+        waits-read (plan pec) n w lent steady i left waits buffer done b
         ∙ rw (counted pec i, commanded pec i, ← b) (sym (read-waits left buffer (i * 32) (record { transfers = done; waits = waits }) (omega arith) pec))
-    same (Acknowledged bytes ∷ outcomes) pec true i left waits buffer work done b e h c =
-        turn-address pec i left waits buffer work done (Acknowledged bytes) outcomes b e h
-        ∙ same outcomes pec false i left waits buffer _ _ b (kept-head (plan pec) n w i left waits buffer work b e (fits-head i)) h c
+    same (Acknowledged bytes ∷ outcomes) pec true i left waits buffer done b h c =
+        turn-address pec i left waits buffer done (Acknowledged bytes) outcomes b h
+        ∙ same outcomes pec false i left waits buffer _ b h c
         ∙ sym (address-turn left buffer (i * 32) (record { transfers = done; waits = waits }) (omega arith) pec (Acknowledged bytes) outcomes (omega arith))
-    same (Acknowledged bytes ∷ outcomes) pec false i left waits buffer work done b e h c =
-        turn-chunk pec i left waits buffer work done (Acknowledged bytes) outcomes b e h
-        ∙ weighed pec outcomes (same outcomes pec) i left waits buffer _ _ (delivered (count pec (n - i * 32)) bytes) b (kept-read (plan pec) n w i left waits buffer work e) h c (length-delivered (count pec (n - i * 32)) bytes) (bad pec (delivered (count pec (n - i * 32)) bytes))
+    same (Acknowledged bytes ∷ outcomes) pec false i left waits buffer done b h c =
+        turn-chunk pec i left waits buffer done (Acknowledged bytes) outcomes b h
+        ∙ weighed pec outcomes (same outcomes pec) i left waits buffer _ (delivered (count pec (n - i * 32)) bytes) b h c (length-delivered (count pec (n - i * 32)) bytes) (bad pec (delivered (count pec (n - i * 32)) bytes))
         ∙ rw (← b) (sym (read-turn left buffer (i * 32) (record { transfers = done; waits = waits }) (omega arith) pec (Acknowledged bytes) outcomes))
-    same (BusError code ∷ outcomes) pec true i left waits buffer work done b e h c =
-        turn-address pec i left waits buffer work done (BusError code) outcomes b e h
-        ∙ fault pec true outcomes (same outcomes pec) i left waits (answer.I2c code) buffer _ _ refl b (kept-head (plan pec) n w i left waits buffer work b e (fits-head i)) h c (eqb left 0) refl
+    same (BusError code ∷ outcomes) pec true i left waits buffer done b h c =
+        turn-address pec i left waits buffer done (BusError code) outcomes b h
+        ∙ fault pec true outcomes (same outcomes pec) i left waits (answer.I2c code) buffer _ refl b h c (eqb left 0) refl
         ∙ sym (address-turn left buffer (i * 32) (record { transfers = done; waits = waits }) (omega arith) pec (BusError code) outcomes (omega arith))
-    same (BusError code ∷ outcomes) pec false i left waits buffer work done b e h c =
-        turn-chunk pec i left waits buffer work done (BusError code) outcomes b e h
-        ∙ fault pec false outcomes (same outcomes pec) i left waits (answer.I2c code) buffer _ _ refl b (kept-read (plan pec) n w i left waits buffer work e) h c (eqb left 0) refl
+    same (BusError code ∷ outcomes) pec false i left waits buffer done b h c =
+        turn-chunk pec i left waits buffer done (BusError code) outcomes b h
+        ∙ fault pec false outcomes (same outcomes pec) i left waits (answer.I2c code) buffer _ refl b h c (eqb left 0) refl
         ∙ rw (← b) (sym (read-turn left buffer (i * 32) (record { transfers = done; waits = waits }) (omega arith) pec (BusError code) outcomes))
-    same (Timeout ∷ outcomes) pec true i left waits buffer work done b e h c =
-        turn-address pec i left waits buffer work done Timeout outcomes b e h
-        ∙ fault pec true outcomes (same outcomes pec) i left waits answer.Timeout buffer _ _ refl b (kept-head (plan pec) n w i left waits buffer work b e (fits-head i)) h c (eqb left 0) refl
+    same (Timeout ∷ outcomes) pec true i left waits buffer done b h c =
+        turn-address pec i left waits buffer done Timeout outcomes b h
+        ∙ fault pec true outcomes (same outcomes pec) i left waits answer.Timeout buffer _ refl b h c (eqb left 0) refl
         ∙ sym (address-turn left buffer (i * 32) (record { transfers = done; waits = waits }) (omega arith) pec Timeout outcomes (omega arith))
-    same (Timeout ∷ outcomes) pec false i left waits buffer work done b e h c =
-        turn-chunk pec i left waits buffer work done Timeout outcomes b e h
-        ∙ fault pec false outcomes (same outcomes pec) i left waits answer.Timeout buffer _ _ refl b (kept-read (plan pec) n w i left waits buffer work e) h c (eqb left 0) refl
+    same (Timeout ∷ outcomes) pec false i left waits buffer done b h c =
+        turn-chunk pec i left waits buffer done Timeout outcomes b h
+        ∙ fault pec false outcomes (same outcomes pec) i left waits answer.Timeout buffer _ refl b h c (eqb left 0) refl
         ∙ rw (← b) (sym (read-turn left buffer (i * 32) (record { transfers = done; waits = waits }) (omega arith) pec Timeout outcomes))

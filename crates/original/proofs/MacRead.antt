@@ -22,12 +22,12 @@ use Rattle.reading.specs.declared.parts.Head.{Head}
 use Rattle.reading.specs.declared.parts.Reads.the-variants as reads
 use Rattle.reading.specs.declared.call.ReadPlan.{ReadPlan}
 use Rattle.original.specs.Bus.{BusOutcome, Acknowledged, BusError, Timeout, delivered, Made, write, read, Log, delayed, Ok, Err, Read, _leaving_, busOp_err_ok_, copied}
-use Rattle.original.specs.Fed.{fedRead}
+use Rattle.original.specs.Fed.{Lending, Lends, fedRead}
 use Rattle.original.specs.OriginalInterface.{withPec, macWriteTurn, macReadTurn}
-use Rattle.original.proofs.ReadTurns.{length-delivered, at, headAt, askAt, believed, waits-head, waits-read, kept-head, kept-read, turn-head, turn-read, after-failure, after-head, after-last}
+use Rattle.original.proofs.ReadTurns.{length-delivered, at, headAt, askAt, believed, waits-head, waits-read, turn-head, turn-read, after-failure, after-head, after-last}
 use Rattle.original.proofs.Replies.{checked-last, count-mac, stored-whole, copied-pick, copied-ok, copied-err, copied-waiting, take-short-of}
 
-module _ (retries : ℕ) (limit : Limit) (head : Head) (first : ℕ) (frame buffer inner : List ℕ) (w : ℕ)
+module _ (retries : ℕ) (limit : Limit) (head : Head) (first : ℕ) (frame buffer inner : List ℕ) (w : ℕ) (lent : ℕ → Lending) (steady : Lends w lent)
     (opens : parts.hasHead head ≡ true) (bytes-of : parts.headBytes head 0 ≡ frame) (opening : getD frame 0 0 ≡ first) (fitting : length frame < w)
     (room : length buffer ≤ length inner) (least : length inner ≤ 32) where
   abbrev plan : Bool → ReadPlan
@@ -54,31 +54,31 @@ module _ (retries : ℕ) (limit : Limit) (head : Head) (first : ℕ) (frame buff
 
   -- at the frame, and at the read
   abbrev AtFrame : Bool → List BusOutcome → Type 0
-  AtFrame pec outcomes = (left waits : ℕ) (work : List ℕ) (done : List Made) → length work ≡ w → waits + left ≤ 65535
-      → fedRead (at (plan pec) (length buffer) w true 0 left waits) buffer work done outcomes ≡ copied buffer (macWriteTurn left pec frame inner (record { transfers = done; waits = waits }) outcomes)
+  AtFrame pec outcomes = (left waits : ℕ) (done : List Made) → waits + left ≤ 65535
+      → fedRead (at (plan pec) (length buffer) w true 0 left waits) buffer lent done outcomes ≡ copied buffer (macWriteTurn left pec frame inner (record { transfers = done; waits = waits }) outcomes)
 
   abbrev AtRead : Bool → List BusOutcome → Type 0
-  AtRead pec outcomes = (left waits : ℕ) (work : List ℕ) (done : List Made) → length work ≡ w → waits + left ≤ 65535
-      → fedRead (at (plan pec) (length buffer) w false 0 left waits) buffer work done outcomes ≡ copied buffer (macReadTurn left pec frame inner (record { transfers = done; waits = waits }) outcomes)
+  AtRead pec outcomes = (left waits : ℕ) (done : List Made) → waits + left ≤ 65535
+      → fedRead (at (plan pec) (length buffer) w false 0 left waits) buffer lent done outcomes ≡ copied buffer (macReadTurn left pec frame inner (record { transfers = done; waits = waits }) outcomes)
 
-  fault : (pec heading : Bool) (outcomes : List BusOutcome) → AtFrame pec outcomes → (left waits : ℕ) (why : Answer) (work : List ℕ) (done : List Made) → eqb (numberOf why) 0 ≡ false → length work ≡ w → waits + left ≤ 65535 → (t : Bool) → eqb left 0 ≡ t
-      → fedRead (reading.failOf (at (plan pec) (length buffer) w heading 0 left waits) why) buffer work done outcomes
+  fault : (pec heading : Bool) (outcomes : List BusOutcome) → AtFrame pec outcomes → (left waits : ℕ) (why : Answer) (done : List Made) → eqb (numberOf why) 0 ≡ false → waits + left ≤ 65535 → (t : Bool) → eqb left 0 ≡ t
+      → fedRead (reading.failOf (at (plan pec) (length buffer) w heading 0 left waits) why) buffer lent done outcomes
       ≡ copied buffer (if eqb left 0 then Err why (record { transfers = done; waits = waits }) outcomes leaving inner
       else macWriteTurn (left - 1) pec frame inner (record { transfers = done; waits = waits + 1 }) outcomes)
   unfolding copied if_then_else_
-  fault pec heading outcomes ih left waits why work done bad e b true t =
-      after-failure (plan pec) (length buffer) w heading 0 left waits why buffer work done outcomes b bad true t ∙ rw t
-  fault pec heading outcomes ih left waits why work done bad e b false t =
-      after-failure (plan pec) (length buffer) w heading 0 left waits why buffer work done outcomes b bad false t
-      ∙ rw (t, opens) (ih (left - 1) (waits + 1) work done e (omega (arith, eqb-false left 0 t)))
+  fault pec heading outcomes ih left waits why done bad b true t =
+      after-failure (plan pec) (length buffer) w lent heading 0 left waits why buffer done outcomes b bad true t ∙ rw t
+  fault pec heading outcomes ih left waits why done bad b false t =
+      after-failure (plan pec) (length buffer) w lent heading 0 left waits why buffer done outcomes b bad false t
+      ∙ rw (t, opens) (ih (left - 1) (waits + 1) done (omega (arith, eqb-false left 0 t)))
 
   -- a reply that is believed fills the buffer
-  filled : (pec : Bool) (left waits : ℕ) (work : List ℕ) (done : List Made) (reply : List ℕ) (outcomes : List BusOutcome) → length reply ≡ count pec
-      → fedRead (reading.advanceOf (at (plan pec) (length buffer) w false 0 left waits)) (reading.storedOf (at (plan pec) (length buffer) w false 0 left waits) reply buffer) work done outcomes
+  filled : (pec : Bool) (left waits : ℕ) (done : List Made) (reply : List ℕ) (outcomes : List BusOutcome) → length reply ≡ count pec
+      → fedRead (reading.advanceOf (at (plan pec) (length buffer) w false 0 left waits)) (reading.storedOf (at (plan pec) (length buffer) w false 0 left waits) reply buffer) lent done outcomes
       ≡ Ok (record { transfers = done; waits = waits }) outcomes leaving take (length buffer) (take (length inner) (drop (1 + 2) reply))
   unfolding reading.storedOf reading.dueAsk parts.askOf parts.mostOf parts.countOf dataOf leadOf macAsk if_then_else_
-  filled pec left waits work done reply outcomes e =
-      after-last (plan pec) (length buffer) w 0 left waits _ work done outcomes (omega arith) (omega arith)
+  filled pec left waits done reply outcomes e =
+      after-last (plan pec) (length buffer) w lent 0 left waits _ done outcomes (omega arith) (omega arith)
       ∙ ap (λ (b : List ℕ). Ok (record { transfers = done; waits = waits }) outcomes leaving b) (stored-whole (take (length inner) (drop 3 reply)) buffer (rw (length-take, length-drop) (by pec e)))
     where
       by : (pec : Bool) → length reply ≡ (if pec then 1 + 2 + length inner + 1 else 1 + 2 + length inner) → length buffer ≤ min (length inner) (length reply - 3)
@@ -86,83 +86,83 @@ module _ (retries : ℕ) (limit : Limit) (head : Head) (first : ℕ) (frame buff
       by false q = omega arith
 
   -- what a reply of the right length comes to
-  abbrev weighed : Bool → ℕ → ℕ → List ℕ → List Made → List ℕ → List BusOutcome → Read
-  weighed pec left waits work done reply outcomes =
+  abbrev weighed : Bool → ℕ → ℕ → List Made → List ℕ → List BusOutcome → Read
+  weighed pec left waits done reply outcomes =
       if believed (plan pec) (length buffer) w 0 reply
-      then fedRead (reading.advanceOf (at (plan pec) (length buffer) w false 0 left waits)) (reading.storedOf (at (plan pec) (length buffer) w false 0 left waits) reply buffer) work done outcomes
-      else fedRead (reading.failOf (at (plan pec) (length buffer) w false 0 left waits) answer.Pec) buffer work done outcomes
+      then fedRead (reading.advanceOf (at (plan pec) (length buffer) w false 0 left waits)) (reading.storedOf (at (plan pec) (length buffer) w false 0 left waits) reply buffer) lent done outcomes
+      else fedRead (reading.failOf (at (plan pec) (length buffer) w false 0 left waits) answer.Pec) buffer lent done outcomes
 
-  plain-reply : (left waits : ℕ) (work : List ℕ) (done : List Made) (reply : List ℕ) (outcomes : List BusOutcome) → length reply ≡ count false
-      → weighed false left waits work done reply outcomes ≡ copied buffer (Ok (record { transfers = done; waits = waits }) outcomes leaving take (length inner) (drop (1 + 2) reply))
+  plain-reply : (left waits : ℕ) (done : List Made) (reply : List ℕ) (outcomes : List BusOutcome) → length reply ≡ count false
+      → weighed false left waits done reply outcomes ≡ copied buffer (Ok (record { transfers = done; waits = waits }) outcomes leaving take (length inner) (drop (1 + 2) reply))
   unfolding parts.askOf macAsk believed copied if_then_else_
-  plain-reply left waits work done reply outcomes e = filled false left waits work done reply outcomes e
+  plain-reply left waits done reply outcomes e = filled false left waits done reply outcomes e
 
-  sealed-reply : (outcomes : List BusOutcome) → AtFrame true outcomes → (left waits : ℕ) (work : List ℕ) (done : List Made) (reply : List ℕ) → length reply ≡ 1 + 2 + length inner + 1 → length work ≡ w → waits + left ≤ 65535
+  sealed-reply : (outcomes : List BusOutcome) → AtFrame true outcomes → (left waits : ℕ) (done : List Made) (reply : List ℕ) → length reply ≡ 1 + 2 + length inner + 1 → waits + left ≤ 65535
       → (t : Bool) → eqb (getD reply (1 + 2 + length inner) 0) (pecOf 0 (0x16 ∷ 0x44 ∷ 0x17 ∷ take (1 + 2 + length inner) reply)) ≡ t
-      → weighed true left waits work done reply outcomes
+      → weighed true left waits done reply outcomes
       ≡ copied buffer (if not t then
       (if eqb left 0 then Err answer.Pec (record { transfers = done; waits = waits }) outcomes leaving inner else macWriteTurn (left - 1) true frame inner (record { transfers = done; waits = waits + 1 }) outcomes)
       else Ok (record { transfers = done; waits = waits }) outcomes leaving take (length inner) (drop (1 + 2) reply))
   unfolding parts.askOf macAsk believed copied if_then_else_
-  sealed-reply outcomes ih left waits work done reply e q b true t =
-      rw (checked-last 0x44 (1 + 2 + length inner) reply e, t) (filled true left waits work done reply outcomes e)
-  sealed-reply outcomes ih left waits work done reply e q b false t =
-      rw (checked-last 0x44 (1 + 2 + length inner) reply e, t) (fault true false outcomes ih left waits answer.Pec work done refl q b (eqb left 0) refl)
+  sealed-reply outcomes ih left waits done reply e b true t =
+      rw (checked-last 0x44 (1 + 2 + length inner) reply e, t) (filled true left waits done reply outcomes e)
+  sealed-reply outcomes ih left waits done reply e b false t =
+      rw (checked-last 0x44 (1 + 2 + length inner) reply e, t) (fault true false outcomes ih left waits answer.Pec done refl b (eqb left 0) refl)
 
-  replied : (pec : Bool) (outcomes : List BusOutcome) → AtFrame pec outcomes → (left waits : ℕ) (work : List ℕ) (done : List Made) (reply : List ℕ) → length reply ≡ count pec → length work ≡ w → waits + left ≤ 65535
-      → weighed pec left waits work done reply outcomes
+  replied : (pec : Bool) (outcomes : List BusOutcome) → AtFrame pec outcomes → (left waits : ℕ) (done : List Made) (reply : List ℕ) → length reply ≡ count pec → waits + left ≤ 65535
+      → weighed pec left waits done reply outcomes
       ≡ copied buffer (if pec && not (eqb (getD reply (1 + 2 + length inner) 0) (pecOf 0 (0x16 ∷ 0x44 ∷ 0x17 ∷ take (1 + 2 + length inner) reply))) then
       (if eqb left 0 then Err answer.Pec (record { transfers = done; waits = waits }) outcomes leaving inner else macWriteTurn (left - 1) pec frame inner (record { transfers = done; waits = waits + 1 }) outcomes)
       else Ok (record { transfers = done; waits = waits }) outcomes leaving take (length inner) (drop (1 + 2) reply))
   unfolding if_then_else_
-  replied true outcomes ih left waits work done reply l e b = sealed-reply outcomes ih left waits work done reply l e b _ refl
-  replied false outcomes ih left waits work done reply l e b = plain-reply left waits work done reply outcomes l
+  replied true outcomes ih left waits done reply l b = sealed-reply outcomes ih left waits done reply l b _ refl
+  replied false outcomes ih left waits done reply l b = plain-reply left waits done reply outcomes l
 
   -- a turn at the frame, with what goes out written out
-  turn-frame : (pec : Bool) (left waits : ℕ) (work : List ℕ) (done : List Made) (o : BusOutcome) (outcomes : List BusOutcome) → length work ≡ w
-      → fedRead (at (plan pec) (length buffer) w true 0 left waits) buffer work done (o ∷ outcomes)
+  turn-frame : (pec : Bool) (left waits : ℕ) (done : List Made) (o : BusOutcome) (outcomes : List BusOutcome)
+      → fedRead (at (plan pec) (length buffer) w true 0 left waits) buffer lent done (o ∷ outcomes)
       ≡ (busOp o
-      err (λ e. fedRead (reading.failOf (at (plan pec) (length buffer) w true 0 left waits) e) buffer (reading.workAfter (at (plan pec) (length buffer) w true 0 left waits) (length buffer) work) (done ++ (write (out pec) ∷ [])) outcomes)
-      ok (λ bytes. fedRead (at (plan pec) (length buffer) w false 0 left waits) buffer (reading.workAfter (at (plan pec) (length buffer) w true 0 left waits) (length buffer) work) (done ++ (write (out pec) ∷ [])) outcomes))
+      err (λ e. fedRead (reading.failOf (at (plan pec) (length buffer) w true 0 left waits) e) buffer lent (done ++ (write (out pec) ∷ [])) outcomes)
+      ok (λ bytes. fedRead (at (plan pec) (length buffer) w false 0 left waits) buffer lent (done ++ (write (out pec) ∷ [])) outcomes))
   unfolding parts.countOf
-  turn-frame pec left waits work done o outcomes e =
-      rw (← framed pec, ← after-head (plan pec) (length buffer) w 0 left waits (omega arith)) (turn-head (plan pec) (length buffer) w 0 left waits buffer work done o outcomes refl e fits-head)
+  turn-frame pec left waits done o outcomes =
+      rw (← framed pec, ← after-head (plan pec) (length buffer) w 0 left waits (omega arith)) (turn-head (plan pec) (length buffer) w lent steady 0 left waits buffer done o outcomes refl fits-head)
 
   -- a turn at the read
-  turn-reply : (pec : Bool) (left waits : ℕ) (work : List ℕ) (done : List Made) (o : BusOutcome) (outcomes : List BusOutcome) → length work ≡ w
-      → fedRead (at (plan pec) (length buffer) w false 0 left waits) buffer work done (o ∷ outcomes)
+  turn-reply : (pec : Bool) (left waits : ℕ) (done : List Made) (o : BusOutcome) (outcomes : List BusOutcome)
+      → fedRead (at (plan pec) (length buffer) w false 0 left waits) buffer lent done (o ∷ outcomes)
       ≡ (busOp o
-      err (λ e. fedRead (reading.failOf (at (plan pec) (length buffer) w false 0 left waits) e) buffer (reading.workAfter (at (plan pec) (length buffer) w false 0 left waits) (length buffer) work) (done ++ (read first (count pec) ∷ [])) outcomes)
-      ok (λ bytes. weighed pec left waits (reading.workAfter (at (plan pec) (length buffer) w false 0 left waits) (length buffer) work) (done ++ (read first (count pec) ∷ [])) (delivered (count pec) bytes) outcomes))
+      err (λ e. fedRead (reading.failOf (at (plan pec) (length buffer) w false 0 left waits) e) buffer lent (done ++ (read first (count pec) ∷ [])) outcomes)
+      ok (λ bytes. weighed pec left waits (done ++ (read first (count pec) ∷ [])) (delivered (count pec) bytes) outcomes))
   unfolding parts.askOf macAsk
-  turn-reply pec left waits work done o outcomes e = rw (← counted pec) (turn-read (plan pec) (length buffer) w 0 left waits buffer work done o outcomes refl e)
+  turn-reply pec left waits done o outcomes = rw (← counted pec) (turn-read (plan pec) (length buffer) w lent steady 0 left waits buffer done o outcomes refl)
 
   mutual
     unfolding macWriteTurn copied busOp_err_ok_ parts.askOf macAsk
 
     pub at-frame : (outcomes : List BusOutcome) (pec : Bool) → AtFrame pec outcomes
-    at-frame [] pec left waits work done e b = rw (← framed pec) (waits-head (plan pec) (length buffer) w 0 left waits buffer work done refl e fits-head)
-    at-frame (Acknowledged bytes ∷ outcomes) pec left waits work done e b =
-        turn-frame pec left waits work done (Acknowledged bytes) outcomes e
-        ∙ at-read outcomes pec left waits _ _ (kept-head (plan pec) (length buffer) w 0 left waits buffer work refl e fits-head) b
-    at-frame (BusError code ∷ outcomes) pec left waits work done e b =
-        turn-frame pec left waits work done (BusError code) outcomes e
-        ∙ fault pec true outcomes (λ left waits work done e b. at-frame outcomes pec left waits work done e b) left waits (answer.I2c code) _ _ refl (kept-head (plan pec) (length buffer) w 0 left waits buffer work refl e fits-head) b (eqb left 0) refl
-    at-frame (Timeout ∷ outcomes) pec left waits work done e b =
-        turn-frame pec left waits work done Timeout outcomes e
-        ∙ fault pec true outcomes (λ left waits work done e b. at-frame outcomes pec left waits work done e b) left waits answer.Timeout _ _ refl (kept-head (plan pec) (length buffer) w 0 left waits buffer work refl e fits-head) b (eqb left 0) refl
+    at-frame [] pec left waits done b = rw (← framed pec) (waits-head (plan pec) (length buffer) w lent steady 0 left waits buffer done refl fits-head)
+    at-frame (Acknowledged bytes ∷ outcomes) pec left waits done b =
+        turn-frame pec left waits done (Acknowledged bytes) outcomes
+        ∙ at-read outcomes pec left waits _ b
+    at-frame (BusError code ∷ outcomes) pec left waits done b =
+        turn-frame pec left waits done (BusError code) outcomes
+        ∙ fault pec true outcomes (λ left waits done b. at-frame outcomes pec left waits done b) left waits (answer.I2c code) _ refl b (eqb left 0) refl
+    at-frame (Timeout ∷ outcomes) pec left waits done b =
+        turn-frame pec left waits done Timeout outcomes
+        ∙ fault pec true outcomes (λ left waits done b. at-frame outcomes pec left waits done b) left waits answer.Timeout _ refl b (eqb left 0) refl
 
     at-read : (outcomes : List BusOutcome) (pec : Bool) → AtRead pec outcomes
-    at-read [] pec left waits work done e b = rw (opening, ← counted pec) (waits-read (plan pec) (length buffer) w 0 left waits buffer work done refl e)
-    at-read (Acknowledged bytes ∷ outcomes) pec left waits work done e b =
-        rw opening (turn-reply pec left waits work done (Acknowledged bytes) outcomes e
-        ∙ replied pec outcomes (λ left waits work done e b. at-frame outcomes pec left waits work done e b) left waits _ _ (delivered (count pec) bytes) (length-delivered (count pec) bytes) (kept-read (plan pec) (length buffer) w 0 left waits buffer work e) b)
-    at-read (BusError code ∷ outcomes) pec left waits work done e b =
-        rw opening (turn-reply pec left waits work done (BusError code) outcomes e
-        ∙ fault pec false outcomes (λ left waits work done e b. at-frame outcomes pec left waits work done e b) left waits (answer.I2c code) _ _ refl (kept-read (plan pec) (length buffer) w 0 left waits buffer work e) b (eqb left 0) refl)
-    at-read (Timeout ∷ outcomes) pec left waits work done e b =
-        rw opening (turn-reply pec left waits work done Timeout outcomes e
-        ∙ fault pec false outcomes (λ left waits work done e b. at-frame outcomes pec left waits work done e b) left waits answer.Timeout _ _ refl (kept-read (plan pec) (length buffer) w 0 left waits buffer work e) b (eqb left 0) refl)
+    at-read [] pec left waits done b = rw (opening, ← counted pec) (waits-read (plan pec) (length buffer) w lent steady 0 left waits buffer done refl)
+    at-read (Acknowledged bytes ∷ outcomes) pec left waits done b =
+        rw opening (turn-reply pec left waits done (Acknowledged bytes) outcomes
+        ∙ replied pec outcomes (λ left waits done b. at-frame outcomes pec left waits done b) left waits _ (delivered (count pec) bytes) (length-delivered (count pec) bytes) b)
+    at-read (BusError code ∷ outcomes) pec left waits done b =
+        rw opening (turn-reply pec left waits done (BusError code) outcomes
+        ∙ fault pec false outcomes (λ left waits done b. at-frame outcomes pec left waits done b) left waits (answer.I2c code) _ refl b (eqb left 0) refl)
+    at-read (Timeout ∷ outcomes) pec left waits done b =
+        rw opening (turn-reply pec left waits done Timeout outcomes
+        ∙ fault pec false outcomes (λ left waits done b. at-frame outcomes pec left waits done b) left waits answer.Timeout _ refl b (eqb left 0) refl)
 
 -- a read into the caller's own buffer
 module _ (frame buffer : List ℕ) (pec : Bool) where

@@ -18,7 +18,7 @@ use Rattle.writing.specs.Writing as writing
 use Rattle.writing.specs.declared.frames.Frames.{Frames}
 use Rattle.writing.specs.declared.call.WritePlan.{WritePlan}
 use Rattle.original.specs.Bus.{BusOutcome, begun, Came, Ok, Err, Waiting, settle}
-use Rattle.original.specs.Fed.{answered, writes}
+use Rattle.original.specs.Fed.{Lending, Lends, answered, writes}
 use Rattle.original.specs.OriginalInterface.{writeWithRetriesInternal}
 use Rattle.original.proofs.Laws.{measure}
 use Rattle.original.proofs.WriteTurns.{own, frameAt, each, frames-in-turn, no-frame}
@@ -34,24 +34,24 @@ first-error fs (Err e log outcomes) = by (isFlash fs)
     by false = refl
 first-error fs (Waiting log) = refl
 
-module _ (plan : WritePlan) (payload work : List ℕ) (small : plan .retries ≤ 65535) (roomy : 39 ≤ length work) (single : countOf (plan .frames) (length payload) ≡ 1) where
-  pub one-frame : (outcomes : List BusOutcome) → measured (plan .limit) (length payload) ≡ phase.Waiting → (own plan payload (length work) ≡ false → length (bytesAt (plan .frames) 0 payload) < length work)
-      → writes plan payload work outcomes ≡ writeWithRetriesInternal (plan .retries) (frameAt plan payload (length work) 0) begun outcomes
+module _ (plan : WritePlan) (payload : List ℕ) (w : ℕ) (lent : ℕ → Lending) (steady : Lends w lent) (small : plan .retries ≤ 65535) (roomy : 39 ≤ w) (single : countOf (plan .frames) (length payload) ≡ 1) where
+  pub one-frame : (outcomes : List BusOutcome) → measured (plan .limit) (length payload) ≡ phase.Waiting → (own plan payload w ≡ false → length (bytesAt (plan .frames) 0 payload) < w)
+      → writes plan payload w lent outcomes ≡ writeWithRetriesInternal (plan .retries) (frameAt plan payload w 0) begun outcomes
   unfolding each
   one-frame outcomes a h =
-      let room : (i : ℕ) → i < countOf (plan .frames) (length payload) → own plan payload (length work) ≡ false → length (bytesAt (plan .frames) i payload) < length work
+      let room : (i : ℕ) → i < countOf (plan .frames) (length payload) → own plan payload w ≡ false → length (bytesAt (plan .frames) i payload) < w
       = λ i j o. (let z : i ≡ 0 = omega arith in rw z (h o)) in
-      frames-in-turn plan payload (length work) room (omega arith) small 0 work outcomes refl single (measure (plan .limit) (length payload) (length work) roomy ∙ a)
-      ∙ first-error (plan .frames) (writeWithRetriesInternal (plan .retries) (frameAt plan payload (length work) 0) begun outcomes)
+      frames-in-turn plan payload w lent steady room (omega arith) small 0 outcomes single (measure (plan .limit) (length payload) w roomy ∙ a)
+      ∙ first-error (plan .frames) (writeWithRetriesInternal (plan .retries) (frameAt plan payload w 0) begun outcomes)
 
   -- too long a payload is refused before any transfer
-  pub limited : (most : ℕ) (outcomes : List BusOutcome) → plan .limit ≡ limit.AtMost most → (length payload ≤ most → length (bytesAt (plan .frames) 0 payload) < length work) → (t : Bool) → ltb most (length payload) ≡ t
-      → writes plan payload work outcomes
-      ≡ (if ltb most (length payload) then Err answer.DataTooLarge begun outcomes else writeWithRetriesInternal (plan .retries) (frameAt plan payload (length work) 0) begun outcomes)
+  pub limited : (most : ℕ) (outcomes : List BusOutcome) → plan .limit ≡ limit.AtMost most → (length payload ≤ most → length (bytesAt (plan .frames) 0 payload) < w) → (t : Bool) → ltb most (length payload) ≡ t
+      → writes plan payload w lent outcomes
+      ≡ (if ltb most (length payload) then Err answer.DataTooLarge begun outcomes else writeWithRetriesInternal (plan .retries) (frameAt plan payload w 0) begun outcomes)
   unfolding measured answered if_then_else_
   limited most outcomes l h true t =
       let e : measured (plan .limit) (length payload) ≡ phase.Ended answer.DataTooLarge = rw (l, t) in
-      no-frame plan payload work answer.DataTooLarge outcomes (measure (plan .limit) (length payload) (length work) roomy ∙ e) ∙ rw t
+      no-frame plan payload w lent answer.DataTooLarge outcomes (measure (plan .limit) (length payload) w roomy ∙ e) ∙ rw t
   limited most outcomes l h false t =
       let e : measured (plan .limit) (length payload) ≡ phase.Waiting = rw (l, t) in
       one-frame outcomes e (λ o. h (ltb-false most (length payload) t)) ∙ rw t

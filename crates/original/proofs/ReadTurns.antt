@@ -29,15 +29,15 @@ use Rattle.reading.specs.declared.call.ReadPlan.{ReadPlan}
 use Rattle.reading.specs.declared.call.ReadCall.{ReadCall}
 use Rattle.reading.specs.declared.call.Verdict.the-variants as verdict
 use Rattle.original.specs.Bus.{BusOutcome, Acknowledged, BusError, Timeout, delivered, Made, write, read, begun, Ok, Err, Waiting, _leaving_, busOp_err_ok_}
-use Rattle.original.specs.Fed.{told, brings, reply, answered, shows_sending_transfer_answer_, heard_taken_refused_, fedRead}
+use Rattle.original.specs.Fed.{Lending, Lends, told, brings, reply, answered, shows_sending_transfer_answer_, heard_taken_refused_, fedRead}
 use Rattle.original.proofs.WriteTurns.{sealed-short}
 
 -- one that has ended says its answer
-pub at-end : (call : ReadCall) (buffer work : List ℕ) (done : List Made) (a : Answer) → call .phase ≡ phase.Ended a
-    → (outcomes : List BusOutcome) → fedRead call buffer work done outcomes ≡ answered a (record { transfers = done; waits = call .tally .waits }) outcomes leaving buffer
+pub at-end : (call : ReadCall) (buffer : List ℕ) (lent : ℕ → Lending) (done : List Made) (a : Answer) → call .phase ≡ phase.Ended a
+    → (outcomes : List BusOutcome) → fedRead call buffer lent done outcomes ≡ answered a (record { transfers = done; waits = call .tally .waits }) outcomes leaving buffer
 unfolding fedRead reading.nextOf case_waiting_ended_ shows_sending_transfer_answer_
-at-end call buffer work done a e [] = rw e
-at-end call buffer work done a e (o ∷ outcomes) = rw e
+at-end call buffer lent done a e [] = rw e
+at-end call buffer lent done a e (o ∷ outcomes) = rw e
 
 -- an acknowledged read brings as many bytes as were asked
 pub length-delivered : (n : ℕ) (bytes : List ℕ) → length (delivered n bytes) ≡ n
@@ -99,41 +99,13 @@ module _ (plan : ReadPlan) (n w : ℕ) where
   abbrev pub with-read : ℕ → List Made → List Made
   with-read i done = done ++ (read (askAt i .command) (countOf (askAt i)) ∷ [])
 
-  -- the outcomes have run out, and the call waits for that of its last transfer
-  pub waits-head : (i left waits : ℕ) (buffer work : List ℕ) (done : List Made) → length buffer ≡ n → length work ≡ w → length (parts.headBytes (plan .head) i) < w
-      → fedRead (at true i left waits) buffer work done [] ≡ Waiting (record { transfers = with-head i done; waits = waits }) leaving buffer
-  unfolding fedRead
-  waits-head i left waits buffer work done b e h = shown-head i left waits buffer work _ _ b e h
-
-  pub waits-read : (i left waits : ℕ) (buffer work : List ℕ) (done : List Made) → length buffer ≡ n → length work ≡ w
-      → fedRead (at false i left waits) buffer work done [] ≡ Waiting (record { transfers = with-read i done; waits = waits }) leaving buffer
-  unfolding fedRead
-  waits-read i left waits buffer work done b e = shown-read i left waits buffer work _ _ _ b e
-
   -- what a head's outcome comes to
-  judged-head : (i left waits : ℕ) (frame : List ℕ) (o : BusOutcome) (m v : ℕ) → m ≡ n → v ≡ w
-      → reading.judgeOf (at true i left waits) (told o) (reply (write frame) o) m v ≡ (busOp o err (λ e. verdict.Failed e) ok (λ bytes. verdict.Head))
+  judged-head : (i left waits : ℕ) (frame beside : List ℕ) (o : BusOutcome) (m v : ℕ) → m ≡ n → v ≡ w
+      → reading.judgeOf (at true i left waits) (told o) (reply (write frame) beside o) m v ≡ (busOp o err (λ e. verdict.Failed e) ok (λ bytes. verdict.Head))
   unfolding reading.judgeOf reading.outcomeOf reading.acknowledgedOf reading.heardHead told reply brings case_waiting_ended_ case_acknowledged_error_timeout_ busOp_err_ok_ if_then_else_
-  judged-head i left waits frame (Acknowledged bytes) m v e q = rw (fits m v e q)
-  judged-head i left waits frame (BusError code) m v e q = rw (fits m v e q)
-  judged-head i left waits frame Timeout m v e q = rw (fits m v e q)
-
-  -- a head goes out
-  pub turn-head : (i left waits : ℕ) (buffer work : List ℕ) (done : List Made) (o : BusOutcome) (outcomes : List BusOutcome) → length buffer ≡ n → length work ≡ w → length (parts.headBytes (plan .head) i) < w
-      → fedRead (at true i left waits) buffer work done (o ∷ outcomes)
-      ≡ (busOp o
-      err (λ e. fedRead (reading.failOf (at true i left waits) e) buffer (reading.workAfter (at true i left waits) (length buffer) work) (with-head i done) outcomes)
-      ok (λ bytes. fedRead (reading.headedOf (at true i left waits)) buffer (reading.workAfter (at true i left waits) (length buffer) work) (with-head i done) outcomes))
-  unfolding fedRead reading.reportOf reading.bufferAfter case_refused_fault_headed_block_ heard_taken_refused_ busOp_err_ok_
-  turn-head i left waits buffer work done (Acknowledged bytes) outcomes b e h =
-      shown-head i left waits buffer work _ _ b e h
-      ∙ rw (judged-head i left waits (headAt i) (Acknowledged bytes) (length buffer) (length (reading.workAfter (at true i left waits) (length buffer) work)) b (kept-head i left waits buffer work b e h))
-  turn-head i left waits buffer work done (BusError code) outcomes b e h =
-      shown-head i left waits buffer work _ _ b e h
-      ∙ rw (judged-head i left waits (headAt i) (BusError code) (length buffer) (length (reading.workAfter (at true i left waits) (length buffer) work)) b (kept-head i left waits buffer work b e h))
-  turn-head i left waits buffer work done Timeout outcomes b e h =
-      shown-head i left waits buffer work _ _ b e h
-      ∙ rw (judged-head i left waits (headAt i) Timeout (length buffer) (length (reading.workAfter (at true i left waits) (length buffer) work)) b (kept-head i left waits buffer work b e h))
+  judged-head i left waits frame beside (Acknowledged bytes) m v e q = rw (fits m v e q)
+  judged-head i left waits frame beside (BusError code) m v e q = rw (fits m v e q)
+  judged-head i left waits frame beside Timeout m v e q = rw (fits m v e q)
 
   -- what a read brings
   abbrev pub brought : ℕ → List ℕ → List ℕ
@@ -143,64 +115,19 @@ module _ (plan : ReadPlan) (n w : ℕ) where
   unfoldable pub believed : ℕ → List ℕ → Bool
   believed i answered = if askAt i .pec then checkedOf (askAt i .covered) answered else true
 
-  judged-read : (i left waits : ℕ) (o : BusOutcome) (m v : ℕ) → m ≡ n → v ≡ w
-      → reading.judgeOf (at false i left waits) (told o) (reply (read (askAt i .command) (countOf (askAt i))) o) m v
+  judged-read : (i left waits : ℕ) (beside : List ℕ) (o : BusOutcome) (m v : ℕ) → m ≡ n → v ≡ w
+      → reading.judgeOf (at false i left waits) (told o) (reply (read (askAt i .command) (countOf (askAt i))) beside o) m v
       ≡ (busOp o err (λ e. verdict.Failed e) ok (λ bytes. if believed i (brought i bytes) then verdict.Block else verdict.Failed answer.Pec))
   unfolding reading.judgeOf reading.outcomeOf reading.acknowledgedOf reading.heardBlock reading.verdictOf reading.dueAsk heardOf believed told reply brings case_waiting_ended_ case_acknowledged_error_timeout_ busOp_err_ok_ if_then_else_
-  judged-read i left waits (Acknowledged bytes) m v e q =
+  judged-read i left waits beside (Acknowledged bytes) m v e q =
       rw (fits m v e q, eq-eqb (countOf (askAt i)) (length (brought i bytes)) (sym (length-delivered (countOf (askAt i)) bytes))) (by (askAt i .pec) (checkedOf (askAt i .covered) (brought i bytes)))
     where
       by : (pec good : Bool) → reading.verdictOf (if pec then (if good then heard.Good else heard.WrongPec) else heard.Good) ≡ (if (if pec then good else true) then verdict.Block else verdict.Failed answer.Pec)
       by true true = refl
       by true false = refl
       by false good = refl
-  judged-read i left waits (BusError code) m v e q = rw (fits m v e q)
-  judged-read i left waits Timeout m v e q = rw (fits m v e q)
-
-  -- a read goes out and is answered
-  turn-reply : (i left waits : ℕ) (buffer work : List ℕ) (done : List Made) (bytes : List ℕ) (outcomes : List BusOutcome) → length buffer ≡ n → length work ≡ w
-      → (t : Bool) → believed i (brought i bytes) ≡ t
-      → fedRead (at false i left waits) buffer work done (Acknowledged bytes ∷ outcomes)
-      ≡ (if t
-      then fedRead (reading.advanceOf (at false i left waits)) (reading.storedOf (at false i left waits) (brought i bytes) buffer) (reading.workAfter (at false i left waits) (length buffer) work) (with-read i done) outcomes
-      else fedRead (reading.failOf (at false i left waits) answer.Pec) buffer (reading.workAfter (at false i left waits) (length buffer) work) (with-read i done) outcomes)
-  unfolding fedRead reading.reportOf reading.bufferAfter case_refused_fault_headed_block_ heard_taken_refused_ busOp_err_ok_ if_then_else_ reply brings
-  turn-reply i left waits buffer work done bytes outcomes b e true q =
-      shown-read i left waits buffer work _ _ _ b e
-      ∙ rw (judged-read i left waits (Acknowledged bytes) (length buffer) (length (reading.workAfter (at false i left waits) (length buffer) work)) b (kept-read i left waits buffer work e), q)
-  turn-reply i left waits buffer work done bytes outcomes b e false q =
-      shown-read i left waits buffer work _ _ _ b e
-      ∙ rw (judged-read i left waits (Acknowledged bytes) (length buffer) (length (reading.workAfter (at false i left waits) (length buffer) work)) b (kept-read i left waits buffer work e), q)
-
-  -- a read goes out
-  pub turn-read : (i left waits : ℕ) (buffer work : List ℕ) (done : List Made) (o : BusOutcome) (outcomes : List BusOutcome) → length buffer ≡ n → length work ≡ w
-      → fedRead (at false i left waits) buffer work done (o ∷ outcomes)
-      ≡ (busOp o
-      err (λ e. fedRead (reading.failOf (at false i left waits) e) buffer (reading.workAfter (at false i left waits) (length buffer) work) (with-read i done) outcomes)
-      ok (λ bytes. if believed i (brought i bytes)
-      then fedRead (reading.advanceOf (at false i left waits)) (reading.storedOf (at false i left waits) (brought i bytes) buffer) (reading.workAfter (at false i left waits) (length buffer) work) (with-read i done) outcomes
-      else fedRead (reading.failOf (at false i left waits) answer.Pec) buffer (reading.workAfter (at false i left waits) (length buffer) work) (with-read i done) outcomes))
-  unfolding fedRead reading.reportOf reading.bufferAfter case_refused_fault_headed_block_ heard_taken_refused_ busOp_err_ok_
-  turn-read i left waits buffer work done (Acknowledged bytes) outcomes b e = turn-reply i left waits buffer work done bytes outcomes b e (believed i (brought i bytes)) refl
-  turn-read i left waits buffer work done (BusError code) outcomes b e =
-      shown-read i left waits buffer work _ _ _ b e
-      ∙ rw (judged-read i left waits (BusError code) (length buffer) (length (reading.workAfter (at false i left waits) (length buffer) work)) b (kept-read i left waits buffer work e))
-  turn-read i left waits buffer work done Timeout outcomes b e =
-      shown-read i left waits buffer work _ _ _ b e
-      ∙ rw (judged-read i left waits Timeout (length buffer) (length (reading.workAfter (at false i left waits) (length buffer) work)) b (kept-read i left waits buffer work e))
-
-  -- a failed attempt: the head is due again, or none is left
-  pub after-failure : (heading : Bool) (i left waits : ℕ) (why : Answer) (buffer work : List ℕ) (done : List Made) (outcomes : List BusOutcome) → waits + left ≤ 65535 → eqb (numberOf why) 0 ≡ false → (t : Bool) → eqb left 0 ≡ t
-      → fedRead (reading.failOf (at heading i left waits) why) buffer work done outcomes
-      ≡ (if eqb left 0 then Err why (record { transfers = done; waits = waits }) outcomes leaving buffer
-      else fedRead (at (parts.hasHead (plan .head)) i (left - 1) (waits + 1)) buffer work done outcomes)
-  unfolding reading.failOf reading.endOf reading.retryOf failed waited case_retry_spent_ if_then_else_ answered
-  after-failure heading i left waits why buffer work done outcomes b bad true e =
-      let f : reading.failOf (at heading i left waits) why ≡ reading.endOf (at heading i left waits) why = rw e in
-      rw (f, e) (at-end (reading.endOf (at heading i left waits) why) buffer work done why refl outcomes ∙ rw bad)
-  after-failure heading i left waits why buffer work done outcomes b bad false e =
-      let m : moreOf waits ≡ waits + 1 = omega arith in
-      rw (e, m)
+  judged-read i left waits beside (BusError code) m v e q = rw (fits m v e q)
+  judged-read i left waits beside Timeout m v e q = rw (fits m v e q)
 
   -- a head was heard, and a read is due
   pub after-head : (i left waits : ℕ) → i < parts.countOf (plan .reads) n → reading.headedOf (at true i left waits) ≡ at false i left waits
@@ -214,23 +141,98 @@ module _ (plan : ReadPlan) (n w : ℕ) where
       let m : moreOf i ≡ suc i = omega arith in
       rw (m, lt-leb (parts.countOf (plan .reads) n) (suc i) h)
 
-  -- it was the last one
-  pub after-last : (i left waits : ℕ) (buffer work : List ℕ) (done : List Made) (outcomes : List BusOutcome) → parts.countOf (plan .reads) n ≤ suc i → i ≤ 256
-      → fedRead (reading.advanceOf (at false i left waits)) buffer work done outcomes ≡ Ok (record { transfers = done; waits = waits }) outcomes leaving buffer
-  unfolding reading.advanceOf phaseAfter if_then_else_ answered
-  after-last i left waits buffer work done outcomes h few =
-      let m : moreOf i ≡ suc i = omega arith in
-      let p : reading.advanceOf (at false i left waits) .phase ≡ phase.Ended answer.Done = rw (m, le-leb (parts.countOf (plan .reads) n) (suc i) h) in
-      at-end (reading.advanceOf (at false i left waits)) buffer work done answer.Done p outcomes
+  module _ (lent : ℕ → Lending) where
+    -- a failed attempt: the head is due again, or none is left
+    pub after-failure : (heading : Bool) (i left waits : ℕ) (why : Answer) (buffer : List ℕ) (done : List Made) (outcomes : List BusOutcome) → waits + left ≤ 65535 → eqb (numberOf why) 0 ≡ false → (t : Bool) → eqb left 0 ≡ t
+        → fedRead (reading.failOf (at heading i left waits) why) buffer lent done outcomes
+        ≡ (if eqb left 0 then Err why (record { transfers = done; waits = waits }) outcomes leaving buffer
+        else fedRead (at (parts.hasHead (plan .head)) i (left - 1) (waits + 1)) buffer lent done outcomes)
+    unfolding reading.failOf reading.endOf reading.retryOf failed waited case_retry_spent_ if_then_else_ answered
+    after-failure heading i left waits why buffer done outcomes b bad true e =
+        let f : reading.failOf (at heading i left waits) why ≡ reading.endOf (at heading i left waits) why = rw e in
+        rw (f, e) (at-end (reading.endOf (at heading i left waits) why) buffer lent done why refl outcomes ∙ rw bad)
+    after-failure heading i left waits why buffer done outcomes b bad false e =
+        let m : moreOf waits ≡ waits + 1 = omega arith in
+        rw (e, m)
 
-  -- a call that is admitted
-  pub started : (buffer work : List ℕ) (outcomes : List BusOutcome) → admitted (plan .limit) n w ≡ phase.Waiting
-      → fedRead (reading.startOf plan n w) buffer work [] outcomes ≡ fedRead (at (parts.hasHead (plan .head)) 0 (plan .retries) 0) buffer work [] outcomes
-  unfolding reading.startOf nothing
-  started buffer work outcomes a = rw a
+    -- it was the last one
+    pub after-last : (i left waits : ℕ) (buffer : List ℕ) (done : List Made) (outcomes : List BusOutcome) → parts.countOf (plan .reads) n ≤ suc i → i ≤ 256
+        → fedRead (reading.advanceOf (at false i left waits)) buffer lent done outcomes ≡ Ok (record { transfers = done; waits = waits }) outcomes leaving buffer
+    unfolding reading.advanceOf phaseAfter if_then_else_ answered
+    after-last i left waits buffer done outcomes h few =
+        let m : moreOf i ≡ suc i = omega arith in
+        let p : reading.advanceOf (at false i left waits) .phase ≡ phase.Ended answer.Done = rw (m, le-leb (parts.countOf (plan .reads) n) (suc i) h) in
+        at-end (reading.advanceOf (at false i left waits)) buffer lent done answer.Done p outcomes
 
-  -- one that is refused, or done at once, makes no transfer
-  pub no-transfer : (buffer work : List ℕ) (a : Answer) (outcomes : List BusOutcome) → admitted (plan .limit) n w ≡ phase.Ended a
-      → fedRead (reading.startOf plan n w) buffer work [] outcomes ≡ answered a begun outcomes leaving buffer
-  unfolding reading.startOf nothing
-  no-transfer buffer work a outcomes e = at-end (reading.startOf plan n w) buffer work [] a e outcomes
+    -- a call that is admitted
+    pub started : (buffer : List ℕ) (outcomes : List BusOutcome) → admitted (plan .limit) n w ≡ phase.Waiting
+        → fedRead (reading.startOf plan n w) buffer lent [] outcomes ≡ fedRead (at (parts.hasHead (plan .head)) 0 (plan .retries) 0) buffer lent [] outcomes
+    unfolding reading.startOf nothing
+    started buffer outcomes a = rw a
+
+    -- one that is refused, or done at once, makes no transfer
+    pub no-transfer : (buffer : List ℕ) (a : Answer) (outcomes : List BusOutcome) → admitted (plan .limit) n w ≡ phase.Ended a
+        → fedRead (reading.startOf plan n w) buffer lent [] outcomes ≡ answered a begun outcomes leaving buffer
+    unfolding reading.startOf nothing
+    no-transfer buffer a outcomes e = at-end (reading.startOf plan n w) buffer lent [] a e outcomes
+
+    module _ (steady : Lends w lent) where
+      -- the outcomes have run out, and the call waits for that of its last transfer
+      pub waits-head : (i left waits : ℕ) (buffer : List ℕ) (done : List Made) → length buffer ≡ n → length (parts.headBytes (plan .head) i) < w
+          → fedRead (at true i left waits) buffer lent done [] ≡ Waiting (record { transfers = with-head i done; waits = waits }) leaving buffer
+      unfolding fedRead
+      waits-head i left waits buffer done b h = shown-head i left waits buffer (lent (length done) .work) _ _ b (steady (length done)) h
+
+      pub waits-read : (i left waits : ℕ) (buffer : List ℕ) (done : List Made) → length buffer ≡ n
+          → fedRead (at false i left waits) buffer lent done [] ≡ Waiting (record { transfers = with-read i done; waits = waits }) leaving buffer
+      unfolding fedRead
+      waits-read i left waits buffer done b = shown-read i left waits buffer (lent (length done) .work) _ _ _ b (steady (length done))
+
+      -- a head goes out
+      pub turn-head : (i left waits : ℕ) (buffer : List ℕ) (done : List Made) (o : BusOutcome) (outcomes : List BusOutcome) → length buffer ≡ n → length (parts.headBytes (plan .head) i) < w
+          → fedRead (at true i left waits) buffer lent done (o ∷ outcomes)
+          ≡ (busOp o
+          err (λ e. fedRead (reading.failOf (at true i left waits) e) buffer lent (with-head i done) outcomes)
+          ok (λ bytes. fedRead (reading.headedOf (at true i left waits)) buffer lent (with-head i done) outcomes))
+      unfolding fedRead reading.reportOf reading.bufferAfter case_refused_fault_headed_block_ heard_taken_refused_ busOp_err_ok_
+      turn-head i left waits buffer done (Acknowledged bytes) outcomes b h =
+          shown-head i left waits buffer (lent (length done) .work) _ _ b (steady (length done)) h
+          ∙ rw (judged-head i left waits (headAt i) (lent (length done) .beside) (Acknowledged bytes) (length buffer) (length (reading.workAfter (at true i left waits) (length buffer) (lent (length done) .work))) b (kept-head i left waits buffer (lent (length done) .work) b (steady (length done)) h))
+      turn-head i left waits buffer done (BusError code) outcomes b h =
+          shown-head i left waits buffer (lent (length done) .work) _ _ b (steady (length done)) h
+          ∙ rw (judged-head i left waits (headAt i) (lent (length done) .beside) (BusError code) (length buffer) (length (reading.workAfter (at true i left waits) (length buffer) (lent (length done) .work))) b (kept-head i left waits buffer (lent (length done) .work) b (steady (length done)) h))
+      turn-head i left waits buffer done Timeout outcomes b h =
+          shown-head i left waits buffer (lent (length done) .work) _ _ b (steady (length done)) h
+          ∙ rw (judged-head i left waits (headAt i) (lent (length done) .beside) Timeout (length buffer) (length (reading.workAfter (at true i left waits) (length buffer) (lent (length done) .work))) b (kept-head i left waits buffer (lent (length done) .work) b (steady (length done)) h))
+
+      -- a read goes out and is answered
+      turn-reply : (i left waits : ℕ) (buffer : List ℕ) (done : List Made) (bytes : List ℕ) (outcomes : List BusOutcome) → length buffer ≡ n
+          → (t : Bool) → believed i (brought i bytes) ≡ t
+          → fedRead (at false i left waits) buffer lent done (Acknowledged bytes ∷ outcomes)
+          ≡ (if t
+          then fedRead (reading.advanceOf (at false i left waits)) (reading.storedOf (at false i left waits) (brought i bytes) buffer) lent (with-read i done) outcomes
+          else fedRead (reading.failOf (at false i left waits) answer.Pec) buffer lent (with-read i done) outcomes)
+      unfolding fedRead reading.reportOf reading.bufferAfter case_refused_fault_headed_block_ heard_taken_refused_ busOp_err_ok_ if_then_else_ reply brings
+      turn-reply i left waits buffer done bytes outcomes b true q =
+          shown-read i left waits buffer (lent (length done) .work) _ _ _ b (steady (length done))
+          ∙ rw (judged-read i left waits (lent (length done) .beside) (Acknowledged bytes) (length buffer) (length (reading.workAfter (at false i left waits) (length buffer) (lent (length done) .work))) b (kept-read i left waits buffer (lent (length done) .work) (steady (length done))), q)
+      turn-reply i left waits buffer done bytes outcomes b false q =
+          shown-read i left waits buffer (lent (length done) .work) _ _ _ b (steady (length done))
+          ∙ rw (judged-read i left waits (lent (length done) .beside) (Acknowledged bytes) (length buffer) (length (reading.workAfter (at false i left waits) (length buffer) (lent (length done) .work))) b (kept-read i left waits buffer (lent (length done) .work) (steady (length done))), q)
+
+      -- a read goes out
+      pub turn-read : (i left waits : ℕ) (buffer : List ℕ) (done : List Made) (o : BusOutcome) (outcomes : List BusOutcome) → length buffer ≡ n
+          → fedRead (at false i left waits) buffer lent done (o ∷ outcomes)
+          ≡ (busOp o
+          err (λ e. fedRead (reading.failOf (at false i left waits) e) buffer lent (with-read i done) outcomes)
+          ok (λ bytes. if believed i (brought i bytes)
+          then fedRead (reading.advanceOf (at false i left waits)) (reading.storedOf (at false i left waits) (brought i bytes) buffer) lent (with-read i done) outcomes
+          else fedRead (reading.failOf (at false i left waits) answer.Pec) buffer lent (with-read i done) outcomes))
+      unfolding fedRead reading.reportOf reading.bufferAfter case_refused_fault_headed_block_ heard_taken_refused_ busOp_err_ok_
+      turn-read i left waits buffer done (Acknowledged bytes) outcomes b = turn-reply i left waits buffer done bytes outcomes b (believed i (brought i bytes)) refl
+      turn-read i left waits buffer done (BusError code) outcomes b =
+          shown-read i left waits buffer (lent (length done) .work) _ _ _ b (steady (length done))
+          ∙ rw (judged-read i left waits (lent (length done) .beside) (BusError code) (length buffer) (length (reading.workAfter (at false i left waits) (length buffer) (lent (length done) .work))) b (kept-read i left waits buffer (lent (length done) .work) (steady (length done))))
+      turn-read i left waits buffer done Timeout outcomes b =
+          shown-read i left waits buffer (lent (length done) .work) _ _ _ b (steady (length done))
+          ∙ rw (judged-read i left waits (lent (length done) .beside) Timeout (length buffer) (length (reading.workAfter (at false i left waits) (length buffer) (lent (length done) .work))) b (kept-read i left waits buffer (lent (length done) .work) (steady (length done))))

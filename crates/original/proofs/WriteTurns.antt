@@ -27,7 +27,7 @@ use Rattle.writing.specs.declared.frames.Frames.{Frames}
 use Rattle.writing.specs.declared.call.WritePlan.{WritePlan}
 use Rattle.writing.specs.declared.call.WriteCall.{WriteCall}
 use Rattle.original.specs.Bus.{BusOutcome, Acknowledged, BusError, Timeout, Made, write, Log, begun, delayed, Came, Ok, Err, busOp_err_ok_, settle}
-use Rattle.original.specs.Fed.{told, brings, reply, answered, shows_sending_transfer_answer_, wrote_taken_refused_, fedWrite}
+use Rattle.original.specs.Fed.{Lending, Lends, told, brings, reply, answered, shows_sending_transfer_answer_, wrote_taken_refused_, fedWrite}
 use Rattle.original.specs.OriginalInterface.{writeWithRetriesInternal}
 
 -- a PEC is one byte
@@ -37,11 +37,11 @@ sealed-short true f = simp length-append (omega arith)
 sealed-short false f = omega arith
 
 -- one that has ended says its answer
-at-end : (call : WriteCall) (payload work : List ℕ) (done : List Made) (a : Answer) → call .phase ≡ phase.Ended a
-    → (outcomes : List BusOutcome) → fedWrite call payload work done outcomes ≡ answered a (record { transfers = done; waits = call .tally .waits }) outcomes
+at-end : (call : WriteCall) (payload : List ℕ) (lent : ℕ → Lending) (done : List Made) (a : Answer) → call .phase ≡ phase.Ended a
+    → (outcomes : List BusOutcome) → fedWrite call payload lent done outcomes ≡ answered a (record { transfers = done; waits = call .tally .waits }) outcomes
 unfolding fedWrite writing.nextOf case_waiting_ended_ shows_sending_transfer_answer_
-at-end call payload work done a e [] = rw e
-at-end call payload work done a e (o ∷ outcomes) = rw e
+at-end call payload lent done a e [] = rw e
+at-end call payload lent done a e (o ∷ outcomes) = rw e
 
 -- a call that gives up says an error
 gave-up : (fs : Frames) (i : ℕ) (why : Answer) (log : Log) (outcomes : List BusOutcome) → eqb (numberOf why) 0 ≡ false
@@ -94,36 +94,17 @@ module _ (plan : WritePlan) (payload : List ℕ) (w : ℕ) where
       let short : length (sealed (plan .pec) (bytesAt (plan .frames) i payload)) ≤ length work = omega (arith, h o, sealed-short (plan .pec) (bytesAt (plan .frames) i payload)) in
       rw (e, fits, lt-ltb _ _ (h o), o, length-over) e
 
+  -- a report is taken
+  reported : {A : Type 0} (i left waits : ℕ) (frame beside : List ℕ) (o : BusOutcome) (f : WriteCall → A) (g : Answer → A) (n : ℕ) → n ≡ w
+      → (wrote writing.reportOf (at i left waits) (told o) (length (reply (write frame) beside o)) (length payload) n taken f refused g) ≡ f (writing.settleOf (at i left waits) (told o))
+  unfolding writing.reportOf writing.repliedOf told reply brings case_waiting_ended_ case_acknowledged_error_timeout_ wrote_taken_refused_ if_then_else_
+  reported i left waits frame beside (Acknowledged bytes) f g n e = rw (e, fits)
+  reported i left waits frame beside (BusError code) f g n e = rw (e, fits)
+  reported i left waits frame beside Timeout f g n e = rw (e, fits)
+
   -- what it has done, once frame i is out
   abbrev out : ℕ → ℕ → List Made → Log
   out i waits done = record { transfers = done ++ (write (frameAt i) ∷ []); waits = waits }
-
-  -- a failed attempt
-  after-failure : (i left waits : ℕ) (why : Answer) (work : List ℕ) (done : List Made) (outcomes : List BusOutcome) (t : Bool) → eqb left 0 ≡ t
-      → fedWrite (writing.failOf (at i left waits) why) payload work done outcomes
-      ≡ (if eqb left 0 then answered (writing.gaveUp (plan .frames) i why) (record { transfers = done; waits = waits }) outcomes
-      else fedWrite (at i (left - 1) (moreOf waits)) payload work done outcomes)
-  unfolding writing.failOf writing.endOf writing.retryOf failed waited case_retry_spent_ if_then_else_
-  after-failure i left waits why work done outcomes true e =
-      let f : writing.failOf (at i left waits) why ≡ writing.endOf (at i left waits) why = rw e in
-      rw (f, e) (at-end (writing.endOf (at i left waits) why) payload work done _ refl outcomes)
-  after-failure i left waits why work done outcomes false e = rw e
-
-  -- a report is taken
-  reported : {A : Type 0} (i left waits : ℕ) (frame : List ℕ) (o : BusOutcome) (f : WriteCall → A) (g : Answer → A) (n : ℕ) → n ≡ w
-      → (wrote writing.reportOf (at i left waits) (told o) (length (reply (write frame) o)) (length payload) n taken f refused g) ≡ f (writing.settleOf (at i left waits) (told o))
-  unfolding writing.reportOf writing.repliedOf told reply brings case_waiting_ended_ case_acknowledged_error_timeout_ wrote_taken_refused_ if_then_else_
-  reported i left waits frame (Acknowledged bytes) f g n e = rw (e, fits)
-  reported i left waits frame (BusError code) f g n e = rw (e, fits)
-  reported i left waits frame Timeout f g n e = rw (e, fits)
-
-  -- a turn: frame i goes out, and what the bus did with it is reported
-  turn : (i left waits : ℕ) (work : List ℕ) (done : List Made) (o : BusOutcome) (outcomes : List BusOutcome) → length work ≡ w → (own ≡ false → length (bytesAt (plan .frames) i payload) < w)
-      → fedWrite (at i left waits) payload work done (o ∷ outcomes)
-      ≡ fedWrite (writing.settleOf (at i left waits) (told o)) payload (writing.workAfter (at i left waits) payload work) (done ++ (write (frameAt i) ∷ [])) outcomes
-  unfolding fedWrite
-  turn i left waits work done o outcomes e h =
-      shown i left waits work _ _ e h own refl ∙ reported i left waits (frameAt i) o _ _ _ (kept i left waits work e h own refl)
 
   -- frames from i on, each with a budget of its own
   unfoldable pub each : ℕ → ℕ → Log → List BusOutcome → Came
@@ -131,65 +112,86 @@ module _ (plan : WritePlan) (payload : List ℕ) (w : ℕ) where
   each (suc todo) i log outcomes =
       settle (λ log outcomes. each todo (suc i) log outcomes) (writing.gaveUp (plan .frames) i) (writeWithRetriesInternal (plan .retries) (frameAt i) log outcomes)
 
-  module _ (room : (i : ℕ) → i < countOf (plan .frames) (length payload) → own ≡ false → length (bytesAt (plan .frames) i payload) < w)
-      (few : countOf (plan .frames) (length payload) ≤ 256) (small : plan .retries ≤ 65535) where
-    -- what a call does that waits
-    abbrev Same : List BusOutcome → Type 0
-    Same outcomes = (todo i left waits : ℕ) (work : List ℕ) (done : List Made) → length work ≡ w → suc (i + todo) ≡ countOf (plan .frames) (length payload) → left ≤ 65535 → waits + left ≤ suc i * 65535
-        → fedWrite (at i left waits) payload work done outcomes
-        ≡ settle (each todo (suc i)) (writing.gaveUp (plan .frames) i) (writeWithRetriesInternal left (frameAt i) (record { transfers = done; waits = waits }) outcomes)
+  module _ (lent : ℕ → Lending) (steady : Lends w lent) where
+    -- a failed attempt
+    after-failure : (i left waits : ℕ) (why : Answer) (done : List Made) (outcomes : List BusOutcome) (t : Bool) → eqb left 0 ≡ t
+        → fedWrite (writing.failOf (at i left waits) why) payload lent done outcomes
+        ≡ (if eqb left 0 then answered (writing.gaveUp (plan .frames) i why) (record { transfers = done; waits = waits }) outcomes
+        else fedWrite (at i (left - 1) (moreOf waits)) payload lent done outcomes)
+    unfolding writing.failOf writing.endOf writing.retryOf failed waited case_retry_spent_ if_then_else_
+    after-failure i left waits why done outcomes true e =
+        let f : writing.failOf (at i left waits) why ≡ writing.endOf (at i left waits) why = rw e in
+        rw (f, e) (at-end (writing.endOf (at i left waits) why) payload lent done _ refl outcomes)
+    after-failure i left waits why done outcomes false e = rw e
 
-    after-frame : (outcomes : List BusOutcome) → Same outcomes → (todo i left waits : ℕ) (work : List ℕ) (done : List Made) → length work ≡ w → suc (i + todo) ≡ countOf (plan .frames) (length payload) → waits ≤ suc i * 65535
-        → fedWrite (writing.advanceOf (at i left waits)) payload work done outcomes ≡ each todo (suc i) (record { transfers = done; waits = waits }) outcomes
-    unfolding each writing.advanceOf phaseAfter answered if_then_else_
-    after-frame outcomes ih zero i left waits work done e c b =
-        let m : moreOf i ≡ suc i = omega arith in
-        let p : writing.advanceOf (at i left waits) .phase ≡ phase.Ended answer.Done = rw (m, le-leb (countOf (plan .frames) (length payload)) (suc i) (omega arith)) in
-        at-end (writing.advanceOf (at i left waits)) payload work done answer.Done p outcomes
-    after-frame outcomes ih (suc todo) i left waits work done e c b =
-        let m : moreOf i ≡ suc i = omega arith in
-        let q : writing.advanceOf (at i left waits) ≡ at (suc i) (plan .retries) waits = rw (m, lt-leb (countOf (plan .frames) (length payload)) (suc i) (omega arith)) in
-        rw q (ih todo (suc i) (plan .retries) waits work done e (omega arith) small (omega arith))
+    -- a turn: frame i goes out, and what the bus did with it is reported
+    turn : (i left waits : ℕ) (done : List Made) (o : BusOutcome) (outcomes : List BusOutcome) → (own ≡ false → length (bytesAt (plan .frames) i payload) < w)
+        → fedWrite (at i left waits) payload lent done (o ∷ outcomes)
+        ≡ fedWrite (writing.settleOf (at i left waits) (told o)) payload lent (done ++ (write (frameAt i) ∷ [])) outcomes
+    unfolding fedWrite
+    turn i left waits done o outcomes h =
+        shown i left waits (lent (length done) .work) _ _ (steady (length done)) h own refl
+        ∙ reported i left waits (frameAt i) (lent (length done) .beside) o _ _ _ (kept i left waits (lent (length done) .work) (steady (length done)) h own refl)
 
-    after-fault : (outcomes : List BusOutcome) → Same outcomes → (todo i left waits : ℕ) (why : Answer) (work : List ℕ) (done : List Made) → eqb (numberOf why) 0 ≡ false
-        → length work ≡ w → suc (i + todo) ≡ countOf (plan .frames) (length payload) → left ≤ 65535 → waits + left ≤ suc i * 65535 → (t : Bool) → eqb left 0 ≡ t
-        → fedWrite (writing.failOf (at i left waits) why) payload work (done ++ (write (frameAt i) ∷ [])) outcomes
-        ≡ settle (each todo (suc i)) (writing.gaveUp (plan .frames) i)
-        (if eqb left 0 then Err why (out i waits done) outcomes else writeWithRetriesInternal (left - 1) (frameAt i) (delayed (out i waits done)) outcomes)
-    unfolding if_then_else_ settle
-    after-fault outcomes ih todo i left waits why work done bad e c l b true t =
-        after-failure i left waits why work (done ++ (write (frameAt i) ∷ [])) outcomes true t ∙ rw t (gave-up (plan .frames) i why (out i waits done) outcomes bad)
-    after-fault outcomes ih todo i left waits why work done bad e c l b false t =
-        let m : moreOf waits ≡ waits + 1 = omega (arith, eqb-false left 0 t) in
-        let some : 1 ≤ left = omega (arith, eqb-false left 0 t) in
-        after-failure i left waits why work (done ++ (write (frameAt i) ∷ [])) outcomes false t
-        ∙ rw (t, m) (ih todo i (left - 1) (waits + 1) work (done ++ (write (frameAt i) ∷ [])) e c (omega arith) (omega arith))
+    module _ (room : (i : ℕ) → i < countOf (plan .frames) (length payload) → own ≡ false → length (bytesAt (plan .frames) i payload) < w)
+        (few : countOf (plan .frames) (length payload) ≤ 256) (small : plan .retries ≤ 65535) where
+      -- what a call does that waits
+      abbrev Same : List BusOutcome → Type 0
+      Same outcomes = (todo i left waits : ℕ) (done : List Made) → suc (i + todo) ≡ countOf (plan .frames) (length payload) → left ≤ 65535 → waits + left ≤ suc i * 65535
+          → fedWrite (at i left waits) payload lent done outcomes
+          ≡ settle (each todo (suc i)) (writing.gaveUp (plan .frames) i) (writeWithRetriesInternal left (frameAt i) (record { transfers = done; waits = waits }) outcomes)
 
-    same : (outcomes : List BusOutcome) → Same outcomes
-    unfolding fedWrite writeWithRetriesInternal settle busOp_err_ok_ told writing.settleOf case_acknowledged_error_timeout_
-    same [] todo i left waits work done e c l b = shown i left waits work _ _ e (room i (omega arith)) own refl
-    same (Acknowledged bytes ∷ outcomes) todo i left waits work done e c l b =
-        let h : own ≡ false → length (bytesAt (plan .frames) i payload) < w = room i (omega arith) in
-        turn i left waits work done (Acknowledged bytes) outcomes e h
-        ∙ after-frame outcomes (same outcomes) todo i left waits _ _ (kept i left waits work e h own refl) c (omega arith)
-    same (BusError code ∷ outcomes) todo i left waits work done e c l b =
-        let h : own ≡ false → length (bytesAt (plan .frames) i payload) < w = room i (omega arith) in
-        turn i left waits work done (BusError code) outcomes e h
-        ∙ after-fault outcomes (same outcomes) todo i left waits (answer.I2c code) _ done refl (kept i left waits work e h own refl) c l b (eqb left 0) refl
-    same (Timeout ∷ outcomes) todo i left waits work done e c l b =
-        let h : own ≡ false → length (bytesAt (plan .frames) i payload) < w = room i (omega arith) in
-        turn i left waits work done Timeout outcomes e h
-        ∙ after-fault outcomes (same outcomes) todo i left waits answer.Timeout _ done refl (kept i left waits work e h own refl) c l b (eqb left 0) refl
+      after-frame : (outcomes : List BusOutcome) → Same outcomes → (todo i left waits : ℕ) (done : List Made) → suc (i + todo) ≡ countOf (plan .frames) (length payload) → waits ≤ suc i * 65535
+          → fedWrite (writing.advanceOf (at i left waits)) payload lent done outcomes ≡ each todo (suc i) (record { transfers = done; waits = waits }) outcomes
+      unfolding each writing.advanceOf phaseAfter answered if_then_else_
+      after-frame outcomes ih zero i left waits done c b =
+          let m : moreOf i ≡ suc i = omega arith in
+          let p : writing.advanceOf (at i left waits) .phase ≡ phase.Ended answer.Done = rw (m, le-leb (countOf (plan .frames) (length payload)) (suc i) (omega arith)) in
+          at-end (writing.advanceOf (at i left waits)) payload lent done answer.Done p outcomes
+      after-frame outcomes ih (suc todo) i left waits done c b =
+          let m : moreOf i ≡ suc i = omega arith in
+          let q : writing.advanceOf (at i left waits) ≡ at (suc i) (plan .retries) waits = rw (m, lt-leb (countOf (plan .frames) (length payload)) (suc i) (omega arith)) in
+          rw q (ih todo (suc i) (plan .retries) waits done (omega arith) small (omega arith))
 
-    -- a call that is admitted, fed, is its frames one after the other
-    pub frames-in-turn : (todo : ℕ) (work : List ℕ) (outcomes : List BusOutcome) → length work ≡ w → countOf (plan .frames) (length payload) ≡ suc todo
-        → admitted (plan .limit) (length payload) w ≡ phase.Waiting
-        → fedWrite (writing.startOf plan (length payload) w) payload work [] outcomes ≡ each (suc todo) 0 begun outcomes
-    unfolding each writing.startOf nothing
-    frames-in-turn todo work outcomes e c a = rw a (same outcomes todo 0 (plan .retries) 0 work [] e (omega arith) small (omega arith))
+      after-fault : (outcomes : List BusOutcome) → Same outcomes → (todo i left waits : ℕ) (why : Answer) (done : List Made) → eqb (numberOf why) 0 ≡ false
+          → suc (i + todo) ≡ countOf (plan .frames) (length payload) → left ≤ 65535 → waits + left ≤ suc i * 65535 → (t : Bool) → eqb left 0 ≡ t
+          → fedWrite (writing.failOf (at i left waits) why) payload lent (done ++ (write (frameAt i) ∷ [])) outcomes
+          ≡ settle (each todo (suc i)) (writing.gaveUp (plan .frames) i)
+          (if eqb left 0 then Err why (out i waits done) outcomes else writeWithRetriesInternal (left - 1) (frameAt i) (delayed (out i waits done)) outcomes)
+      unfolding if_then_else_ settle
+      after-fault outcomes ih todo i left waits why done bad c l b true t =
+          after-failure i left waits why (done ++ (write (frameAt i) ∷ [])) outcomes true t ∙ rw t (gave-up (plan .frames) i why (out i waits done) outcomes bad)
+      after-fault outcomes ih todo i left waits why done bad c l b false t =
+          let m : moreOf waits ≡ waits + 1 = omega (arith, eqb-false left 0 t) in
+          let some : 1 ≤ left = omega (arith, eqb-false left 0 t) in
+          after-failure i left waits why (done ++ (write (frameAt i) ∷ [])) outcomes false t
+          ∙ rw (t, m) (ih todo i (left - 1) (waits + 1) (done ++ (write (frameAt i) ∷ [])) c (omega arith) (omega arith))
+
+      same : (outcomes : List BusOutcome) → Same outcomes
+      unfolding fedWrite writeWithRetriesInternal settle busOp_err_ok_ told writing.settleOf case_acknowledged_error_timeout_
+      same [] todo i left waits done c l b = shown i left waits (lent (length done) .work) _ _ (steady (length done)) (room i (omega arith)) own refl
+      same (Acknowledged bytes ∷ outcomes) todo i left waits done c l b =
+          let h : own ≡ false → length (bytesAt (plan .frames) i payload) < w = room i (omega arith) in
+          turn i left waits done (Acknowledged bytes) outcomes h
+          ∙ after-frame outcomes (same outcomes) todo i left waits _ c (omega arith)
+      same (BusError code ∷ outcomes) todo i left waits done c l b =
+          let h : own ≡ false → length (bytesAt (plan .frames) i payload) < w = room i (omega arith) in
+          turn i left waits done (BusError code) outcomes h
+          ∙ after-fault outcomes (same outcomes) todo i left waits (answer.I2c code) done refl c l b (eqb left 0) refl
+      same (Timeout ∷ outcomes) todo i left waits done c l b =
+          let h : own ≡ false → length (bytesAt (plan .frames) i payload) < w = room i (omega arith) in
+          turn i left waits done Timeout outcomes h
+          ∙ after-fault outcomes (same outcomes) todo i left waits answer.Timeout done refl c l b (eqb left 0) refl
+
+      -- a call that is admitted, fed, is its frames one after the other
+      pub frames-in-turn : (todo : ℕ) (outcomes : List BusOutcome) → countOf (plan .frames) (length payload) ≡ suc todo
+          → admitted (plan .limit) (length payload) w ≡ phase.Waiting
+          → fedWrite (writing.startOf plan (length payload) w) payload lent [] outcomes ≡ each (suc todo) 0 begun outcomes
+      unfolding each writing.startOf nothing
+      frames-in-turn todo outcomes c a = rw a (same outcomes todo 0 (plan .retries) 0 [] (omega arith) small (omega arith))
 
 -- a call that is refused, or done at once, makes no transfer
-pub no-frame : (plan : WritePlan) (payload work : List ℕ) (a : Answer) (outcomes : List BusOutcome) → admitted (plan .limit) (length payload) (length work) ≡ phase.Ended a
-    → fedWrite (writing.startOf plan (length payload) (length work)) payload work [] outcomes ≡ answered a begun outcomes
+pub no-frame : (plan : WritePlan) (payload : List ℕ) (w : ℕ) (lent : ℕ → Lending) (a : Answer) (outcomes : List BusOutcome) → admitted (plan .limit) (length payload) w ≡ phase.Ended a
+    → fedWrite (writing.startOf plan (length payload) w) payload lent [] outcomes ≡ answered a begun outcomes
 unfolding writing.startOf nothing
-no-frame plan payload work a outcomes e = at-end (writing.startOf plan (length payload) (length work)) payload work [] a e outcomes
+no-frame plan payload w lent a outcomes e = at-end (writing.startOf plan (length payload) w) payload lent [] a e outcomes

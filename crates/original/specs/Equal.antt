@@ -6,7 +6,6 @@ use mathlib.Core.Path.{_≡_}
 use mathlib.Core.Bool.{true, false}
 use mathlib.Core.List.{List, []}
 use lib.ListN.{length}
-use Rattle.protocol.specs.Common.{noPec}
 use Rattle.protocol.specs.Voltage.{overrideBytes, overrideOf}
 use Rattle.protocol.specs.declared.common.Config.{Config}
 use Rattle.protocol.specs.declared.error.Answer.the-variants as answer
@@ -14,63 +13,64 @@ use Rattle.protocol.specs.declared.voltage.ChargingVoltageOverride.{ChargingVol
 use Rattle.interface.specs.Plans as machine
 use Rattle.r5.specs.Plans as machine-r5
 use Rattle.original.specs.Bus.{BusOutcome, begun, Err, _leaving_}
-use Rattle.original.specs.Fed.{writes, reads}
+use Rattle.original.specs.Fed.{Lending, writes, reads}
 use Rattle.original.specs.OriginalInterface as rust
 use Rattle.original.specs.OriginalR5 as rust-r5
 
--- every call, for these settings, this work buffer and these outcomes
-pub record Equal (config : Config) (work : List ℕ) (outcomes : List BusOutcome) : Type 0 where
+-- every call, for these settings, a work buffer of w bytes at each step, what is lent and these outcomes
+pub record Equal (config : Config) (w : ℕ) (lent : ℕ → Lending) (outcomes : List BusOutcome) : Type 0 where
   -- interface.rs
   pub plain-write : (bytes : List ℕ) → rust.writePanics (config .«pec_write») bytes ≡ false
-      → writes (machine.writeWithRetries config) bytes work outcomes ≡ rust.writeWithRetries config bytes (config .«pec_write») begun outcomes
+      → writes (machine.writeWithRetries config) bytes w lent outcomes ≡ rust.writeWithRetries config bytes (config .«pec_write») begun outcomes
   pub plain-write-refused : (bytes : List ℕ) → rust.writePanics (config .«pec_write») bytes ≡ true
-      → writes (machine.writeWithRetries config) bytes work outcomes ≡ Err answer.DataTooLarge begun outcomes
+      → writes (machine.writeWithRetries config) bytes w lent outcomes ≡ Err answer.DataTooLarge begun outcomes
   pub write-register : (address : ℕ) (bytes : List ℕ)
-      → writes (machine.writeRegister config address) bytes work outcomes ≡ rust.writeRegister config address bytes begun outcomes
+      → writes (machine.writeRegister config address) bytes w lent outcomes ≡ rust.writeRegister config address bytes begun outcomes
   pub read-register : (address : ℕ) (buffer : List ℕ)
-      → reads (machine.readRegister config address (length buffer)) buffer work outcomes ≡ rust.readRegister config address buffer begun outcomes
+      → reads (machine.readRegister config address (length buffer)) buffer w lent outcomes ≡ rust.readRegister config address buffer begun outcomes
   pub dispatch-command : (address : ℕ) (input output : List ℕ) → rust.dispatchPanics input output ≡ false
-      → reads (machine.dispatchCommand config address (length input) (length output)) output work outcomes ≡ rust.dispatchCommand config address input output begun outcomes
+      → reads (machine.dispatchCommand config address (length input) (length output)) output w lent outcomes ≡ rust.dispatchCommand config address input output begun outcomes
   pub dispatch-command-refused : (address : ℕ) (input output : List ℕ) → rust.dispatchPanics input output ≡ true
-      → reads (machine.dispatchCommand config address (length input) (length output)) output work outcomes ≡ Err answer.NotACommand begun outcomes leaving output
+      → reads (machine.dispatchCommand config address (length input) (length output)) output w lent outcomes ≡ Err answer.NotACommand begun outcomes leaving output
   -- a length is one of the machine's 64-bit numbers
   pub buffer-read : (address : ℕ) (buffer : List ℕ) → length buffer ≤ 18446744073709551615
-      → reads (machine.readBuffer config address (length buffer)) buffer work outcomes ≡ rust.bufferRead config address buffer begun outcomes
+      → reads (machine.readBuffer config address (length buffer)) buffer w lent outcomes ≡ rust.bufferRead config address buffer begun outcomes
   pub buffer-write : (address : ℕ) (bytes : List ℕ)
-      → writes (machine.writeBuffer config address) bytes work outcomes ≡ rust.bufferWrite config address bytes begun outcomes
+      → writes (machine.writeBuffer config address) bytes w lent outcomes ≡ rust.bufferWrite config address bytes begun outcomes
   -- versions/r5.rs
   pub read-security-keys : (buffer : List ℕ) → length buffer ≡ 28
-      → reads (machine-r5.readSecurityKeys config) buffer work outcomes ≡ rust-r5.readSecurityKeys config buffer begun outcomes
+      → reads (machine-r5.readSecurityKeys config) buffer w lent outcomes ≡ rust-r5.readSecurityKeys config buffer begun outcomes
   pub write-security-keys : (keys : List ℕ) → length keys ≡ 28
-      → writes (machine-r5.writeSecurityKeys config) keys work outcomes ≡ rust-r5.writeSecurityKeys config keys begun outcomes
+      → writes (machine-r5.writeSecurityKeys config) keys w lent outcomes ≡ rust-r5.writeSecurityKeys config keys begun outcomes
   pub read-authentication-key : (buffer : List ℕ) → length buffer ≡ 16
-      → reads (machine-r5.readAuthenticationKey config) buffer work outcomes ≡ rust-r5.readAuthenticationKey config buffer begun outcomes
+      → reads (machine-r5.readAuthenticationKey config) buffer w lent outcomes ≡ rust-r5.readAuthenticationKey config buffer begun outcomes
   pub write-authentication-key : (key : List ℕ) → length key ≡ 16
-      → writes (machine-r5.writeAuthenticationKey config) key work outcomes ≡ rust-r5.writeAuthenticationKey config key begun outcomes
+      → writes (machine-r5.writeAuthenticationKey config) key w lent outcomes ≡ rust-r5.writeAuthenticationKey config key begun outcomes
   pub read-register-unchecked : (address : ℕ) (buffer : List ℕ) → length buffer ≤ 18446744073709551615
-      → reads (machine.readBuffer config address (length buffer)) buffer work outcomes ≡ rust-r5.readRegisterUnchecked config address buffer begun outcomes
+      → reads (machine-r5.readRegisterUnchecked config address (length buffer)) buffer w lent outcomes ≡ rust-r5.readRegisterUnchecked config address buffer begun outcomes
   pub write-register-unchecked : (address : ℕ) (bytes : List ℕ) → rust-r5.uncheckedPanics bytes ≡ false
-      → writes (machine.writeRegister (noPec config) address) bytes work outcomes ≡ rust-r5.writeRegisterUnchecked config address bytes begun outcomes
+      → writes (machine-r5.writeRegisterUnchecked config address) bytes w lent outcomes ≡ rust-r5.writeRegisterUnchecked config address bytes begun outcomes
   pub write-register-unchecked-refused : (address : ℕ) (bytes : List ℕ) → rust-r5.uncheckedPanics bytes ≡ true
-      → writes (machine.writeRegister (noPec config) address) bytes work outcomes ≡ Err answer.DataTooLarge begun outcomes
-  -- and unseal_fg
+      → writes (machine-r5.writeRegisterUnchecked config address) bytes w lent outcomes ≡ Err answer.DataTooLarge begun outcomes
+  pub unseal-fg : (lower upper : ℕ)
+      → writes (machine-r5.unsealFg config lower upper) [] w lent outcomes ≡ rust-r5.unsealFg config lower upper begun outcomes
   pub send-access-key : (lower upper : ℕ)
-      → writes (machine-r5.sendAccessKey config lower upper) [] work outcomes ≡ rust-r5.sendAccessKey config lower upper begun outcomes
+      → writes (machine-r5.sendAccessKey config lower upper) [] w lent outcomes ≡ rust-r5.sendAccessKey config lower upper begun outcomes
   pub write-mfg-info-c : (lower upper : ℕ) (bytes : List ℕ)
-      → writes (machine-r5.writeMfgInfoC config lower upper) bytes work outcomes ≡ rust-r5.writeMfgInfoC config lower upper bytes begun outcomes
+      → writes (machine-r5.writeMfgInfoC config lower upper) bytes w lent outcomes ≡ rust-r5.writeMfgInfoC config lower upper bytes begun outcomes
   pub read-mfg-info-c : (buffer : List ℕ)
-      → reads (machine-r5.readMfgInfoC config (length buffer)) buffer work outcomes ≡ rust-r5.readMfgInfoC config buffer begun outcomes
+      → reads (machine-r5.readMfgInfoC config (length buffer)) buffer w lent outcomes ≡ rust-r5.readMfgInfoC config buffer begun outcomes
   pub write-mfg-info : (bytes : List ℕ)
-      → writes (machine-r5.writeMfgInfo config) bytes work outcomes ≡ rust-r5.writeMfgInfo config bytes begun outcomes
+      → writes (machine-r5.writeMfgInfo config) bytes w lent outcomes ≡ rust-r5.writeMfgInfo config bytes begun outcomes
   pub read-mfg-info : (buffer : List ℕ)
-      → reads (machine-r5.readMfgInfo config (length buffer)) buffer work outcomes ≡ rust-r5.readMfgInfo config buffer begun outcomes
+      → reads (machine-r5.readMfgInfo config (length buffer)) buffer w lent outcomes ≡ rust-r5.readMfgInfo config buffer begun outcomes
   -- the payload is what `to_bytes` makes of the figures, and `from_bytes` makes the figures of the buffer
   pub write-charging-voltage-override : (figures : ChargingVoltageOverride)
-      → writes (machine-r5.writeChargingVoltageOverride config) (overrideBytes figures) work outcomes ≡ rust-r5.writeChargingVoltageOverride config figures begun outcomes
+      → writes (machine-r5.writeChargingVoltageOverride config) (overrideBytes figures) w lent outcomes ≡ rust-r5.writeChargingVoltageOverride config figures begun outcomes
   pub read-charging-voltage-override : (buffer : List ℕ) → length buffer ≡ 10
-      → reads (machine-r5.readChargingVoltageOverride config) buffer work outcomes ≡ rust-r5.readChargingVoltageOverride config buffer begun outcomes
+      → reads (machine-r5.readChargingVoltageOverride config) buffer w lent outcomes ≡ rust-r5.readChargingVoltageOverride config buffer begun outcomes
   pub override-figures : (buffer : List ℕ) → overrideOf buffer ≡ rust-r5.overrideFigures buffer
   pub read-dataflash : (start : ℕ) (buffer : List ℕ)
-      → reads (machine-r5.readDataflash config start) buffer work outcomes ≡ rust-r5.readDataflash config start buffer begun outcomes
+      → reads (machine-r5.readDataflash config start) buffer w lent outcomes ≡ rust-r5.readDataflash config start buffer begun outcomes
   pub write-dataflash : (start : ℕ) (bytes : List ℕ)
-      → writes (machine-r5.writeDataflash config start) bytes work outcomes ≡ rust-r5.writeDataflash config start bytes begun outcomes
+      → writes (machine-r5.writeDataflash config start) bytes w lent outcomes ≡ rust-r5.writeDataflash config start bytes begun outcomes

@@ -1,6 +1,7 @@
 -- A call of the step machine and its host: the call shows a transfer, the host makes it and reports what the bus did, until the call ends or the outcomes run out.
 -- Assumes nothing.
 use Prim.Native.Nat.{ℕ}
+use mathlib.Core.Path.{_≡_}
 use mathlib.Core.List.{List, [], _∷_, _++_}
 use lib.ListN.{length, take}
 use lib.Dec.{eqb}
@@ -34,11 +35,20 @@ unfoldable pub brings : Made → ℕ
 brings (write frame) = 0
 brings (read command count) = count
 
--- the reply that the host lends; that of a failure is not looked at
-unfoldable pub reply : Made → BusOutcome → List ℕ
-reply t (Acknowledged bytes) = delivered (brings t) bytes
-reply t (BusError code) = []
-reply t Timeout = []
+-- what a host lends at one step: a work buffer, and the bytes that lie in the reply beside a failure, which are not looked at
+pub record Lending : Type 0 where
+  pub work : List ℕ
+  pub beside : List ℕ
+
+-- every work buffer has w bytes
+abbrev pub Lends : ℕ → (ℕ → Lending) → Type 0
+Lends w lent = (i : ℕ) → length (lent i .work) ≡ w
+
+-- the reply that the host lends: the bytes of an acknowledged transfer, or whatever lies there beside a failure
+unfoldable pub reply : Made → List ℕ → BusOutcome → List ℕ
+reply t beside (Acknowledged bytes) = delivered (brings t) bytes
+reply t beside (BusError code) = beside
+reply t beside Timeout = beside
 
 -- answer 0 is the Rust's Ok, any other an error
 unfoldable pub answered : Answer → Log → List BusOutcome → Came
@@ -58,20 +68,24 @@ unfoldable pub wrote_taken_refused_ : {A : Type 0} → WriteReported → (WriteC
 wrote written.Taken call taken f refused g = f call
 wrote written.Refused a call taken f refused g = g a
 
--- a writing call, fed: `done` are its transfers so far, `shown` is the work buffer once it has shown the next, and its waits are those that it counts
-unfoldable pub fedWrite : WriteCall → List ℕ → List ℕ → List Made → List BusOutcome → Came
-fedWrite call payload work done [] =
+-- a writing call, fed: `done` are its transfers so far, the next is step number `length done`, `shown` is that step's work buffer once it has shown it,
+-- and its waits are those that it counts; nothing of a work buffer is kept for the next step
+unfoldable pub fedWrite : WriteCall → List ℕ → (ℕ → Lending) → List Made → List BusOutcome → Came
+fedWrite call payload lent done [] =
+    let work : List ℕ = lent (length done) .work in
     let shown : List ℕ = writing.workAfter call payload work in
     let waits : ℕ = call .tally .waits in
     shows writing.nextOf call payload (length work) sending writing.partOf call payload shown
     transfer (λ t. Waiting (record { transfers = done ++ (t ∷ []); waits = waits }))
     answer (λ a. answered a (record { transfers = done; waits = waits }) [])
-fedWrite call payload work done (o ∷ outcomes) =
+fedWrite call payload lent done (o ∷ outcomes) =
+    let work : List ℕ = lent (length done) .work in
+    let came : Made → List ℕ = λ t. reply t (lent (length done) .beside) o in
     let shown : List ℕ = writing.workAfter call payload work in
     let waits : ℕ = call .tally .waits in
     shows writing.nextOf call payload (length work) sending writing.partOf call payload shown
-    transfer (λ t. wrote writing.reportOf call (told o) (length (reply t o)) (length payload) (length shown)
-    taken (λ next. fedWrite next payload shown (done ++ (t ∷ [])) outcomes)
+    transfer (λ t. wrote writing.reportOf call (told o) (length (came t)) (length payload) (length shown)
+    taken (λ next. fedWrite next payload lent (done ++ (t ∷ [])) outcomes)
     refused (λ a. answered a (record { transfers = done ++ (t ∷ []); waits = waits }) outcomes))
     answer (λ a. answered a (record { transfers = done; waits = waits }) (o ∷ outcomes))
 
@@ -81,26 +95,29 @@ heard reported.Taken call taken f refused g = f call
 heard reported.Refused a call taken f refused g = g a
 
 -- a reading call, fed: its head goes out from the front of the work buffer
-unfoldable pub fedRead : ReadCall → List ℕ → List ℕ → List Made → List BusOutcome → Read
-fedRead call buffer work done [] =
+unfoldable pub fedRead : ReadCall → List ℕ → (ℕ → Lending) → List Made → List BusOutcome → Read
+fedRead call buffer lent done [] =
+    let work : List ℕ = lent (length done) .work in
     let shown : List ℕ = reading.workAfter call (length buffer) work in
     let waits : ℕ = call .tally .waits in
     shows reading.nextOf call (length buffer) (length work) sending (λ n. take n shown)
     transfer (λ t. Waiting (record { transfers = done ++ (t ∷ []); waits = waits }) leaving buffer)
     answer (λ a. answered a (record { transfers = done; waits = waits }) [] leaving buffer)
-fedRead call buffer work done (o ∷ outcomes) =
+fedRead call buffer lent done (o ∷ outcomes) =
+    let work : List ℕ = lent (length done) .work in
+    let came : Made → List ℕ = λ t. reply t (lent (length done) .beside) o in
     let shown : List ℕ = reading.workAfter call (length buffer) work in
     let waits : ℕ = call .tally .waits in
     shows reading.nextOf call (length buffer) (length work) sending (λ n. take n shown)
-    transfer (λ t. heard reading.reportOf call (told o) (reply t o) (length buffer) (length shown)
-    taken (λ next. fedRead next (reading.bufferAfter call (told o) (reply t o) buffer (length shown)) shown (done ++ (t ∷ [])) outcomes)
+    transfer (λ t. heard reading.reportOf call (told o) (came t) (length buffer) (length shown)
+    taken (λ next. fedRead next (reading.bufferAfter call (told o) (came t) buffer (length shown)) lent (done ++ (t ∷ [])) outcomes)
     refused (λ a. answered a (record { transfers = done ++ (t ∷ []); waits = waits }) outcomes leaving buffer))
     answer (λ a. answered a (record { transfers = done; waits = waits }) (o ∷ outcomes) leaving buffer)
 
--- a writing call from its start
-abbrev pub writes : WritePlan → List ℕ → List ℕ → List BusOutcome → Came
-writes plan payload work outcomes = fedWrite (writing.startOf plan (length payload) (length work)) payload work [] outcomes
+-- a writing call from its start, with a work buffer of w bytes
+abbrev pub writes : WritePlan → List ℕ → ℕ → (ℕ → Lending) → List BusOutcome → Came
+writes plan payload w lent outcomes = fedWrite (writing.startOf plan (length payload) w) payload lent [] outcomes
 
 -- a reading call from its start
-abbrev pub reads : ReadPlan → List ℕ → List ℕ → List BusOutcome → Read
-reads plan buffer work outcomes = fedRead (reading.startOf plan (length buffer) (length work)) buffer work [] outcomes
+abbrev pub reads : ReadPlan → List ℕ → ℕ → (ℕ → Lending) → List BusOutcome → Read
+reads plan buffer w lent outcomes = fedRead (reading.startOf plan (length buffer) w) buffer lent [] outcomes

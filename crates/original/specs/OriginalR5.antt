@@ -41,11 +41,15 @@ writeRegisterUnchecked config address bytes log outcomes = writeWithRetries conf
 abbrev pub uncheckedPanics : List ℕ → Bool
 uncheckedPanics bytes = ltb 32 (length bytes)
 
--- send_access_key (and unseal_fg)
+-- send_access_key
 unfoldable pub sendAccessKey : Config → ℕ → ℕ → Log → List BusOutcome → Came
 sendAccessKey config lower upper log outcomes =
     andThen (λ log outcomes. macWriteWithRetries config (0x44 ∷ 2 ∷ toLeBytes upper) log outcomes)
     (macWriteWithRetries config (0x44 ∷ 2 ∷ toLeBytes lower) log outcomes)
+
+-- unseal_fg
+unfoldable pub unsealFg : Config → ℕ → ℕ → Log → List BusOutcome → Came
+unsealFg config unsealKeyLower unsealKeyUpper log outcomes = sendAccessKey config unsealKeyLower unsealKeyUpper log outcomes
 
 -- write_mfg_info_c
 unfoldable pub writeMfgInfoC : Config → ℕ → ℕ → List ℕ → Log → List BusOutcome → Came
