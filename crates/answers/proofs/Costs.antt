@@ -32,24 +32,8 @@ use Rattle.reading.specs.Reading as reading
 use Rattle.reading.specs.declared.call.ReadCall.{ReadCall}
 use Rattle.reading.specs.declared.call.Verdict.{Verdict}
 use Rattle.reading.specs.declared.call.Verdict.the-variants as verdict
-use Rattle.answers.specs.Rows.{Numbers, Failure, FailedOnce, Paid, CostW, Damaged, Delivers}
+use Rattle.answers.specs.Rows.{Failure, FailedOnce, Paid, CostW, Damaged, Delivers}
 use Rattle.answers.proofs.Kept.{stored-length}
-
-pub numbers : Numbers
-numbers = record {
-  done = (refl, refl);
-  bus-error = λ code. (refl, refl);
-  timed-out = (refl, refl);
-  wrong-pec = (refl, refl);
-  too-large = (refl, refl);
-  out-of-range = (refl, refl);
-  partly = λ n. (refl, refl);
-  no-command = (refl, refl);
-  wrong-buffer = (refl, refl);
-  wrong-reply = (refl, refl);
-  nothing-outstanding = (refl, refl);
-  bad-line = (refl, refl);
-}
 
 -- ---- a writing call
 

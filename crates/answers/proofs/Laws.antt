@@ -1,13 +1,39 @@
--- What both tables use of the tests.
+-- What the tables use of an answer's number and of the tests.
 -- Assumes nothing.
 use Prim.Native.Nat.{ℕ}
-use mathlib.Core.Path.{_≡_, refl, sym, _∙_}
+use mathlib.Core.Path.{_≡_, refl, sym, subst, _∙_}
 use mathlib.Core.Bool.{Bool, true, false, _&&_, false≢true}
+use native.Mathlib.Omega.{arith}
 use lib.Dec.{eqb}
 use borrow.Author.Tests.{eqb-true, eq-eqb}
+use Rattle.protocol.specs.Answer.{numberOf, detailOf}
+use Rattle.protocol.specs.declared.error.Answer.{Answer}
 use Rattle.engine.specs.Bus.{fitsOf}
 use Rattle.engine.specs.declared.bus.Lent.{Lent}
-use Rattle.answers.specs.Rows.{Same}
+use Rattle.engine.specs.declared.bus.Phase.{Phase}
+use Rattle.engine.specs.declared.bus.Phase.the-variants as phase
+use Rattle.answers.specs.Rows.{Says, Same}
+
+-- ---- a table, as when an answer of a number and a detail is given
+
+-- the answer that a phase says, if it says one, stands in the table
+abbrev pub InTable : (ℕ → ℕ → Type 0) → Phase → Type 0
+InTable T phase.Waiting = Unit {0}
+InTable T (phase.Ended a) = T (numberOf a) (detailOf a)
+
+pub row-of : (T : ℕ → ℕ → Type 0) (p : Phase) → InTable T p → (k d : ℕ) → Says k d p → T k d
+row-of T phase.Waiting row k d s = absurd s
+row-of T (phase.Ended a) row k d (number, detail) = subst (λ (x : ℕ). T x d) number (subst (T (numberOf a)) detail row)
+
+-- a phase is said by what it is
+pub says-of : (a : Answer) (p : Phase) → p ≡ phase.Ended a → Says (numberOf a) (detailOf a) p
+says-of a p e = rw e (refl, refl)
+
+-- a call that has ended does not wait
+pub over-waits : (a : Answer) (p : Phase) → p ≡ phase.Ended a → p ≡ phase.Waiting → ⊥
+over-waits a p over waits = let z : _≡_ {A = ℕ} 0 1 = cc in absurd (omega arith)
+
+-- ---- the tests
 
 pub and-split : (a b : Bool) → (a && b) ≡ true → (a ≡ true) × (b ≡ true)
 and-split true b e = (refl, e)

@@ -1,3 +1,4 @@
+pub mod Numbers
 pub mod Laws
 pub mod Start
 pub mod Writing
@@ -9,3 +10,4 @@ pub mod Kept
 pub mod Fits
 pub mod Within
 pub mod Costs
+pub mod Unlooked

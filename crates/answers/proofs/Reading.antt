@@ -10,6 +10,7 @@ use lib.Dec.{leb, eqb}
 use borrow.Author.Tests.{leb-true, eqb-true, eqb-false, le-leb, eq-eqb, ne-eqb}
 use Rattle.protocol.specs.Pick.{if_then_else_}
 use Rattle.protocol.specs.Reply as reply
+use Rattle.protocol.specs.Answer.{numberOf, detailOf}
 use Rattle.protocol.specs.declared.error.Answer.{Answer}
 use Rattle.protocol.specs.declared.error.Answer.the-variants as answer
 use Rattle.engine.specs.Pick.{case_waiting_ended_, case_acknowledged_error_timeout_, case_retry_spent_}
@@ -25,14 +26,14 @@ use Rattle.reading.specs.Reading.{dueAsk, headedOf, advanceOf, retryOf, endOf, 
 use Rattle.reading.specs.declared.call.ReadCall.{ReadCall}
 use Rattle.reading.specs.declared.call.Verdict.{Verdict}
 use Rattle.reading.specs.declared.call.Verdict.the-variants as verdict
-use Rattle.answers.specs.Rows.{saidR, OpenR, asked, Damaged, made, Reads}
-use Rattle.answers.proofs.Laws.{fits-same, same-fits, other-fits, fits-other}
+use Rattle.answers.specs.Rows.{Says, saidR, OpenR, asked, Damaged, made, Reads}
+use Rattle.answers.specs.Rows.Reads.{done, bus-error, timed-out, wrong-pec, wrong-buffer, wrong-reply, nothing-outstanding}
+use Rattle.answers.proofs.Laws.{InTable, row-of, says-of, over-waits, fits-same, same-fits, other-fits, fits-other}
 
 module _ (call : ReadCall) (o : Outcome) (bytes : List ℕ) (n w : ℕ) where
   -- what a phase says of the report
   abbrev Holds : Phase → Type 0
-  Holds phase.Waiting = Unit {0}
-  Holds (phase.Ended a) = Reads call o bytes n w a
+  Holds = InTable (Reads call o bytes n w)
 
   -- where a verdict leads
   abbrev leads : Verdict → Phase
@@ -53,7 +54,7 @@ module _ (call : ReadCall) (o : Outcome) (bytes : List ℕ) (n w : ℕ) where
 
   -- ---- an answer that is given is its row's
 
-  fail-holds : (why : Answer) → (call .budget .left ≡ 0 → Reads call o bytes n w why) → Holds (failOf call why .phase)
+  fail-holds : (why : Answer) → (call .budget .left ≡ 0 → Reads call o bytes n w (numberOf why) (detailOf why)) → Holds (failOf call why .phase)
   unfolding failOf failed retryOf endOf case_retry_spent_ if_then_else_
   fail-holds why row = by (eqb (call .budget .left) 0) refl
     where
@@ -63,7 +64,7 @@ module _ (call : ReadCall) (o : Outcome) (bytes : List ℕ) (n w : ℕ) where
 
   -- all reads are made, or some are left
   after-holds : (m : ℕ) (p : Phase) → p ≡ phaseAfter (parts.countOf (call .task .plan .reads) (call .task .lent .length)) m
-      → (parts.countOf (call .task .plan .reads) (call .task .lent .length) ≤ m → Reads call o bytes n w answer.Done) → Holds p
+      → (parts.countOf (call .task .plan .reads) (call .task .lent .length) ≤ m → Reads call o bytes n w 0 0) → Holds p
   unfolding phaseAfter if_then_else_
   after-holds m p is row = by (leb (parts.countOf (call .task .plan .reads) (call .task .lent .length)) m) refl
     where
@@ -84,10 +85,10 @@ module _ (call : ReadCall) (o : Outcome) (bytes : List ℕ) (n w : ℕ) where
           let q : leads (heardHead (length bytes)) ≡ headedOf call .phase = rw t in
           subst Holds (sym q)
           (after-holds (call .received) (headedOf call .phase) refl
-          (λ all. (ready, ack, eqb-true _ _ t ∙ sym none, (λ d. false≢true (sym (d .0) ∙ h)), rw h all)))
+          (λ all. done ready ack (eqb-true _ _ t ∙ sym none) (λ d. false≢true (sym (d .0) ∙ h)) (rw h all)))
       by false t =
           let q : leads (heardHead (length bytes)) ≡ phase.Ended answer.WrongReply = rw t in
-          subst Holds (sym q) (ready, ack, (λ e. eqb-false _ _ t (e ∙ none)))
+          subst Holds (sym q) (wrong-reply ready ack (λ e. eqb-false _ _ t (e ∙ none)))
 
   -- a read that was acknowledged
   block-holds : OpenR call n w → o ≡ outcome.Acknowledged → call .heading ≡ false → Holds (leads (heardBlock (dueAsk call) bytes))
@@ -99,18 +100,18 @@ module _ (call : ReadCall) (o : Outcome) (bytes : List ℕ) (n w : ℕ) where
 
       good : leads (heardBlock (dueAsk call) bytes) ≡ advanceOf call .phase → length bytes ≡ asked call → (Damaged call bytes → ⊥) → Holds (leads (heardBlock (dueAsk call) bytes))
       good q size fine =
-          subst Holds (sym q) (after-holds (moreOf (call .received)) (advanceOf call .phase) refl (λ all. (ready, ack, size, fine, rw h all)))
+          subst Holds (sym q) (after-holds (moreOf (call .received)) (advanceOf call .phase) refl (λ all. done ready ack size fine (rw h all)))
 
       by : (t : Bool) → eqb (reply.countOf (dueAsk call)) (length bytes) ≡ t → (p : Bool) → dueAsk call .pec ≡ p
           → (k : Bool) → reply.checkedOf (dueAsk call .covered) bytes ≡ k → Holds (leads (heardBlock (dueAsk call) bytes))
       by false t p x k y =
           let q : leads (heardBlock (dueAsk call) bytes) ≡ phase.Ended answer.WrongReply = rw t in
-          subst Holds (sym q) (ready, ack, (λ e. eqb-false _ _ t (sym (e ∙ some))))
+          subst Holds (sym q) (wrong-reply ready ack (λ e. eqb-false _ _ t (sym (e ∙ some))))
       by true t false x k y = good (rw (t, x)) (sym (some ∙ eqb-true _ _ t)) (λ d. false≢true (sym x ∙ d .1))
       by true t true x true y = good (rw (t, x, y)) (sym (some ∙ eqb-true _ _ t)) (λ d. false≢true (sym (d .2) ∙ y))
       by true t true x false y =
           let q : leads (heardBlock (dueAsk call) bytes) ≡ failOf call answer.Pec .phase = rw (t, x, y) in
-          subst Holds (sym q) (fail-holds answer.Pec (λ last. (ready, ack, sym (some ∙ eqb-true _ _ t), (h, x, y), last)))
+          subst Holds (sym q) (fail-holds answer.Pec (wrong-pec ready ack (sym (some ∙ eqb-true _ _ t)) (h, x, y)))
 
   outcome-holds : OpenR call n w → (x : Outcome) → o ≡ x → Holds (leads (outcomeOf call o bytes))
   unfolding outcomeOf acknowledgedOf case_acknowledged_error_timeout_ if_then_else_
@@ -125,10 +126,10 @@ module _ (call : ReadCall) (o : Outcome) (bytes : List ℕ) (n w : ℕ) where
           subst (λ (v : Verdict). Holds (leads v)) (sym q) (block-holds ready e h)
   outcome-holds ready (outcome.BusError code) e =
       let q : outcomeOf call o bytes ≡ verdict.Failed (answer.I2c code) = rw e in
-      subst (λ (v : Verdict). Holds (leads v)) (sym q) (fail-holds (answer.I2c code) (λ last. (ready, e, last)))
+      subst (λ (v : Verdict). Holds (leads v)) (sym q) (fail-holds (answer.I2c code) (bus-error code ready e))
   outcome-holds ready outcome.Timeout e =
       let q : outcomeOf call o bytes ≡ verdict.Failed answer.Timeout = rw e in
-      subst (λ (v : Verdict). Holds (leads v)) (sym q) (fail-holds answer.Timeout (λ last. (ready, e, last)))
+      subst (λ (v : Verdict). Holds (leads v)) (sym q) (fail-holds answer.Timeout (timed-out ready e))
 
   judge-holds : Holds (leads (judgeOf call o bytes n w))
   unfolding judgeOf case_waiting_ended_ if_then_else_
@@ -137,10 +138,10 @@ module _ (call : ReadCall) (o : Outcome) (bytes : List ℕ) (n w : ℕ) where
       by : (p : Phase) → call .phase ≡ p → (t : Bool) → fitsOf (call .task .lent) n w ≡ t → Holds (leads (judgeOf call o bytes n w))
       by (phase.Ended a) e t f =
           let q : judgeOf call o bytes n w ≡ verdict.Refused answer.NothingOutstanding = rw e in
-          subst (λ (v : Verdict). Holds (leads v)) (sym q) (a, e)
+          subst (λ (v : Verdict). Holds (leads v)) (sym q) (nothing-outstanding (over-waits a (call .phase) e))
       by phase.Waiting e false f =
           let q : judgeOf call o bytes n w ≡ verdict.Refused answer.WrongBuffer = rw (e, f) in
-          subst (λ (v : Verdict). Holds (leads v)) (sym q) (e, other-fits (call .task .lent) n w f)
+          subst (λ (v : Verdict). Holds (leads v)) (sym q) (wrong-buffer e (other-fits (call .task .lent) n w f))
       by phase.Waiting e true f =
           let q : judgeOf call o bytes n w ≡ outcomeOf call o bytes = rw (e, f) in
           subst (λ (v : Verdict). Holds (leads v)) (sym q) (outcome-holds (e, fits-same (call .task .lent) n w f) o refl)
@@ -203,22 +204,23 @@ module _ (call : ReadCall) (o : Outcome) (bytes : List ℕ) (n w : ℕ) where
           let t = ne-eqb (reply.countOf (dueAsk call)) (length bytes) (λ e. other (sym e ∙ sym (asked-some h))) in
           ap leads (reading h) ∙ rw t
 
-  report-row : (a : Answer) → Reads call o bytes n w a → leads (judgeOf call o bytes n w) ≡ phase.Ended a
+  report-row : (k d : ℕ) → Reads call o bytes n w k d → Says k d (leads (judgeOf call o bytes n w))
   unfolding judgeOf outcomeOf case_waiting_ended_ case_acknowledged_error_timeout_ if_then_else_
-  report-row answer.Done (ready, ack, size, fine, all) = done-row ready ack size fine all
-  report-row (answer.I2c code) (ready, e, last) = ap leads (looked ready) ∙ rw e (gives-up (answer.I2c code) last)
-  report-row answer.Timeout (ready, e, last) = ap leads (looked ready) ∙ rw e (gives-up answer.Timeout last)
-  report-row answer.Pec (ready, ack, size, damaged, last) = pec-row ready ack size damaged last
-  report-row answer.DataTooLarge h = absurd h
-  report-row answer.DataFlashAddressOutOfRange h = absurd h
-  report-row (answer.PartialDataFlashWrite committed) h = absurd h
-  report-row answer.NotACommand h = absurd h
-  report-row answer.WrongBuffer (e, other) = rw (e, fits-other (call .task .lent) n w other)
-  report-row answer.WrongReply (ready, ack, other) = wrong-row ready ack other
-  report-row answer.NothingOutstanding (a, e) = rw e
-  report-row answer.BadLine h = absurd h
+  report-row k d (done ready ack size fine all) = says-of answer.Done (leads (judgeOf call o bytes n w)) (done-row ready ack size fine all)
+  report-row k d (bus-error code ready e last) =
+      says-of (answer.I2c code) (leads (judgeOf call o bytes n w)) (ap leads (looked ready) ∙ rw e (gives-up (answer.I2c code) last))
+  report-row k d (timed-out ready e last) = says-of answer.Timeout (leads (judgeOf call o bytes n w)) (ap leads (looked ready) ∙ rw e (gives-up answer.Timeout last))
+  report-row k d (wrong-pec ready ack size damaged last) = says-of answer.Pec (leads (judgeOf call o bytes n w)) (pec-row ready ack size damaged last)
+  report-row k d (wrong-buffer e other) = rw (e, fits-other (call .task .lent) n w other) (refl, refl)
+  report-row k d (wrong-reply ready ack other) = says-of answer.WrongReply (leads (judgeOf call o bytes n w)) (wrong-row ready ack other)
+  report-row k d (nothing-outstanding over) = by (call .phase) refl
+    where
+      by : (p : Phase) → call .phase ≡ p → Says 10 0 (leads (judgeOf call o bytes n w))
+      by phase.Waiting e = absurd (over e)
+      by (phase.Ended a) e = rw e (refl, refl)
 
 -- THE TABLE OF A READING CALL
-pub reads : (call : ReadCall) (o : Outcome) (bytes : List ℕ) (n w : ℕ) (a : Answer) → (saidR (reportOf call o bytes n w) ≡ phase.Ended a) ↔ Reads call o bytes n w a
-reads call o bytes n w a =
-    (λ e. subst (Holds call o bytes n w) (sym (said call o bytes n w) ∙ e) (judge-holds call o bytes n w), λ row. said call o bytes n w ∙ report-row call o bytes n w a row)
+pub reads : (call : ReadCall) (o : Outcome) (bytes : List ℕ) (n w k d : ℕ) → Says k d (saidR (reportOf call o bytes n w)) ↔ Reads call o bytes n w k d
+reads call o bytes n w k d =
+    rw (said call o bytes n w)
+    (row-of (Reads call o bytes n w) (leads call o bytes n w (judgeOf call o bytes n w)) (judge-holds call o bytes n w) k d, report-row call o bytes n w k d)

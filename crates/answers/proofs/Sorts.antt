@@ -3,11 +3,13 @@
 use Prim.Native.Nat.{ℕ}
 use mathlib.Core.Path.{_≡_, refl, sym, ap, subst, _∙_}
 use mathlib.Core.Bool.{Bool, true, false}
-use mathlib.Core.List.{List}
+use mathlib.Core.List.{List, [], _∷_}
+use mathlib.Core.Logic.{inl, inr}
 use native.Mathlib.Omega.{arith}
 use lib.ListN.{length}
 use lib.Dec.{ltb, leb, eqb}
 use Rattle.protocol.specs.Pick.{if_then_else_}
+use Rattle.protocol.specs.Answer.{numberOf}
 use Rattle.protocol.specs.Bytes.{over}
 use Rattle.protocol.specs.Frame.{laidOf, workLaid, sealed}
 use Rattle.protocol.specs.Reply as reply
@@ -40,23 +42,26 @@ use Rattle.reading.specs.declared.call.Verdict.{Verdict}
 use Rattle.reading.specs.declared.call.Verdict.the-variants as verdict
 use Rattle.reading.specs.declared.call.ReadReported.{ReadReported}
 use Rattle.reading.specs.declared.call.ReadReported.the-variants as read
-use Rattle.answers.specs.Rows.{Refusal, Ending, Ends, SortW, Kept, SortR, Shown}
+use Rattle.answers.specs.Rows.{OneOf, Among, SortW, Kept, SortR, Shown}
 use Rattle.answers.proofs.Laws.{fits-same}
 
 -- a call goes on or is done
-phase-ends : (count m : ℕ) → Ends (phaseAfter count m)
+phase-ends : (ks : List ℕ) (count m : ℕ) → Among (0 ∷ ks) (phaseAfter count m)
 unfolding phaseAfter if_then_else_
-phase-ends count m = by (leb count m) refl
+phase-ends ks count m = by (leb count m) refl
   where
-    by : (t : Bool) → leb count m ≡ t → Ends (phaseAfter count m)
-    by true t = let q : phaseAfter count m ≡ phase.Ended answer.Done = rw t in subst Ends (sym q) tt
-    by false t = let q : phaseAfter count m ≡ phase.Waiting = rw t in subst Ends (sym q) tt
+    by : (t : Bool) → leb count m ≡ t → Among (0 ∷ ks) (phaseAfter count m)
+    by true t = rw t (inl refl)
+    by false t = rw t tt
 
 -- ---- a writing call
 
 module _ (call : WriteCall) where
+  Ending : Answer → Type 0
+  Ending a = OneOf (0 ∷ 1 ∷ 2 ∷ 6 ∷ []) (numberOf a)
+
   gives-up : (why : Answer) → Ending why → Ending (writing.gaveUp (call .task .plan .frames) (call .sent) why)
-  unfolding writing.gaveUp if_then_else_
+  unfolding Ending writing.gaveUp if_then_else_
   gives-up why ok = by (frames.isFlash (call .task .plan .frames)) refl (eqb (call .sent) 0) refl
     where
       answer-of : Answer
@@ -65,23 +70,23 @@ module _ (call : WriteCall) where
       by : (f : Bool) → frames.isFlash (call .task .plan .frames) ≡ f → (z : Bool) → eqb (call .sent) 0 ≡ z → Ending answer-of
       by false f z q = let e : answer-of ≡ why = rw f in subst Ending (sym e) ok
       by true f true q = let e : answer-of ≡ why = rw (f, q) in subst Ending (sym e) ok
-      by true f false q = rw (f, q) tt
+      by true f false q = rw (f, q) (inr (inr (inr (inl refl))))
 
-  fail-ends : (why : Answer) → Ending why → Ends (writing.failOf call why .phase)
-  unfolding writing.failOf writing.retryOf writing.endOf failed case_retry_spent_ if_then_else_
+  fail-ends : (why : Answer) → Ending why → Among (0 ∷ 1 ∷ 2 ∷ 6 ∷ []) (writing.failOf call why .phase)
+  unfolding Ending writing.failOf writing.retryOf writing.endOf failed case_retry_spent_ if_then_else_
   fail-ends why ok = by (eqb (call .budget .left) 0) refl
     where
-      by : (t : Bool) → eqb (call .budget .left) 0 ≡ t → Ends (writing.failOf call why .phase)
+      by : (t : Bool) → eqb (call .budget .left) 0 ≡ t → Among (0 ∷ 1 ∷ 2 ∷ 6 ∷ []) (writing.failOf call why .phase)
       by true t =
           let q : writing.failOf call why .phase ≡ phase.Ended (writing.gaveUp (call .task .plan .frames) (call .sent) why) = rw t in
-          subst Ends (sym q) (gives-up why ok)
-      by false t = let q : writing.failOf call why .phase ≡ phase.Waiting = rw t in subst Ends (sym q) tt
+          subst (Among (0 ∷ 1 ∷ 2 ∷ 6 ∷ [])) (sym q) (gives-up why ok)
+      by false t = let q : writing.failOf call why .phase ≡ phase.Waiting = rw t in subst (Among (0 ∷ 1 ∷ 2 ∷ 6 ∷ [])) (sym q) tt
 
-  settle-ends : (o : Outcome) → Ends (writing.settleOf call o .phase)
-  unfolding writing.settleOf writing.advanceOf case_acknowledged_error_timeout_
-  settle-ends outcome.Acknowledged = phase-ends _ _
-  settle-ends (outcome.BusError code) = fail-ends (answer.I2c code) tt
-  settle-ends outcome.Timeout = fail-ends answer.Timeout tt
+  settle-ends : (o : Outcome) → Among (0 ∷ 1 ∷ 2 ∷ 6 ∷ []) (writing.settleOf call o .phase)
+  unfolding Ending writing.settleOf writing.advanceOf case_acknowledged_error_timeout_
+  settle-ends outcome.Acknowledged = phase-ends _ _ _
+  settle-ends (outcome.BusError code) = fail-ends (answer.I2c code) (inr (inl refl))
+  settle-ends outcome.Timeout = fail-ends answer.Timeout (inr (inr (inl refl)))
 
   -- EVERY REPORT TO A WRITING CALL
   pub sort-w : (o : Outcome) (r n w : ℕ) → SortW call (writing.reportOf call o r n w)
@@ -92,9 +97,9 @@ module _ (call : WriteCall) where
       result = writing.reportOf call o r n w
 
       by : (p : Phase) → call .phase ≡ p → (t : Bool) → fitsOf (call .task .lent) n w ≡ t → (s : Bool) → writing.repliedOf o r ≡ s → SortW call result
-      by (phase.Ended a) e t f s g = let q : result ≡ wrote.Refused answer.NothingOutstanding call = rw e in subst (SortW call) (sym q) (tt, refl)
-      by phase.Waiting e false f s g = let q : result ≡ wrote.Refused answer.WrongBuffer call = rw (e, f) in subst (SortW call) (sym q) (tt, refl)
-      by phase.Waiting e true f true g = let q : result ≡ wrote.Refused answer.WrongReply call = rw (e, f, g) in subst (SortW call) (sym q) (tt, refl)
+      by (phase.Ended a) e t f s g = let q : result ≡ wrote.Refused answer.NothingOutstanding call = rw e in subst (SortW call) (sym q) (inr (inr (inl refl)), refl)
+      by phase.Waiting e false f s g = let q : result ≡ wrote.Refused answer.WrongBuffer call = rw (e, f) in subst (SortW call) (sym q) (inl refl, refl)
+      by phase.Waiting e true f true g = let q : result ≡ wrote.Refused answer.WrongReply call = rw (e, f, g) in subst (SortW call) (sym q) (inr (inl refl), refl)
       by phase.Waiting e true f false g = let q : result ≡ wrote.Taken (writing.settleOf call o) = rw (e, f, g) in subst (SortW call) (sym q) (e, settle-ends o)
 
   -- WHAT A WRITING CALL SHOWS
@@ -140,25 +145,25 @@ module _ (call : WriteCall) where
 -- ---- a reading call
 
 module _ (call : ReadCall) where
-  reads-fail : (why : Answer) → Ending why → Ends (reading.failOf call why .phase)
+  reads-fail : (why : Answer) → OneOf (0 ∷ 1 ∷ 2 ∷ 3 ∷ []) (numberOf why) → Among (0 ∷ 1 ∷ 2 ∷ 3 ∷ []) (reading.failOf call why .phase)
   unfolding reading.failOf reading.retryOf reading.endOf failed case_retry_spent_ if_then_else_
   reads-fail why ok = by (eqb (call .budget .left) 0) refl
     where
-      by : (t : Bool) → eqb (call .budget .left) 0 ≡ t → Ends (reading.failOf call why .phase)
-      by true t = let q : reading.failOf call why .phase ≡ phase.Ended why = rw t in subst Ends (sym q) ok
-      by false t = let q : reading.failOf call why .phase ≡ phase.Waiting = rw t in subst Ends (sym q) tt
+      by : (t : Bool) → eqb (call .budget .left) 0 ≡ t → Among (0 ∷ 1 ∷ 2 ∷ 3 ∷ []) (reading.failOf call why .phase)
+      by true t = let q : reading.failOf call why .phase ≡ phase.Ended why = rw t in subst (Among (0 ∷ 1 ∷ 2 ∷ 3 ∷ [])) (sym q) ok
+      by false t = let q : reading.failOf call why .phase ≡ phase.Waiting = rw t in subst (Among (0 ∷ 1 ∷ 2 ∷ 3 ∷ [])) (sym q) tt
 
   -- what a verdict can be
   abbrev Fit : Verdict → Type 0
-  Fit (verdict.Refused a) = Refusal a
-  Fit (verdict.Failed a) = (call .phase ≡ phase.Waiting) × Ending a
+  Fit (verdict.Refused a) = OneOf (8 ∷ 9 ∷ 10 ∷ []) (numberOf a)
+  Fit (verdict.Failed a) = (call .phase ≡ phase.Waiting) × OneOf (0 ∷ 1 ∷ 2 ∷ 3 ∷ []) (numberOf a)
   Fit verdict.Head = call .phase ≡ phase.Waiting
   Fit verdict.Block = call .phase ≡ phase.Waiting
 
   heard-fit : (h : Heard) → call .phase ≡ phase.Waiting → Fit (reading.verdictOf h)
   unfolding reading.verdictOf
-  heard-fit heard.WrongLength p = tt
-  heard-fit heard.WrongPec p = (p, tt)
+  heard-fit heard.WrongLength p = inr (inl refl)
+  heard-fit heard.WrongPec p = (p, inr (inr (inr (inl refl))))
   heard-fit heard.Good p = p
 
   head-fit : (r : ℕ) → call .phase ≡ phase.Waiting → Fit (reading.heardHead r)
@@ -167,7 +172,7 @@ module _ (call : ReadCall) where
     where
       by : (t : Bool) → eqb r 0 ≡ t → Fit (reading.heardHead r)
       by true t = let q : reading.heardHead r ≡ verdict.Head = rw t in subst Fit (sym q) p
-      by false t = let q : reading.heardHead r ≡ verdict.Refused answer.WrongReply = rw t in subst Fit (sym q) tt
+      by false t = let q : reading.heardHead r ≡ verdict.Refused answer.WrongReply = rw t in subst Fit (sym q) (inr (inl refl))
 
   outcome-fit : (o : Outcome) (bytes : List ℕ) → call .phase ≡ phase.Waiting → Fit (reading.outcomeOf call o bytes)
   unfolding reading.outcomeOf reading.acknowledgedOf reading.heardBlock case_acknowledged_error_timeout_ if_then_else_
@@ -180,8 +185,8 @@ module _ (call : ReadCall) where
       by false h =
           let q : reading.outcomeOf call outcome.Acknowledged bytes ≡ reading.heardBlock (reading.dueAsk call) bytes = rw h in
           subst Fit (sym q) (heard-fit (reply.heardOf (reading.dueAsk call) bytes) p)
-  outcome-fit (outcome.BusError code) bytes p = (p, tt)
-  outcome-fit outcome.Timeout bytes p = (p, tt)
+  outcome-fit (outcome.BusError code) bytes p = (p, inr (inl refl))
+  outcome-fit outcome.Timeout bytes p = (p, inr (inr (inl refl)))
 
   judge-fit : (o : Outcome) (bytes : List ℕ) (n w : ℕ) → Fit (reading.judgeOf call o bytes n w)
   unfolding reading.judgeOf case_waiting_ended_ if_then_else_
@@ -190,22 +195,22 @@ module _ (call : ReadCall) where
       by : (p : Phase) → call .phase ≡ p → (t : Bool) → fitsOf (call .task .lent) n w ≡ t → Fit (reading.judgeOf call o bytes n w)
       by (phase.Ended a) e t f =
           let q : reading.judgeOf call o bytes n w ≡ verdict.Refused answer.NothingOutstanding = rw e in
-          subst Fit (sym q) tt
+          subst Fit (sym q) (inr (inr (inl refl)))
       by phase.Waiting e false f =
           let q : reading.judgeOf call o bytes n w ≡ verdict.Refused answer.WrongBuffer = rw (e, f) in
-          subst Fit (sym q) tt
+          subst Fit (sym q) (inl refl)
       by phase.Waiting e true f =
           let q : reading.judgeOf call o bytes n w ≡ reading.outcomeOf call o bytes = rw (e, f) in
           subst Fit (sym q) (outcome-fit o bytes e)
 
   -- a call that goes on or is done
-  headed-ends : Ends (reading.headedOf call .phase)
+  headed-ends : Among (0 ∷ 1 ∷ 2 ∷ 3 ∷ []) (reading.headedOf call .phase)
   unfolding reading.headedOf
-  headed-ends = phase-ends _ _
+  headed-ends = phase-ends _ _ _
 
-  block-ends : Ends (reading.advanceOf call .phase)
+  block-ends : Among (0 ∷ 1 ∷ 2 ∷ 3 ∷ []) (reading.advanceOf call .phase)
   unfolding reading.advanceOf
-  block-ends = phase-ends _ _
+  block-ends = phase-ends _ _ _
 
   -- once a block is handed over the call waits or is done
   block-kept : (before after : List ℕ) → Kept (reading.advanceOf call .phase) before after
@@ -213,7 +218,7 @@ module _ (call : ReadCall) where
   block-kept before after going undone = by (leb (parts.countOf (call .task .plan .reads) (call .task .lent .length)) (moreOf (call .received))) refl
     where
       by : (t : Bool) → leb (parts.countOf (call .task .plan .reads) (call .task .lent .length)) (moreOf (call .received)) ≡ t → after ≡ before
-      by true t = absurd (undone (rw t))
+      by true t = absurd (undone (rw t (refl, refl)))
       by false t = absurd (going (rw t))
 
   -- EVERY REPORT TO A READING CALL

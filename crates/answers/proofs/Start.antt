@@ -9,19 +9,18 @@ use lib.Dec.{ltb, leb, eqb}
 use borrow.Author.Tests.{ltb-true, ltb-false, leb-false, eqb-true, eqb-false, lt-ltb, le-ltb, lt-leb, eq-eqb, ne-eqb}
 use Rattle.protocol.specs.Pick.{if_then_else_}
 use Rattle.protocol.specs.Window.{inWindow}
-use Rattle.protocol.specs.declared.error.Answer.{Answer}
 use Rattle.protocol.specs.declared.error.Answer.the-variants as answer
 use Rattle.engine.specs.Limit.{windowed, commanded, measured, admitted}
 use Rattle.engine.specs.declared.bus.Phase.{Phase}
 use Rattle.engine.specs.declared.bus.Phase.the-variants as phase
 use Rattle.engine.specs.declared.limit.Limit.{Limit}
 use Rattle.engine.specs.declared.limit.Limit.the-variants as limit
-use Rattle.answers.specs.Rows.{TooLarge, OutOfRange, InputGiven, WrongSize, NothingToDo, Starts}
+use Rattle.answers.specs.Rows.{Says, Starts, nothing-to-do, too-large, large-input, large-output, below, beyond, input-given, wrong-size, short-work}
+use Rattle.answers.proofs.Laws.{InTable, row-of}
 
 -- what a phase says of the start
 abbrev Holds : Limit → ℕ → ℕ → Phase → Type 0
-Holds l n w phase.Waiting = Unit {0}
-Holds l n w (phase.Ended a) = Starts l n w a
+Holds l n w = InTable (Starts n w l)
 
 -- outside the window, in numbers
 outside : (start n : ℕ) → inWindow start n ≡ false → (0 < n) × ((start < 0x4000) ⊎ (0x5FFF < start + (n - 1)))
@@ -52,9 +51,13 @@ windowed-holds : (start n w : ℕ) → 39 ≤ w → Holds (limit.Window start) n
 unfolding windowed if_then_else_
 windowed-holds start n w k = by (inWindow start n) refl (eqb n 0) refl
   where
+    out : 0 < n → (start < 0x4000) ⊎ (0x5FFF < start + (n - 1)) → Starts n w (limit.Window start) 5 0
+    out some (inl h) = below start k some h
+    out some (inr h) = beyond start k some h
+
     by : (t : Bool) → inWindow start n ≡ t → (z : Bool) → eqb n 0 ≡ z → Holds (limit.Window start) n w (windowed start n)
-    by false t z q = rw t (k, outside start n t)
-    by true t true q = rw (t, q) (k, eqb-true n 0 q)
+    by false t z q = let h = outside start n t in rw t (out (h .0) (h .1))
+    by true t true q = rw (t, q) (nothing-to-do start k (eqb-true n 0 q))
     by true t false q = rw (t, q) tt
 
 commanded-holds : (input n w : ℕ) → 39 ≤ w → Holds (limit.Command input) n w (commanded input n)
@@ -62,10 +65,10 @@ unfolding commanded if_then_else_
 commanded-holds input n w k = by (ltb 32 input) refl (ltb 32 n) refl (eqb input 0) refl
   where
     by : (a : Bool) → ltb 32 input ≡ a → (b : Bool) → ltb 32 n ≡ b → (c : Bool) → eqb input 0 ≡ c → Holds (limit.Command input) n w (commanded input n)
-    by true a b p c q = rw a (k, inl (ltb-true _ _ a))
-    by false a true p c q = rw (a, p) (k, inr (ltb-true _ _ p))
+    by true a b p c q = rw a (large-input input k (ltb-true _ _ a))
+    by false a true p c q = rw (a, p) (large-output input k (ltb-true _ _ p))
     by false a false p true q = rw (a, p, q) tt
-    by false a false p false q = let h = eqb-false input 0 q in rw (a, p, q) (k, (omega arith, ltb-false _ _ a, ltb-false _ _ p))
+    by false a false p false q = let h = eqb-false input 0 q in rw (a, p, q) (input-given input k (omega arith) (ltb-false _ _ a) (ltb-false _ _ p))
 
 measured-holds : (l : Limit) (n w : ℕ) → 39 ≤ w → Holds l n w (measured l n)
 unfolding measured if_then_else_
@@ -73,13 +76,13 @@ measured-holds limit.Free n w k = tt
 measured-holds (limit.AtMost most) n w k = by (ltb most n) refl
   where
     by : (t : Bool) → ltb most n ≡ t → Holds (limit.AtMost most) n w (measured (limit.AtMost most) n)
-    by true t = rw t (k, ltb-true _ _ t)
+    by true t = rw t (too-large most k (ltb-true _ _ t))
     by false t = rw t tt
 measured-holds (limit.Exactly size) n w k = by (eqb n size) refl
   where
     by : (t : Bool) → eqb n size ≡ t → Holds (limit.Exactly size) n w (measured (limit.Exactly size) n)
     by true t = rw t tt
-    by false t = rw t (inr (k, eqb-false _ _ t))
+    by false t = rw t (wrong-size size k (eqb-false _ _ t))
 measured-holds (limit.Window start) n w k = windowed-holds start n w k
 measured-holds (limit.Command input) n w k = commanded-holds input n w k
 
@@ -88,74 +91,31 @@ unfolding admitted if_then_else_
 admitted-holds l n w = by (ltb w 39) refl
   where
     by : (t : Bool) → ltb w 39 ≡ t → Holds l n w (admitted l n w)
-    by true t = rw t (inl (ltb-true _ _ t))
+    by true t = rw t (short-work l (ltb-true _ _ t))
     by false t = rw t (measured-holds l n w (ltb-false _ _ t))
 
 -- ---- and a row that holds is answered
 
-large : (l : Limit) (n : ℕ) → TooLarge l n → measured l n ≡ phase.Ended answer.DataTooLarge
-unfolding measured commanded if_then_else_
-large limit.Free n h = absurd h
-large (limit.AtMost most) n h = rw (lt-ltb most n h)
-large (limit.Exactly size) n h = absurd h
-large (limit.Window start) n h = absurd h
-large (limit.Command input) n (inl h) = rw (lt-ltb 32 input h)
-large (limit.Command input) n (inr h) = rw (lt-ltb 32 n h) (by (ltb 32 input))
-  where
-    by : (t : Bool) → (if t then phase.Ended answer.DataTooLarge else phase.Ended answer.DataTooLarge) ≡ phase.Ended answer.DataTooLarge
-    by true = refl
-    by false = refl
+module _ (n w : ℕ) where
+  large : (t : Bool) → Says 4 0 (if t then phase.Ended answer.DataTooLarge else phase.Ended answer.DataTooLarge)
+  unfolding if_then_else_
+  large true = (refl, refl)
+  large false = (refl, refl)
 
-out : (l : Limit) (n : ℕ) → OutOfRange l n → measured l n ≡ phase.Ended answer.DataFlashAddressOutOfRange
-unfolding measured windowed if_then_else_
-out limit.Free n h = absurd h
-out (limit.AtMost most) n h = absurd h
-out (limit.Exactly size) n h = absurd h
-out (limit.Window start) n h = rw (inside start n (h .0) (h .1))
-out (limit.Command input) n h = absurd h
-
-given : (l : Limit) (n : ℕ) → InputGiven l n → measured l n ≡ phase.Ended answer.NotACommand
-unfolding measured commanded if_then_else_
-given limit.Free n h = absurd h
-given (limit.AtMost most) n h = absurd h
-given (limit.Exactly size) n h = absurd h
-given (limit.Window start) n h = absurd h
-given (limit.Command input) n h =
-    let p : input ≡ 0 → ⊥ = λ e. omega (arith, h .0) in
-    rw (le-ltb 32 input (h .1), le-ltb 32 n (h .2), ne-eqb input 0 p)
-
-wrong : (l : Limit) (n : ℕ) → WrongSize l n → measured l n ≡ phase.Ended answer.WrongBuffer
-unfolding measured if_then_else_
-wrong limit.Free n h = absurd h
-wrong (limit.AtMost most) n h = absurd h
-wrong (limit.Exactly size) n h = rw (ne-eqb n size h)
-wrong (limit.Window start) n h = absurd h
-wrong (limit.Command input) n h = absurd h
-
-idle : (l : Limit) (n : ℕ) → NothingToDo l n → measured l n ≡ phase.Ended answer.Done
-unfolding measured windowed inWindow if_then_else_
-idle limit.Free n h = absurd h
-idle (limit.AtMost most) n h = absurd h
-idle (limit.Exactly size) n h = absurd h
-idle (limit.Window start) n h = rw (eq-eqb n 0 h)
-idle (limit.Command input) n h = absurd h
-
-admitted-row : (l : Limit) (n w : ℕ) (a : Answer) → Starts l n w a → admitted l n w ≡ phase.Ended a
-unfolding admitted if_then_else_
-admitted-row l n w answer.Done (k, h) = rw (le-ltb w 39 k) (idle l n h)
-admitted-row l n w (answer.I2c code) h = absurd h
-admitted-row l n w answer.Timeout h = absurd h
-admitted-row l n w answer.Pec h = absurd h
-admitted-row l n w answer.DataTooLarge (k, h) = rw (le-ltb w 39 k) (large l n h)
-admitted-row l n w answer.DataFlashAddressOutOfRange (k, h) = rw (le-ltb w 39 k) (out l n h)
-admitted-row l n w (answer.PartialDataFlashWrite committed) h = absurd h
-admitted-row l n w answer.NotACommand (k, h) = rw (le-ltb w 39 k) (given l n h)
-admitted-row l n w answer.WrongBuffer (inl h) = rw (lt-ltb w 39 h)
-admitted-row l n w answer.WrongBuffer (inr (k, h)) = rw (le-ltb w 39 k) (wrong l n h)
-admitted-row l n w answer.WrongReply h = absurd h
-admitted-row l n w answer.NothingOutstanding h = absurd h
-admitted-row l n w answer.BadLine h = absurd h
+  admitted-row : (l : Limit) (k d : ℕ) → Starts n w l k d → Says k d (admitted l n w)
+  unfolding admitted measured windowed commanded inWindow if_then_else_
+  admitted-row l k d (nothing-to-do start room none) = rw (le-ltb w 39 room, eq-eqb n 0 none) (refl, refl)
+  admitted-row l k d (too-large most room h) = rw (le-ltb w 39 room, lt-ltb most n h) (refl, refl)
+  admitted-row l k d (large-input input room h) = rw (le-ltb w 39 room, lt-ltb 32 input h) (refl, refl)
+  admitted-row l k d (large-output input room h) = rw (le-ltb w 39 room, lt-ltb 32 n h) (large (ltb 32 input))
+  admitted-row l k d (below start room some h) = rw (le-ltb w 39 room, inside start n some (inl h)) (refl, refl)
+  admitted-row l k d (beyond start room some h) = rw (le-ltb w 39 room, inside start n some (inr h)) (refl, refl)
+  admitted-row l k d (input-given input room some h j) =
+      let p : input ≡ 0 → ⊥ = λ e. omega arith in
+      rw (le-ltb w 39 room, le-ltb 32 input h, le-ltb 32 n j, ne-eqb input 0 p) (refl, refl)
+  admitted-row l k d (wrong-size size room h) = rw (le-ltb w 39 room, ne-eqb n size h) (refl, refl)
+  admitted-row l k d (short-work any h) = rw (lt-ltb w 39 h) (refl, refl)
 
 -- THE TABLE AT THE START
-pub starts : (l : Limit) (n w : ℕ) (a : Answer) → (admitted l n w ≡ phase.Ended a) ↔ Starts l n w a
-starts l n w a = (λ e. rw e at (admitted-holds l n w), admitted-row l n w a)
+pub starts : (l : Limit) (n w k d : ℕ) → Says k d (admitted l n w) ↔ Starts n w l k d
+starts l n w k d = (row-of (Starts n w l) (admitted l n w) (admitted-holds l n w) k d, admitted-row n w l k d)

@@ -8,6 +8,7 @@ use native.Mathlib.Omega.{arith}
 use lib.Dec.{leb, eqb}
 use borrow.Author.Tests.{leb-true, eqb-true, eqb-false, le-leb, eq-eqb, ne-eqb}
 use Rattle.protocol.specs.Pick.{if_then_else_}
+use Rattle.protocol.specs.Answer.{numberOf, detailOf}
 use Rattle.protocol.specs.declared.error.Answer.{Answer}
 use Rattle.protocol.specs.declared.error.Answer.the-variants as answer
 use Rattle.engine.specs.Pick.{case_waiting_ended_, case_acknowledged_error_timeout_, case_retry_spent_}
@@ -21,39 +22,42 @@ use Rattle.writing.specs.Frames as frames
 use Rattle.writing.specs.Writing.{advanceOf, gaveUp, retryOf, endOf, failOf, settleOf, repliedOf, reportOf}
 use Rattle.writing.specs.declared.call.WriteCall.{WriteCall}
 use Rattle.writing.specs.declared.call.WriteReported.the-variants as wrote
-use Rattle.answers.specs.Rows.{Failure, saidW, OpenW, Partial, Writes}
-use Rattle.answers.proofs.Laws.{fits-same, same-fits, other-fits, fits-other}
+use Rattle.answers.specs.Rows.{Says, Failure, saidW, OpenW, Partial, Writes}
+use Rattle.answers.specs.Rows.Writes.{done, bus-error, timed-out, partly, wrong-buffer, wrong-reply, nothing-outstanding}
+use Rattle.answers.proofs.Laws.{InTable, row-of, says-of, over-waits, fits-same, same-fits, other-fits, fits-other}
 
 module _ (call : WriteCall) (o : Outcome) (r n w : ℕ) where
   -- what a phase says of the report
   abbrev Holds : Phase → Type 0
-  Holds phase.Waiting = Unit {0}
-  Holds (phase.Ended a) = Writes call o r n w a
+  Holds = InTable (Writes call o r n w)
+
+  Row : Answer → Type 0
+  Row a = Writes call o r n w (numberOf a) (detailOf a)
 
   -- ---- an answer that is given is its row's
 
   gave-up : (why : Answer) → OpenW call n w → Failure o → call .budget .left ≡ 0
-      → ((Partial call → ⊥) → Writes call o r n w why) → Writes call o r n w (gaveUp (call .task .plan .frames) (call .sent) why)
-  unfolding gaveUp if_then_else_
+      → ((Partial call → ⊥) → Row why) → Row (gaveUp (call .task .plan .frames) (call .sent) why)
+  unfolding Row gaveUp if_then_else_
   gave-up why ready bad last row = by (frames.isFlash (call .task .plan .frames)) refl (eqb (call .sent) 0) refl
     where
       by : (f : Bool) → frames.isFlash (call .task .plan .frames) ≡ f → (z : Bool) → eqb (call .sent) 0 ≡ z
-          → Writes call o r n w (gaveUp (call .task .plan .frames) (call .sent) why)
+          → Row (gaveUp (call .task .plan .frames) (call .sent) why)
       by false f z q =
           let g : gaveUp (call .task .plan .frames) (call .sent) why ≡ why = rw f in
-          subst (Writes call o r n w) (sym g) (row (λ p. false≢true (sym f ∙ p .0)))
+          subst Row (sym g) (row (λ p. false≢true (sym f ∙ p .0)))
       by true f true q =
           let none = eqb-true (call .sent) 0 q in
           let g : gaveUp (call .task .plan .frames) (call .sent) why ≡ why = rw (f, q) in
-          subst (Writes call o r n w) (sym g) (row (λ p. omega (arith, p .1)))
+          subst Row (sym g) (row (λ p. omega (arith, p .1)))
       by true f false q =
           let some = eqb-false (call .sent) 0 q in
           let g : gaveUp (call .task .plan .frames) (call .sent) why ≡ answer.PartialDataFlashWrite (call .sent * 32) = rw (f, q) in
-          subst (Writes call o r n w) (sym g) (ready, bad, last, (f, omega arith), refl)
+          subst Row (sym g) (partly ready bad last (f, omega arith))
 
   fail-holds : (why : Answer) → OpenW call n w → Failure o
-      → (call .budget .left ≡ 0 → (Partial call → ⊥) → Writes call o r n w why) → Holds (failOf call why .phase)
-  unfolding failOf failed retryOf endOf case_retry_spent_ if_then_else_
+      → (call .budget .left ≡ 0 → (Partial call → ⊥) → Row why) → Holds (failOf call why .phase)
+  unfolding Row failOf failed retryOf endOf case_retry_spent_ if_then_else_
   fail-holds why ready bad row = by (eqb (call .budget .left) 0) refl
     where
       by : (t : Bool) → eqb (call .budget .left) 0 ≡ t → Holds (failOf call why .phase)
@@ -70,12 +74,12 @@ module _ (call : WriteCall) (o : Outcome) (r n w : ℕ) where
       by : (t : Bool) → leb (frames.countOf (call .task .plan .frames) (call .task .lent .length)) (moreOf (call .sent)) ≡ t → Holds (advanceOf call .phase)
       by true t =
           let q : advanceOf call .phase ≡ phase.Ended answer.Done = rw t in
-          subst Holds (sym q) (ready, ack, none, leb-true _ _ t)
+          subst Holds (sym q) (done ready ack none (leb-true _ _ t))
       by false t = let q : advanceOf call .phase ≡ phase.Waiting = rw t in subst Holds (sym q) tt
 
   -- a report that is looked at
   taken-holds : OpenW call n w → (x : Outcome) → o ≡ x → Holds (saidW (if_then_else_ (repliedOf o r) (wrote.Refused answer.WrongReply call) (wrote.Taken (settleOf call o))))
-  unfolding repliedOf settleOf case_acknowledged_error_timeout_ if_then_else_
+  unfolding Row repliedOf settleOf case_acknowledged_error_timeout_ if_then_else_
   taken-holds ready outcome.Acknowledged e = by (eqb r 0) refl
     where
       said : Phase
@@ -87,13 +91,13 @@ module _ (call : WriteCall) (o : Outcome) (r n w : ℕ) where
           subst Holds (sym q) (sent-holds ready e (eqb-true r 0 t))
       by false t =
           let q : said ≡ phase.Ended answer.WrongReply = rw (e, t) in
-          subst Holds (sym q) (ready, e, eqb-false r 0 t)
+          subst Holds (sym q) (wrong-reply ready e (eqb-false r 0 t))
   taken-holds ready (outcome.BusError code) e =
       let q : saidW (if_then_else_ (repliedOf o r) (wrote.Refused answer.WrongReply call) (wrote.Taken (settleOf call o))) ≡ failOf call (answer.I2c code) .phase = rw e in
-      subst Holds (sym q) (fail-holds (answer.I2c code) ready (rw e tt) (λ last whole. (ready, e, last, whole)))
+      subst Holds (sym q) (fail-holds (answer.I2c code) ready (rw e tt) (bus-error code ready e))
   taken-holds ready outcome.Timeout e =
       let q : saidW (if_then_else_ (repliedOf o r) (wrote.Refused answer.WrongReply call) (wrote.Taken (settleOf call o))) ≡ failOf call answer.Timeout .phase = rw e in
-      subst Holds (sym q) (fail-holds answer.Timeout ready (rw e tt) (λ last whole. (ready, e, last, whole)))
+      subst Holds (sym q) (fail-holds answer.Timeout ready (rw e tt) (timed-out ready e))
 
   report-holds : Holds (saidW (reportOf call o r n w))
   unfolding reportOf case_waiting_ended_ if_then_else_
@@ -102,10 +106,10 @@ module _ (call : WriteCall) (o : Outcome) (r n w : ℕ) where
       by : (p : Phase) → call .phase ≡ p → (t : Bool) → fitsOf (call .task .lent) n w ≡ t → Holds (saidW (reportOf call o r n w))
       by (phase.Ended a) e t f =
           let q : saidW (reportOf call o r n w) ≡ phase.Ended answer.NothingOutstanding = rw e in
-          subst Holds (sym q) (a, e)
+          subst Holds (sym q) (nothing-outstanding (over-waits a (call .phase) e))
       by phase.Waiting e false f =
           let q : saidW (reportOf call o r n w) ≡ phase.Ended answer.WrongBuffer = rw (e, f) in
-          subst Holds (sym q) (e, other-fits (call .task .lent) n w f)
+          subst Holds (sym q) (wrong-buffer e (other-fits (call .task .lent) n w f))
       by phase.Waiting e true f =
           let q : saidW (reportOf call o r n w) ≡ saidW (if_then_else_ (repliedOf o r) (wrote.Refused answer.WrongReply call) (wrote.Taken (settleOf call o))) = rw (e, f) in
           subst Holds (sym q) (taken-holds (e, fits-same (call .task .lent) n w f) o refl)
@@ -139,25 +143,27 @@ module _ (call : WriteCall) (o : Outcome) (r n w : ℕ) where
   failure ready (outcome.BusError code) e bad a ends = ap saidW (looked ready) ∙ rw e (ends (answer.I2c code))
   failure ready outcome.Timeout e bad a ends = ap saidW (looked ready) ∙ rw e (ends answer.Timeout)
 
-  report-row : (a : Answer) → Writes call o r n w a → saidW (reportOf call o r n w) ≡ phase.Ended a
+  report-row : (k d : ℕ) → Writes call o r n w k d → Says k d (saidW (reportOf call o r n w))
   unfolding reportOf repliedOf settleOf advanceOf phaseAfter case_waiting_ended_ case_acknowledged_error_timeout_ if_then_else_
-  report-row answer.Done (ready, ack, none, done) = ap saidW (looked ready) ∙ rw (ack, eq-eqb r 0 none, le-leb _ _ done)
-  report-row (answer.I2c code) (ready, e, last, whole) =
-      ap saidW (looked ready) ∙ rw e (gives-up (answer.I2c code) last ∙ ap phase.Ended (whole-why (answer.I2c code) whole))
-  report-row answer.Timeout (ready, e, last, whole) =
-      ap saidW (looked ready) ∙ rw e (gives-up answer.Timeout last ∙ ap phase.Ended (whole-why answer.Timeout whole))
-  report-row answer.Pec h = absurd h
-  report-row answer.DataTooLarge h = absurd h
-  report-row answer.DataFlashAddressOutOfRange h = absurd h
-  report-row (answer.PartialDataFlashWrite committed) (ready, bad, last, some, count) =
-      failure ready o refl bad (answer.PartialDataFlashWrite committed)
-      (λ why. gives-up why last ∙ ap phase.Ended (partial-why why some) ∙ ap (λ (k : ℕ). phase.Ended (answer.PartialDataFlashWrite k)) (sym count))
-  report-row answer.NotACommand h = absurd h
-  report-row answer.WrongBuffer (e, other) = rw (e, fits-other (call .task .lent) n w other)
-  report-row answer.WrongReply (ready, ack, some) = ap saidW (looked ready) ∙ rw (ack, ne-eqb r 0 some)
-  report-row answer.NothingOutstanding (a, e) = rw e
-  report-row answer.BadLine h = absurd h
+  report-row k d (done ready ack none all) = says-of answer.Done (saidW (reportOf call o r n w)) (ap saidW (looked ready) ∙ rw (ack, eq-eqb r 0 none, le-leb _ _ all))
+  report-row k d (bus-error code ready e last whole) =
+      says-of (answer.I2c code) (saidW (reportOf call o r n w))
+      (ap saidW (looked ready) ∙ rw e (gives-up (answer.I2c code) last ∙ ap phase.Ended (whole-why (answer.I2c code) whole)))
+  report-row k d (timed-out ready e last whole) =
+      says-of answer.Timeout (saidW (reportOf call o r n w))
+      (ap saidW (looked ready) ∙ rw e (gives-up answer.Timeout last ∙ ap phase.Ended (whole-why answer.Timeout whole)))
+  report-row k d (partly ready bad last some) =
+      says-of (answer.PartialDataFlashWrite (call .sent * 32)) (saidW (reportOf call o r n w))
+      (failure ready o refl bad (answer.PartialDataFlashWrite (call .sent * 32)) (λ why. gives-up why last ∙ ap phase.Ended (partial-why why some)))
+  report-row k d (wrong-buffer e other) = rw (e, fits-other (call .task .lent) n w other) (refl, refl)
+  report-row k d (wrong-reply ready ack some) =
+      says-of answer.WrongReply (saidW (reportOf call o r n w)) (ap saidW (looked ready) ∙ rw (ack, ne-eqb r 0 some))
+  report-row k d (nothing-outstanding over) = by (call .phase) refl
+    where
+      by : (p : Phase) → call .phase ≡ p → Says 10 0 (saidW (reportOf call o r n w))
+      by phase.Waiting e = absurd (over e)
+      by (phase.Ended a) e = rw e (refl, refl)
 
 -- THE TABLE OF A WRITING CALL
-pub writes : (call : WriteCall) (o : Outcome) (r n w : ℕ) (a : Answer) → (saidW (reportOf call o r n w) ≡ phase.Ended a) ↔ Writes call o r n w a
-writes call o r n w a = (λ e. subst (Holds call o r n w) e (report-holds call o r n w), report-row call o r n w a)
+pub writes : (call : WriteCall) (o : Outcome) (r n w k d : ℕ) → Says k d (saidW (reportOf call o r n w)) ↔ Writes call o r n w k d
+writes call o r n w k d = (row-of (Writes call o r n w) (saidW (reportOf call o r n w)) (report-holds call o r n w) k d, report-row call o r n w k d)

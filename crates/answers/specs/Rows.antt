@@ -1,10 +1,10 @@
 -- The table of answers: for each row, when it is given. (01, The step machine)
--- `Starts`, `Writes` and `Reads` have a line for each answer. A line of ⊥ says that the answer is never given there.
+-- The rows go by the paper's number and detail. `Starts`, `Writes` and `Reads` have a constructor for each case of a row that can come there: no other answer comes.
 -- Assumes nothing.
 use Prim.Native.Nat.{ℕ, _+_, _-_, _*_, _≤_, _<_}
 use mathlib.Core.Path.{_≡_}
 use mathlib.Core.Bool.{true, false}
-use mathlib.Core.List.{List}
+use mathlib.Core.List.{List, [], _∷_}
 use mathlib.Core.Logic.{_⊎_}
 use lib.ListN.{length, take, drop}
 use Rattle.protocol.specs.Pick.{if_then_else_}
@@ -34,77 +34,53 @@ use Rattle.reading.specs.declared.call.ReadCall.{ReadCall}
 use Rattle.reading.specs.declared.call.ReadReported.{ReadReported}
 use Rattle.reading.specs.declared.call.ReadReported.the-variants as read
 
--- ---- the paper's number of each row, and its detail
+-- ---- the paper's number of each answer, and its detail
 
+-- k is one of these
+abbrev pub OneOf : List ℕ → ℕ → Type 0
+OneOf [] k = ⊥
+OneOf (j ∷ js) k = (k ≡ j) ⊎ OneOf js k
+
+-- what `numberOf` and `detailOf`, the table itself, come to
 pub record Numbers : Type 0 where
-  pub done : (numberOf answer.Done ≡ 0) × (detailOf answer.Done ≡ 0)
-  pub bus-error : (code : ℕ) → (numberOf (answer.I2c code) ≡ 1) × (detailOf (answer.I2c code) ≡ code)
-  pub timed-out : (numberOf answer.Timeout ≡ 2) × (detailOf answer.Timeout ≡ 0)
-  pub wrong-pec : (numberOf answer.Pec ≡ 3) × (detailOf answer.Pec ≡ 0)
-  pub too-large : (numberOf answer.DataTooLarge ≡ 4) × (detailOf answer.DataTooLarge ≡ 0)
-  pub out-of-range : (numberOf answer.DataFlashAddressOutOfRange ≡ 5) × (detailOf answer.DataFlashAddressOutOfRange ≡ 0)
-  pub partly : (n : ℕ) → (numberOf (answer.PartialDataFlashWrite n) ≡ 6) × (detailOf (answer.PartialDataFlashWrite n) ≡ n)
-  pub no-command : (numberOf answer.NotACommand ≡ 7) × (detailOf answer.NotACommand ≡ 0)
-  pub wrong-buffer : (numberOf answer.WrongBuffer ≡ 8) × (detailOf answer.WrongBuffer ≡ 0)
-  pub wrong-reply : (numberOf answer.WrongReply ≡ 9) × (detailOf answer.WrongReply ≡ 0)
-  pub nothing-outstanding : (numberOf answer.NothingOutstanding ≡ 10) × (detailOf answer.NothingOutstanding ≡ 0)
-  pub bad-line : (numberOf answer.BadLine ≡ 11) × (detailOf answer.BadLine ≡ 0)
+  -- a number and a detail are those of one answer
+  pub told-apart : (a b : Answer) → numberOf a ≡ numberOf b → detailOf a ≡ detailOf b → a ≡ b
+  -- 1 has a code and 6 the bytes committed; no other answer has a detail
+  pub detailed : (a : Answer) → (detailOf a ≡ 0) ⊎ OneOf (1 ∷ 6 ∷ []) (numberOf a)
+  -- 11 is the last row
+  pub last : (a : Answer) → numberOf a ≤ 11
+  -- a bus error with code 5, 64 bytes committed, a timeout
+  pub code : (numberOf (answer.I2c 5) ≡ 1) × (detailOf (answer.I2c 5) ≡ 5)
+  pub committed : (numberOf (answer.PartialDataFlashWrite 64) ≡ 6) × (detailOf (answer.PartialDataFlashWrite 64) ≡ 64)
+  pub none : (numberOf answer.Timeout ≡ 2) × (detailOf answer.Timeout ≡ 0)
 
--- ---- at the start: n lent bytes, a work buffer of w
+-- a phase says the answer of number k with detail d; one that waits says none
+abbrev pub Says : ℕ → ℕ → Phase → Type 0
+Says k d phase.Waiting = ⊥
+Says k d (phase.Ended a) = (numberOf a ≡ k) × (detailOf a ≡ d)
 
--- 4: a length is over its limit
-abbrev pub TooLarge : Limit → ℕ → Type 0
-TooLarge limit.Free n = ⊥
-TooLarge (limit.AtMost most) n = most < n
-TooLarge (limit.Exactly size) n = ⊥
-TooLarge (limit.Window start) n = ⊥
-TooLarge (limit.Command input) n = (32 < input) ⊎ (32 < n)
+-- the answer that a phase says, if it says one, has one of these numbers
+abbrev pub Among : List ℕ → Phase → Type 0
+Among ks phase.Waiting = Unit {0}
+Among ks (phase.Ended a) = OneOf ks (numberOf a)
 
--- 5: the window rule fails
-abbrev pub OutOfRange : Limit → ℕ → Type 0
-OutOfRange limit.Free n = ⊥
-OutOfRange (limit.AtMost most) n = ⊥
-OutOfRange (limit.Exactly size) n = ⊥
-OutOfRange (limit.Window start) n = (0 < n) × ((start < 0x4000) ⊎ (0x5FFF < start + (n - 1)))
-OutOfRange (limit.Command input) n = ⊥
+-- ---- at the start: n lent bytes, a work buffer of w; the call's limit, the answer's number and detail
 
--- 7: command input is not empty
-abbrev pub InputGiven : Limit → ℕ → Type 0
-InputGiven limit.Free n = ⊥
-InputGiven (limit.AtMost most) n = ⊥
-InputGiven (limit.Exactly size) n = ⊥
-InputGiven (limit.Window start) n = ⊥
-InputGiven (limit.Command input) n = (0 < input) × (input ≤ 32) × (n ≤ 32)
-
--- 8: a key's length is wrong
-abbrev pub WrongSize : Limit → ℕ → Type 0
-WrongSize limit.Free n = ⊥
-WrongSize (limit.AtMost most) n = ⊥
-WrongSize (limit.Exactly size) n = n ≡ size → ⊥
-WrongSize (limit.Window start) n = ⊥
-WrongSize (limit.Command input) n = ⊥
-
--- 0: an empty data-flash transfer is done at once
-abbrev pub NothingToDo : Limit → ℕ → Type 0
-NothingToDo limit.Free n = ⊥
-NothingToDo (limit.AtMost most) n = ⊥
-NothingToDo (limit.Exactly size) n = ⊥
-NothingToDo (limit.Window start) n = n ≡ 0
-NothingToDo (limit.Command input) n = ⊥
-
-abbrev pub Starts : Limit → ℕ → ℕ → Answer → Type 0
-Starts l n w answer.Done = (39 ≤ w) × NothingToDo l n
-Starts l n w (answer.I2c code) = ⊥
-Starts l n w answer.Timeout = ⊥
-Starts l n w answer.Pec = ⊥
-Starts l n w answer.DataTooLarge = (39 ≤ w) × TooLarge l n
-Starts l n w answer.DataFlashAddressOutOfRange = (39 ≤ w) × OutOfRange l n
-Starts l n w (answer.PartialDataFlashWrite committed) = ⊥
-Starts l n w answer.NotACommand = (39 ≤ w) × InputGiven l n
-Starts l n w answer.WrongBuffer = (w < 39) ⊎ ((39 ≤ w) × WrongSize l n)
-Starts l n w answer.WrongReply = ⊥
-Starts l n w answer.NothingOutstanding = ⊥
-Starts l n w answer.BadLine = ⊥
+pub data Starts (n w : ℕ) : Limit → ℕ → ℕ → Type 0 where
+  -- 0: an empty data-flash transfer is done at once
+  nothing-to-do : (start : ℕ) → 39 ≤ w → n ≡ 0 → Starts n w (limit.Window start) 0 0
+  -- 4: a length is over its limit
+  too-large : (most : ℕ) → 39 ≤ w → most < n → Starts n w (limit.AtMost most) 4 0
+  large-input : (input : ℕ) → 39 ≤ w → 32 < input → Starts n w (limit.Command input) 4 0
+  large-output : (input : ℕ) → 39 ≤ w → 32 < n → Starts n w (limit.Command input) 4 0
+  -- 5: the window rule fails
+  below : (start : ℕ) → 39 ≤ w → 0 < n → start < 0x4000 → Starts n w (limit.Window start) 5 0
+  beyond : (start : ℕ) → 39 ≤ w → 0 < n → 0x5FFF < start + (n - 1) → Starts n w (limit.Window start) 5 0
+  -- 7: command input is not empty
+  input-given : (input : ℕ) → 39 ≤ w → 0 < input → input ≤ 32 → n ≤ 32 → Starts n w (limit.Command input) 7 0
+  -- 8: a key's length is wrong, or the work buffer is under 39 bytes
+  wrong-size : (size : ℕ) → 39 ≤ w → (n ≡ size → ⊥) → Starts n w (limit.Exactly size) 8 0
+  short-work : (l : Limit) → w < 39 → Starts n w l 8 0
 
 -- ---- at a report: where the call stands, and what is lent
 
@@ -138,25 +114,25 @@ OpenR call n w = (call .phase ≡ phase.Waiting) × Same (call .task .lent) n w
 abbrev pub Partial : WriteCall → Type 0
 Partial call = (frames.isFlash (call .task .plan .frames) ≡ true) × (0 < call .sent)
 
--- ---- a writing call: an outcome with a reply of r bytes, a payload of n, a work buffer of w
-abbrev pub Writes : WriteCall → Outcome → ℕ → ℕ → ℕ → Answer → Type 0
-Writes call o r n w answer.Done =
-    OpenW call n w × (o ≡ outcome.Acknowledged) × (r ≡ 0)
-    × (frames.countOf (call .task .plan .frames) (call .task .lent .length) ≤ moreOf (call .sent))
-Writes call o r n w (answer.I2c code) = OpenW call n w × (o ≡ outcome.BusError code) × (call .budget .left ≡ 0) × (Partial call → ⊥)
-Writes call o r n w answer.Timeout = OpenW call n w × (o ≡ outcome.Timeout) × (call .budget .left ≡ 0) × (Partial call → ⊥)
-Writes call o r n w answer.Pec = ⊥
-Writes call o r n w answer.DataTooLarge = ⊥
-Writes call o r n w answer.DataFlashAddressOutOfRange = ⊥
-Writes call o r n w (answer.PartialDataFlashWrite committed) =
-    OpenW call n w × Failure o × (call .budget .left ≡ 0) × Partial call × (committed ≡ call .sent * 32)
-Writes call o r n w answer.NotACommand = ⊥
-Writes call o r n w answer.WrongBuffer = (call .phase ≡ phase.Waiting) × (Same (call .task .lent) n w → ⊥)
-Writes call o r n w answer.WrongReply = OpenW call n w × (o ≡ outcome.Acknowledged) × (r ≡ 0 → ⊥)
-Writes call o r n w answer.NothingOutstanding = (a : Answer) × (call .phase ≡ phase.Ended a)
-Writes call o r n w answer.BadLine = ⊥
+-- ---- a writing call: an outcome with a reply of r bytes, a payload of n, a work buffer of w; the answer's number and detail
 
--- ---- a reading call: an outcome with a reply, a buffer of n bytes, a work buffer of w
+pub data Writes (call : WriteCall) (o : Outcome) (r n w : ℕ) : ℕ → ℕ → Type 0 where
+  -- 0: its last frame is acknowledged
+  done : OpenW call n w → o ≡ outcome.Acknowledged → r ≡ 0
+      → frames.countOf (call .task .plan .frames) (call .task .lent .length) ≤ moreOf (call .sent) → Writes call o r n w 0 0
+  -- 1, 2: the last allowed attempt failed, with no block of data flash before it
+  bus-error : (code : ℕ) → OpenW call n w → o ≡ outcome.BusError code → call .budget .left ≡ 0 → (Partial call → ⊥) → Writes call o r n w 1 code
+  timed-out : OpenW call n w → o ≡ outcome.Timeout → call .budget .left ≡ 0 → (Partial call → ⊥) → Writes call o r n w 2 0
+  -- 6: it failed after at least one block
+  partly : OpenW call n w → Failure o → call .budget .left ≡ 0 → Partial call → Writes call o r n w 6 (call .sent * 32)
+  -- 8: a lent length differs from the start's
+  wrong-buffer : call .phase ≡ phase.Waiting → (Same (call .task .lent) n w → ⊥) → Writes call o r n w 8 0
+  -- 9: a reply to a write
+  wrong-reply : OpenW call n w → o ≡ outcome.Acknowledged → (r ≡ 0 → ⊥) → Writes call o r n w 9 0
+  -- 10: the call has ended, or was refused
+  nothing-outstanding : (call .phase ≡ phase.Waiting → ⊥) → Writes call o r n w 10 0
+
+-- ---- a reading call: an outcome with a reply, a buffer of n bytes, a work buffer of w; the answer's number and detail
 
 -- the number of bytes asked: none by a head
 unfoldable pub asked : ReadCall → ℕ
@@ -170,68 +146,35 @@ Damaged call bytes = (call .heading ≡ false) × (dueAsk call .pec ≡ true) ×
 unfoldable pub made : ReadCall → ℕ
 made call = if call .heading then call .received else moreOf (call .received)
 
-abbrev pub Reads : ReadCall → Outcome → List ℕ → ℕ → ℕ → Answer → Type 0
-Reads call o bytes n w answer.Done =
-    OpenR call n w × (o ≡ outcome.Acknowledged) × (length bytes ≡ asked call) × (Damaged call bytes → ⊥)
-    × (parts.countOf (call .task .plan .reads) (call .task .lent .length) ≤ made call)
-Reads call o bytes n w (answer.I2c code) = OpenR call n w × (o ≡ outcome.BusError code) × (call .budget .left ≡ 0)
-Reads call o bytes n w answer.Timeout = OpenR call n w × (o ≡ outcome.Timeout) × (call .budget .left ≡ 0)
-Reads call o bytes n w answer.Pec =
-    OpenR call n w × (o ≡ outcome.Acknowledged) × (length bytes ≡ asked call) × Damaged call bytes × (call .budget .left ≡ 0)
-Reads call o bytes n w answer.DataTooLarge = ⊥
-Reads call o bytes n w answer.DataFlashAddressOutOfRange = ⊥
-Reads call o bytes n w (answer.PartialDataFlashWrite committed) = ⊥
-Reads call o bytes n w answer.NotACommand = ⊥
-Reads call o bytes n w answer.WrongBuffer = (call .phase ≡ phase.Waiting) × (Same (call .task .lent) n w → ⊥)
-Reads call o bytes n w answer.WrongReply = OpenR call n w × (o ≡ outcome.Acknowledged) × (length bytes ≡ asked call → ⊥)
-Reads call o bytes n w answer.NothingOutstanding = (a : Answer) × (call .phase ≡ phase.Ended a)
-Reads call o bytes n w answer.BadLine = ⊥
+pub data Reads (call : ReadCall) (o : Outcome) (bytes : List ℕ) (n w : ℕ) : ℕ → ℕ → Type 0 where
+  -- 0: all reads are made, or its head where it has none
+  done : OpenR call n w → o ≡ outcome.Acknowledged → length bytes ≡ asked call → (Damaged call bytes → ⊥)
+      → parts.countOf (call .task .plan .reads) (call .task .lent .length) ≤ made call → Reads call o bytes n w 0 0
+  -- 1, 2, 3: the last allowed attempt failed
+  bus-error : (code : ℕ) → OpenR call n w → o ≡ outcome.BusError code → call .budget .left ≡ 0 → Reads call o bytes n w 1 code
+  timed-out : OpenR call n w → o ≡ outcome.Timeout → call .budget .left ≡ 0 → Reads call o bytes n w 2 0
+  wrong-pec : OpenR call n w → o ≡ outcome.Acknowledged → length bytes ≡ asked call → Damaged call bytes → call .budget .left ≡ 0 → Reads call o bytes n w 3 0
+  -- 8: a lent length differs from the start's
+  wrong-buffer : call .phase ≡ phase.Waiting → (Same (call .task .lent) n w → ⊥) → Reads call o bytes n w 8 0
+  -- 9: the reply's length differs from the number asked
+  wrong-reply : OpenR call n w → o ≡ outcome.Acknowledged → (length bytes ≡ asked call → ⊥) → Reads call o bytes n w 9 0
+  -- 10: the call has ended, or was refused
+  nothing-outstanding : (call .phase ≡ phase.Waiting → ⊥) → Reads call o bytes n w 10 0
 
--- ---- a refusal of a step is 8, 9 or 10 and hands the call back as it was; after a report that was taken a call goes on, or ends with 0, 1, 2, 3 or 6
-
-abbrev pub Refusal : Answer → Type 0
-Refusal answer.Done = ⊥
-Refusal (answer.I2c code) = ⊥
-Refusal answer.Timeout = ⊥
-Refusal answer.Pec = ⊥
-Refusal answer.DataTooLarge = ⊥
-Refusal answer.DataFlashAddressOutOfRange = ⊥
-Refusal (answer.PartialDataFlashWrite committed) = ⊥
-Refusal answer.NotACommand = ⊥
-Refusal answer.WrongBuffer = Unit {0}
-Refusal answer.WrongReply = Unit {0}
-Refusal answer.NothingOutstanding = Unit {0}
-Refusal answer.BadLine = ⊥
-
-abbrev pub Ending : Answer → Type 0
-Ending answer.Done = Unit {0}
-Ending (answer.I2c code) = Unit {0}
-Ending answer.Timeout = Unit {0}
-Ending answer.Pec = Unit {0}
-Ending answer.DataTooLarge = ⊥
-Ending answer.DataFlashAddressOutOfRange = ⊥
-Ending (answer.PartialDataFlashWrite committed) = Unit {0}
-Ending answer.NotACommand = ⊥
-Ending answer.WrongBuffer = ⊥
-Ending answer.WrongReply = ⊥
-Ending answer.NothingOutstanding = ⊥
-Ending answer.BadLine = ⊥
-
-abbrev pub Ends : Phase → Type 0
-Ends phase.Waiting = Unit {0}
-Ends (phase.Ended a) = Ending a
+-- ---- a refusal of a step is 8, 9 or 10 and hands the call back as it was; after a report that was taken a call waits, or ends with 0, 1, 2 or 6 if it
+-- writes, with 0, 1, 2 or 3 if it reads
 
 abbrev pub SortW : WriteCall → WriteReported → Type 0
-SortW call (wrote.Refused a same) = Refusal a × (same ≡ call)
-SortW call (wrote.Taken next) = (call .phase ≡ phase.Waiting) × Ends (next .phase)
+SortW call (wrote.Refused a same) = OneOf (8 ∷ 9 ∷ 10 ∷ []) (numberOf a) × (same ≡ call)
+SortW call (wrote.Taken next) = (call .phase ≡ phase.Waiting) × Among (0 ∷ 1 ∷ 2 ∷ 6 ∷ []) (next .phase)
 
 -- of a read, the buffer after a refusal, and after every ending but 0, is the buffer before
 abbrev pub Kept : Phase → List ℕ → List ℕ → Type 0
-Kept p before after = (p ≡ phase.Waiting → ⊥) → (p ≡ phase.Ended answer.Done → ⊥) → after ≡ before
+Kept p before after = (p ≡ phase.Waiting → ⊥) → (Says 0 0 p → ⊥) → after ≡ before
 
 abbrev pub SortR : ReadCall → List ℕ → List ℕ → ReadReported → Type 0
-SortR call before after (read.Refused a same) = Refusal a × (same ≡ call) × (after ≡ before)
-SortR call before after (read.Taken next) = (call .phase ≡ phase.Waiting) × Ends (next .phase) × Kept (next .phase) before after
+SortR call before after (read.Refused a same) = OneOf (8 ∷ 9 ∷ 10 ∷ []) (numberOf a) × (same ≡ call) × (after ≡ before)
+SortR call before after (read.Taken next) = (call .phase ≡ phase.Waiting) × Among (0 ∷ 1 ∷ 2 ∷ 3 ∷ []) (next .phase) × Kept (next .phase) before after
 
 -- ---- what is shown: an ended call its answer at any lent length, a waiting one 8 where the lengths differ; both spare the work buffer, and a frame lies
 -- at its front with nothing else changed there

@@ -1,11 +1,13 @@
 -- Demand 1 is what `answers` proves.
 -- Assumes nothing.
+use Rattle.answers.proofs.Numbers.{numbers}
 use Rattle.answers.proofs.Start.{starts}
 use Rattle.answers.proofs.Writing.{writes}
 use Rattle.answers.proofs.Reading.{reads}
 use Rattle.answers.proofs.Sorts.{sort-w, sort-r, shows-w, shows-r}
 use Rattle.answers.proofs.Calls.{starts-as, limits}
-use Rattle.answers.proofs.Costs.{numbers, cost-w, delivers}
+use Rattle.answers.proofs.Costs.{cost-w, delivers}
+use Rattle.answers.proofs.Unlooked.{unlooked-w, unlooked-r}
 use Rattle.answers.proofs.Within.{within}
 use Rattle.promises.specs.Demand1.{Demand1}
 
@@ -17,6 +19,8 @@ demand1 = record {
   limits = limits;
   writes = writes;
   reads = reads;
+  unlooked-w = unlooked-w;
+  unlooked-r = unlooked-r;
   refused-w = sort-w;
   refused-r = sort-r;
   costs-w = cost-w;

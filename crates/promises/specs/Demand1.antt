@@ -1,5 +1,6 @@
 -- Demand 1: every request, setting and bus outcome gets an answer; each is given exactly when its row of document 01's table says so; a refusal changes nothing.
--- The rows are those of `answers` (Starts, Writes, Reads). That there is an answer at all is that the calls are functions with no `requires`.
+-- The rows are those of `answers` (Starts, Writes, Reads), by the paper's number and detail. That there is an answer at all is that the calls are functions
+-- with no `requires`.
 -- Assumes nothing.
 use Prim.Native.Nat.{ℕ}
 use mathlib.Core.Path.{_≡_}
@@ -7,30 +8,32 @@ use mathlib.Core.List.{List}
 use mathlib.Core.Logic.{_↔_}
 use lib.ListN.{length}
 use Rattle.protocol.specs.declared.common.Config.{Config}
-use Rattle.protocol.specs.declared.error.Answer.{Answer}
 use Rattle.engine.specs.Limit.{admitted}
 use Rattle.engine.specs.declared.bus.Outcome.{Outcome}
-use Rattle.engine.specs.declared.bus.Phase.the-variants as phase
 use Rattle.engine.specs.declared.limit.Limit.{Limit}
 use Rattle.writing.specs.Writing as writing
 use Rattle.writing.specs.declared.call.WriteCall.{WriteCall}
 use Rattle.reading.specs.Reading as reading
 use Rattle.reading.specs.declared.call.ReadCall.{ReadCall}
-use Rattle.answers.specs.Rows.{Numbers, Starts, saidW, saidR, Writes, Reads, SortW, SortR, Shown, CostW, Delivers}
+use Rattle.answers.specs.Rows.{Numbers, Says, Starts, Failure, saidW, saidR, Writes, Reads, SortW, SortR, Shown, CostW, Delivers}
 use Rattle.answers.specs.Calls.{Admitted, Limits}
 use Rattle.answers.specs.Within.{Within}
 
 pub record Demand1 : Type 0 where
-  -- the rows' numbers and details
+  -- the answers' numbers and details
   pub numbers : Numbers
   -- at the start, for every limit; and which limit each call has
-  pub starts : (l : Limit) (n w : ℕ) (a : Answer) → (admitted l n w ≡ phase.Ended a) ↔ Starts l n w a
+  pub starts : (l : Limit) (n w k d : ℕ) → Says k d (admitted l n w) ↔ Starts n w l k d
   pub starts-so : Admitted
   pub limits : (config : Config) → Limits config
   -- at a report, for every state, outcome, reply and lent length
-  pub writes : (call : WriteCall) (o : Outcome) (r n w : ℕ) (a : Answer) → (saidW (writing.reportOf call o r n w) ≡ phase.Ended a) ↔ Writes call o r n w a
-  pub reads : (call : ReadCall) (o : Outcome) (bytes : List ℕ) (n w : ℕ) (a : Answer)
-      → (saidR (reading.reportOf call o bytes n w) ≡ phase.Ended a) ↔ Reads call o bytes n w a
+  pub writes : (call : WriteCall) (o : Outcome) (r n w k d : ℕ) → Says k d (saidW (writing.reportOf call o r n w)) ↔ Writes call o r n w k d
+  pub reads : (call : ReadCall) (o : Outcome) (bytes : List ℕ) (n w k d : ℕ) → Says k d (saidR (reading.reportOf call o bytes n w)) ↔ Reads call o bytes n w k d
+  -- with a bus error or a timeout a lent reply is not looked at
+  pub unlooked-w : (call : WriteCall) (o : Outcome) → Failure o → (r r′ n w : ℕ) → writing.reportOf call o r n w ≡ writing.reportOf call o r′ n w
+  pub unlooked-r : (call : ReadCall) (o : Outcome) → Failure o → (bytes bytes′ buffer : List ℕ) (w : ℕ)
+      → (reading.reportOf call o bytes (length buffer) w ≡ reading.reportOf call o bytes′ (length buffer) w)
+      × (reading.bufferAfter call o bytes buffer w ≡ reading.bufferAfter call o bytes′ buffer w)
   -- a refusal of a report hands back call and buffer as they were; an ending other than 0 leaves the buffer as it was before that report
   pub refused-w : (call : WriteCall) (o : Outcome) (r n w : ℕ) → SortW call (writing.reportOf call o r n w)
   pub refused-r : (call : ReadCall) (o : Outcome) (bytes buffer : List ℕ) (w : ℕ)

@@ -1,0 +1,60 @@
+-- An answer is made again from its number and its detail, so these tell the answers apart.
+-- Assumes nothing.
+use Prim.Native.Nat.{ℕ, _≤_}
+use mathlib.Core.Path.{_≡_, refl, sym, _∙_}
+use mathlib.Core.List.{List, [], _∷_}
+use mathlib.Core.Logic.{_⊎_, inl, inr}
+use native.Mathlib.Omega.{arith}
+use lib.ListN.{getD}
+use Rattle.protocol.specs.Answer.{numberOf, detailOf}
+use Rattle.protocol.specs.declared.error.Answer.{Answer}
+use Rattle.protocol.specs.declared.error.Answer.the-variants as answer
+use Rattle.answers.specs.Rows.{OneOf, Numbers}
+
+-- the rows from 0 on, with detail d
+rows : ℕ → List Answer
+rows d =
+    answer.Done
+    ∷ answer.I2c d
+    ∷ answer.Timeout
+    ∷ answer.Pec
+    ∷ answer.DataTooLarge
+    ∷ answer.DataFlashAddressOutOfRange
+    ∷ answer.PartialDataFlashWrite d
+    ∷ answer.NotACommand
+    ∷ answer.WrongBuffer
+    ∷ answer.WrongReply
+    ∷ answer.NothingOutstanding
+    ∷ answer.BadLine ∷ []
+
+answerAt : ℕ → ℕ → Answer
+answerAt k d = getD (rows d) k answer.Done
+
+-- what the table has for each answer
+abbrev InRow : Answer → Type 0
+InRow a = (answerAt (numberOf a) (detailOf a) ≡ a) × (numberOf a ≤ 11) × ((detailOf a ≡ 0) ⊎ OneOf (1 ∷ 6 ∷ []) (numberOf a))
+
+in-row : (a : Answer) → InRow a
+unfolding rows answerAt
+in-row answer.Done = (refl, omega arith, inl refl)
+in-row (answer.I2c d) = (refl, omega arith, inr (inl refl))
+in-row answer.Timeout = (refl, omega arith, inl refl)
+in-row answer.Pec = (refl, omega arith, inl refl)
+in-row answer.DataTooLarge = (refl, omega arith, inl refl)
+in-row answer.DataFlashAddressOutOfRange = (refl, omega arith, inl refl)
+in-row (answer.PartialDataFlashWrite d) = (refl, omega arith, inr (inr (inl refl)))
+in-row answer.NotACommand = (refl, omega arith, inl refl)
+in-row answer.WrongBuffer = (refl, omega arith, inl refl)
+in-row answer.WrongReply = (refl, omega arith, inl refl)
+in-row answer.NothingOutstanding = (refl, omega arith, inl refl)
+in-row answer.BadLine = (refl, omega arith, inl refl)
+
+pub numbers : Numbers
+numbers = record {
+  told-apart = λ a b number detail. let again : answerAt (numberOf a) (detailOf a) ≡ answerAt (numberOf b) (detailOf b) = rw (number, detail) in sym (in-row a .0) ∙ again ∙ in-row b .0;
+  detailed = λ a. in-row a .2;
+  last = λ a. in-row a .1;
+  code = (refl, refl);
+  committed = (refl, refl);
+  none = (refl, refl);
+}
