@@ -29,17 +29,18 @@ use Rattle.model_gauge.specs.declared.gauge.Event.the-variants as model
 use Rattle.model_gauge.specs.declared.gauge.Gauge.{Gauge}
 use Rattle.courses.specs.Pick.{case_write_read_none_, case_refused_admitted_}
 use Rattle.courses.specs.Course.{eventOf, eventsOf, soundOf, admitOf, endOf}
-use Rattle.courses.specs.WriteRun.{World as ModelWorld, Left, sentOf, sentFlash, stepOf, driveOf, endedOf, leftOf, runOf}
+use Rattle.courses.specs.WriteRun.{World as ModelWorld, Left, takenOf, reportedOf, sentOf, sentFlash, stepOf, driveOf, endedOf, leftOf, runOf}
 use Rattle.courses.specs.declared.course.End.{End}
 use Rattle.courses.proofs.Cases.{at-write}
 use Rattle.promises.specs.Flash.{placeOf, blockOf, Overlaid}
-use Rattle.promises.specs.Writes as written
+use Rattle.promises.specs.Events as written
+use Rattle.promises.specs.Events.{each}
 use Rattle.promises.specs.Writes.{World, began, shows, step, run}
 use Rattle.promises.specs.Demand3.{clean, Told, endIn, Tells, EndedWell, ended-well, Accepted}
 use Rattle.promises.specs.Courses.{eventIn, eventsIn, beside, ran, ranIn, left-over, Leaves, Runs, started, ran-on, GoOnCourses, OnCourses}
 use Rattle.promises.proofs.Window.{within}
 use Rattle.promises.proofs.Frames.{takes-block, block-points}
-use Rattle.promises.proofs.Machine.{worldAt, frameOf, shows-block, shows-ended, lays, hands-out, laid-long, step-sent, step-ended}
+use Rattle.promises.proofs.Machine.{worldAt, frameOf, shows-block, shows-ended, lays, hands-out, laid-long, is-taken, nothing-lent, made-sent, made-ended}
 use Rattle.promises.proofs.Stopped.{ToldAt, Going, going-step, going, run-empty, stopped}
 use Rattle.promises.proofs.Resumed.{LeftBy, goes, unbroken as whole-write}
 
@@ -86,7 +87,7 @@ module _ (config : Config) (address : ℕ) (payload : List ℕ) (n : ℕ) (gauge
     model-waiting : (e : ModelEvent) (i : ℕ) (b : Budget) (t : Tally) (work flash : List ℕ) → length work ≡ n → i * 32 < length payload
         → stepOf payload e (beside gauge (worldAt config address payload n phase.Waiting i b t work flash))
         ≡ beside gauge (step payload (eventIn e) (worldAt config address payload n phase.Waiting i b t work flash))
-    unfolding stepOf sentOf sentFlash blockBytes
+    unfolding stepOf sentOf sentFlash reportedOf takenOf blockBytes
     model-waiting e i b t work flash long h =
         let m : length (blockOf 32 i payload) ≡ min 32 (length payload - i * 32) = length-take 32 (drop (i * 32) payload) ∙ ap (min 32) (length-drop (i * 32) payload) in
         let taken : takes (frameOf config address payload n i) ≡ true =
@@ -94,8 +95,8 @@ module _ (config : Config) (address : ℕ) (payload : List ℕ) (n : ℕ) (gauge
         let left : pointed (frameOf config address payload n i) gauge ≡ gauge =
         block-points (config .«pec_write») (address + i * 32) (blockOf 32 i payload) (omega arith) (omega arith) (omega arith) (omega arith) (omega arith) gauge in
         sym (at-write _ _ _ _ _ _ _ refl (shows-block config address payload n i b t work long room)
-        (rw (lays config address payload n i b t work long room, hands-out config address payload n i b t work long room, laid-long config address payload n i b t work long room, same-outcome e (frameOf config address payload n i) taken, same-gauge e (frameOf config address payload n i) gauge left, same-flash)
-        (ap (beside gauge) (step-sent config address payload n i b t work long room (eventIn e) flash))))
+        (rw (lays config address payload n i b t work long room, hands-out config address payload n i b t work long room, laid-long config address payload n i b t work long room, same-outcome e (frameOf config address payload n i) taken, same-gauge e (frameOf config address payload n i) gauge left, same-flash, is-taken config address payload n i b t work long room (written.outcomeOf (eventIn e)) 0 (nothing-lent (written.outcomeOf (eventIn e))))
+        (ap (beside gauge) (made-sent config address payload n i b t work long room (eventIn e) [] flash))))
 
 -- a transfer of the model is a transfer of the demand
 module _ (config : Config) (address : ℕ) (payload old : List ℕ) (n : ℕ) (room : 39 ≤ n) (whole : length old ≡ 8192)
@@ -107,7 +108,7 @@ module _ (config : Config) (address : ℕ) (payload old : List ℕ) (n : ℕ) (r
   model-at e phase.Waiting i b t work flash long s = model-waiting config address payload n gauge room low high e i b t work flash long s
   model-at e (phase.Ended a) i b t work flash long s =
       drive-ended config address payload n gauge (e ∷ []) a i b t work flash
-      ∙ ap (beside gauge) (sym (step-ended config address payload n (eventIn e) a i b t work flash))
+      ∙ ap (beside gauge) (sym (made-ended config address payload n (eventIn e) [] a i b t work flash))
 
   model-step : (e : ModelEvent) (w : World) → Going config address payload old n room whole low high w
       → stepOf payload e (beside gauge w) ≡ beside gauge (step payload (eventIn e) w)
@@ -115,7 +116,7 @@ module _ (config : Config) (address : ℕ) (payload old : List ℕ) (n : ℕ) (r
 
   model-run : (es : List ModelEvent) (w : World) → Going config address payload old n room whole low high w
       → driveOf payload es (beside gauge w) ≡ beside gauge (run payload (eventsIn es) w)
-  unfolding driveOf run
+  unfolding driveOf each
   model-run [] w g = refl
   model-run (e ∷ es) w g =
       ap (driveOf payload es) (model-step e w g)
@@ -147,7 +148,7 @@ module _ (config : Config) (address : ℕ) (payload work flash : List ℕ) (a : 
   -- driving the call over events of the model
   pub drive-same : (es : List ModelEvent)
       → driveOf payload es (beside gauge (began config address payload work flash)) ≡ beside gauge (run payload (eventsIn es) (began config address payload work flash))
-  unfolding run
+  unfolding each
   drive-same es = by (eqb (length payload) 0) refl
     where
       by : (t : Bool) → eqb (length payload) 0 ≡ t

@@ -19,7 +19,8 @@ use Rattle.engine.specs.declared.bus.Phase.the-variants as phase
 use Rattle.engine.specs.declared.bus.Transfer.{Transfer}
 use Rattle.engine.specs.declared.bus.Transfer.the-variants as transfer
 use Rattle.writing.specs.Frames.{blockBytes}
-use Rattle.promises.specs.Writes.{Event, World, began, shows, handed, run}
+use Rattle.promises.specs.Events.{Event}
+use Rattle.promises.specs.Writes.{World, began, shows, handed, run}
 use Rattle.promises.specs.Demand3.{Accepted}
 use Rattle.promises.proofs.Window.{within}
 use Rattle.promises.proofs.Machine.{worldAt, frameOf, shows-block, lays, hands-out, shows-ended}

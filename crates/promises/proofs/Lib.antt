@@ -9,7 +9,9 @@ pub mod Machine
 pub mod Stopped
 pub mod Handed
 pub mod Resumed
-pub mod Work
+pub mod Counted
+pub mod Hosted
+pub mod Host
 pub mod Demand3
 pub mod Courses
 pub mod Replies

@@ -3,7 +3,7 @@
 use Prim.Native.Nat.{ℕ, suc, _+_, _*_, _≤_, _<_, min}
 use mathlib.Core.Path.{_≡_, refl, sym, _∙_}
 use mathlib.Core.Bool.{Bool, true, false}
-use mathlib.Core.List.{List}
+use mathlib.Core.List.{List, []}
 use native.Mathlib.Omega.{arith}
 use lib.ListN.{length, drop, length-append, length-take}
 use borrow.Author.Tests.{eq-eqb, lt-ltb}
@@ -18,6 +18,8 @@ use Rattle.engine.specs.Pick.{case_waiting_ended_, case_acknowledged_error_time
 use Rattle.engine.specs.Bus.{writeOf, phaseAfter, fitsOf}
 use Rattle.engine.specs.declared.budget.Budget.{Budget}
 use Rattle.engine.specs.declared.budget.Tally.{Tally}
+use Rattle.engine.specs.declared.bus.Outcome.{Outcome}
+use Rattle.engine.specs.declared.bus.Outcome.the-variants as outcome
 use Rattle.engine.specs.declared.bus.Phase.{Phase}
 use Rattle.engine.specs.declared.bus.Phase.the-variants as phase
 use Rattle.engine.specs.declared.bus.Transfer.the-variants as transfer
@@ -27,14 +29,31 @@ use Rattle.writing.specs.declared.call.WriteCall.{WriteCall}
 use Rattle.writing.specs.declared.call.WriteTask.{WriteTask}
 use Rattle.r5.specs.Plans.{writeDataflash}
 use Rattle.courses.specs.Pick.{case_write_read_none_}
-use Rattle.courses.specs.WriteRun.{takenOf, reportedOf}
+use Rattle.writing.specs.declared.call.WriteReported.the-variants as reported
+use Rattle.courses.specs.WriteRun.{takenOf}
 use Rattle.courses.proofs.Cases.{at-write}
-use Rattle.promises.specs.Writes.{Cause, busError, timedOut, Event, acknowledged, failed, unheard, causeOf, outcomeOf, flashAfter, ackedAfter, World, sent, step}
+use Rattle.promises.specs.Events.{Cause, busError, timedOut, Event, acknowledged, failed, unheard, causeOf, outcomeOf, lentOf, flashAfter, ackedAfter}
+use Rattle.promises.specs.Writes.{World, sent, made, step}
 
 -- a failed transfer, with the answer that it would end the call with
 abbrev pub whyOf : Cause → Answer
 whyOf (busError code) = answer.I2c code
 whyOf timedOut = answer.Timeout
+
+-- a write brings no bytes, and those beside a failure are not looked at
+no-reply : (e : Event) (beside : List ℕ) → repliedOf (outcomeOf e) (length (lentOf e [] beside)) ≡ false
+unfolding repliedOf case_acknowledged_error_timeout_ if_then_else_
+no-reply (acknowledged) beside = refl
+no-reply (failed (busError code)) beside = refl
+no-reply (failed timedOut) beside = refl
+no-reply (unheard (busError code)) beside = refl
+no-reply (unheard timedOut) beside = refl
+
+pub nothing-lent : (o : Outcome) → repliedOf o 0 ≡ false
+unfolding repliedOf case_acknowledged_error_timeout_ if_then_else_
+nothing-lent outcome.Acknowledged = refl
+nothing-lent (outcome.BusError code) = refl
+nothing-lent outcome.Timeout = refl
 
 sealed-short : (pec : Bool) (f : List ℕ) → length f ≤ 36 → length (sealed pec f) ≤ 37
 unfolding sealed if_then_else_
@@ -83,41 +102,47 @@ module _ (config : Config) (address : ℕ) (payload : List ℕ) (n : ℕ) where
     pub laid-long : length (over (frameOf i) work) ≡ n
     laid-long = length-over (frameOf i) work (omega (arith, frame-short i)) ∙ long
 
-    pub step-sent : (e : Event) (flash : List ℕ)
-        → step payload e (worldAt phase.Waiting i b t work flash)
-        ≡ record { call = reportedOf (callAt phase.Waiting i b t) (outcomeOf e) (length payload) n; work = over (frameOf i) work; flash = flashAfter e (frameOf i) flash; acked = ackedAfter e i }
-    unfolding step sent
-    step-sent e flash =
+    -- a report that brings no bytes where it acknowledges is taken
+    pub is-taken : (o : Outcome) (r : ℕ) → repliedOf o r ≡ false → reportOf (callAt phase.Waiting i b t) o r (length payload) n ≡ reported.Taken (settleOf (callAt phase.Waiting i b t) o)
+    unfolding reportOf case_waiting_ended_ fitsOf if_then_else_
+    is-taken o r bare = rw (eq-eqb (length payload) (length payload) refl, eq-eqb n n refl, bare)
+
+    -- what became of the frame is heard, whatever is lent beside a failure
+    pub made-sent : (e : Event) (beside flash : List ℕ)
+        → made payload e beside (worldAt phase.Waiting i b t work flash)
+        ≡ record { call = settleOf (callAt phase.Waiting i b t) (outcomeOf e); work = over (frameOf i) work; flash = flashAfter e (frameOf i) flash; acked = ackedAfter e i }
+    unfolding made sent takenOf
+    made-sent e beside flash =
         sym (at-write _ _ _ _ _ _ _ refl shows-block (rw lays sent-is))
       where
-        sent-is : record { call = reportedOf (callAt phase.Waiting i b t) (outcomeOf e) (length payload) n; work = over (frameOf i) work; flash = flashAfter e (frameOf i) flash; acked = ackedAfter e i }
-            ≡ sent payload e (over (frameOf i) work) (length (frameOf i)) (worldAt phase.Waiting i b t work flash)
-        sent-is = rw (hands-out, laid-long)
+        sent-is : record { call = settleOf (callAt phase.Waiting i b t) (outcomeOf e); work = over (frameOf i) work; flash = flashAfter e (frameOf i) flash; acked = ackedAfter e i }
+            ≡ sent payload e beside (over (frameOf i) work) (length (frameOf i)) (worldAt phase.Waiting i b t work flash)
+        sent-is = rw (hands-out, laid-long, is-taken (outcomeOf e) (length (lentOf e [] beside)) (no-reply e beside))
 
     -- acknowledged: the next block is due, with a budget of its own, or the call is done
     pub step-acknowledged : (flash : List ℕ) → i < 4294967295
         → step payload (acknowledged) (worldAt phase.Waiting i b t work flash)
         ≡ worldAt (phaseAfter (blocksOf (length payload)) (suc i)) (suc i) (record { left = config .«max_bus_retries» }) t (over (frameOf i) work) (flashAfter (acknowledged) (frameOf i) flash)
-    unfolding reportedOf takenOf reportOf repliedOf settleOf advanceOf countOf case_waiting_ended_ case_acknowledged_error_timeout_ fitsOf planOf writeDataflash if_then_else_
+    unfolding settleOf advanceOf countOf case_acknowledged_error_timeout_ planOf writeDataflash
     step-acknowledged flash h =
         let more : min (i + 1) 4294967295 ≡ suc i = omega arith in
-        step-sent (acknowledged) flash ∙ rw (eq-eqb (length payload) (length payload) refl, eq-eqb n n refl, more)
+        made-sent (acknowledged) [] flash ∙ rw more
 
-    reported-failed : (c : Cause) → reportedOf (callAt phase.Waiting i b t) (causeOf c) (length payload) n ≡ failOf (callAt phase.Waiting i b t) (whyOf c)
-    unfolding reportedOf takenOf reportOf repliedOf settleOf case_waiting_ended_ case_acknowledged_error_timeout_ fitsOf if_then_else_
-    reported-failed (busError code) = rw (eq-eqb (length payload) (length payload) refl, eq-eqb n n refl)
-    reported-failed timedOut = rw (eq-eqb (length payload) (length payload) refl, eq-eqb n n refl)
+    settled-failed : (c : Cause) → settleOf (callAt phase.Waiting i b t) (causeOf c) ≡ failOf (callAt phase.Waiting i b t) (whyOf c)
+    unfolding settleOf case_acknowledged_error_timeout_
+    settled-failed (busError code) = refl
+    settled-failed timedOut = refl
 
     -- failed, whether or not the block has landed
     pub step-failed : (c : Cause) (flash : List ℕ)
         → step payload (failed c) (worldAt phase.Waiting i b t work flash)
         ≡ record { call = failOf (callAt phase.Waiting i b t) (whyOf c); work = over (frameOf i) work; flash = flash; acked = i }
-    step-failed c flash = step-sent (failed c) flash ∙ rw reported-failed
+    step-failed c flash = made-sent (failed c) [] flash ∙ rw settled-failed
 
     pub step-unheard : (c : Cause) (flash : List ℕ)
         → step payload (unheard c) (worldAt phase.Waiting i b t work flash)
         ≡ record { call = failOf (callAt phase.Waiting i b t) (whyOf c); work = over (frameOf i) work; flash = flashAfter (unheard c) (frameOf i) flash; acked = i }
-    step-unheard c flash = step-sent (unheard c) flash ∙ rw reported-failed
+    step-unheard c flash = made-sent (unheard c) [] flash ∙ rw settled-failed
 
   -- an ended call shows its answer
   pub shows-ended : (a : Answer) (i : ℕ) (b : Budget) (t : Tally) (w : ℕ) → nextOf (callAt (phase.Ended a) i b t) payload w ≡ transfer.Ended a
@@ -125,7 +150,7 @@ module _ (config : Config) (address : ℕ) (payload : List ℕ) (n : ℕ) where
   shows-ended a i b t w = refl
 
   -- and stays as it is
-  pub step-ended : (e : Event) (a : Answer) (i : ℕ) (b : Budget) (t : Tally) (work flash : List ℕ)
-      → step payload e (worldAt (phase.Ended a) i b t work flash) ≡ worldAt (phase.Ended a) i b t work flash
-  unfolding step nextOf workAfter case_waiting_ended_ case_write_read_none_
-  step-ended e a i b t work flash = refl
+  pub made-ended : (e : Event) (beside : List ℕ) (a : Answer) (i : ℕ) (b : Budget) (t : Tally) (work flash : List ℕ)
+      → made payload e beside (worldAt (phase.Ended a) i b t work flash) ≡ worldAt (phase.Ended a) i b t work flash
+  unfolding made nextOf workAfter case_waiting_ended_ case_write_read_none_
+  made-ended e beside a i b t work flash = refl

@@ -32,7 +32,8 @@ use Rattle.model_gauge.specs.Gauge.{stored}
 use Rattle.courses.specs.declared.course.End.{End}
 use Rattle.courses.specs.declared.course.End.the-variants as end
 use Rattle.promises.specs.Flash.{placeOf, Overlaid}
-use Rattle.promises.specs.Writes.{acknowledged, World, began, shows, run}
+use Rattle.promises.specs.Events.{acknowledged, each}
+use Rattle.promises.specs.Writes.{World, began, shows, run}
 use Rattle.promises.specs.Demand3.{clean, Answered, all-acked, some-acked, none-acked, Told, Promised, endIn, Tells, EndedWell, countOf, Goes, ended-well, went-on, started-over, GoOver, Accepted}
 use Rattle.promises.proofs.Overlay.{overlaid-all, overlaid-rest}
 use Rattle.promises.proofs.Store.{store-empty}
@@ -146,7 +147,7 @@ module _ (config : Config) (address : ℕ) (payload : List ℕ) (n : ℕ) (room 
   -- each acknowledgement brings the next block, until there is none
   all-heard : (m i : ℕ) (b : Budget) (t : Tally) (work flash : List ℕ) → length work ≡ n → i * 32 < length payload → length payload ≤ (i + m) * 32
       → run payload (replicate m acknowledged) (worldAt config address payload n phase.Waiting i b t work flash) .call .phase ≡ phase.Ended answer.Done
-  unfolding run phaseAfter if_then_else_
+  unfolding each phaseAfter if_then_else_
   all-heard zero i b t work flash long h l = absurd (omega arith)
   all-heard (suc m) i b t work flash long h l =
       ap (λ (w : World). run payload (replicate m acknowledged) w .call .phase) (step-acknowledged config address payload n i b t work long room flash (omega arith))

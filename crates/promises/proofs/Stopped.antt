@@ -28,14 +28,15 @@ use Rattle.writing.specs.Writing.{planOf, startOf, gaveUp, retryOf, endOf, fail
 use Rattle.r5.specs.Plans.{writeDataflash}
 use Rattle.model_gauge.specs.Gauge.{stored}
 use Rattle.promises.specs.Flash.{placeOf, blockOf, upto, Overlaid}
-use Rattle.promises.specs.Writes.{Cause, busError, timedOut, Event, acknowledged, failed, unheard, World, began, shows, step, run}
+use Rattle.promises.specs.Events.{Cause, busError, timedOut, Event, acknowledged, failed, unheard, each}
+use Rattle.promises.specs.Writes.{World, began, shows, step, run}
 use Rattle.promises.specs.Demand3.{Answered, all-acked, some-acked, none-acked, Told, Promised, Accepted}
 use Rattle.promises.proofs.Overlay.{overlaid-long, overlaid-none, landed}
 use Rattle.promises.proofs.Store.{store-nothing}
 use Rattle.promises.proofs.Window.{within}
 use Rattle.promises.proofs.Bytes.{agree}
 use Rattle.promises.proofs.Frames.{stores-block}
-use Rattle.promises.proofs.Machine.{whyOf, worldAt, callAt, frameOf, shows-block, shows-ended, laid-long, step-acknowledged, step-failed, step-unheard, step-ended}
+use Rattle.promises.proofs.Machine.{whyOf, worldAt, callAt, frameOf, shows-block, shows-ended, laid-long, step-acknowledged, step-failed, step-unheard, made-ended}
 
 -- ---- what the phases say
 
@@ -115,7 +116,7 @@ module _ (config : Config) (address : ℕ) (payload old : List ℕ) (n : ℕ) (r
       → Overlaid 32 (placeOf address) payload old i flash → ToldAt 32 (length payload) i at
       → Going (step payload e (worldAt config address payload n at i b t work flash))
   going-at e (phase.Ended a) i b t work flash long v s =
-      rw (step-ended config address payload n e a i b t work flash)
+      rw (made-ended config address payload n e [] a i b t work flash)
       (record { at = phase.Ended a; i = i; b = b; t = t; work = work; flash = flash; is = refl; long = long; holds = v; told = s })
   going-at acknowledged phase.Waiting i b t work flash long v s =
       rw (step-acknowledged config address payload n i b t work long room flash (omega arith))
@@ -142,7 +143,7 @@ module _ (config : Config) (address : ℕ) (payload old : List ℕ) (n : ℕ) (r
   going-step e w g = rw (g .is) (going-at e (g .at) (g .i) (g .b) (g .t) (g .work) (g .flash) (g .long) (g .holds) (g .told))
 
   pub going-run : (es : List Event) (w : World) → Going w → Going (run payload es w)
-  unfolding run
+  unfolding each
   going-run [] w g = g
   going-run (e ∷ es) w g = going-run es (step payload e w) (going-step e w g)
 
@@ -168,10 +169,10 @@ began-is config address payload work flash a t e = rw (le-ltb (length work) 39 (
 -- an ended call stays as it is over every list of events
 pub run-ended : (config : Config) (address : ℕ) (payload : List ℕ) (n : ℕ) (es : List Event) (a : Answer) (i : ℕ) (b : Budget) (t : Tally) (work flash : List ℕ)
     → run payload es (worldAt config address payload n (phase.Ended a) i b t work flash) ≡ worldAt config address payload n (phase.Ended a) i b t work flash
-unfolding run
+unfolding each
 run-ended config address payload n [] a i b t work flash = refl
 run-ended config address payload n (e ∷ es) a i b t work flash =
-    rw (step-ended config address payload n e a i b t work flash) (run-ended config address payload n es a i b t work flash)
+    rw (made-ended config address payload n e [] a i b t work flash) (run-ended config address payload n es a i b t work flash)
 
 -- an empty write has ended before its first transfer
 pub run-empty : (config : Config) (address : ℕ) (payload work flash : List ℕ) → Accepted address payload work flash → length payload ≡ 0 → (es : List Event)

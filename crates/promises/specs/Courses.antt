@@ -14,7 +14,8 @@ use Rattle.courses.specs.Course.{eventsOf, soundOf}
 use Rattle.courses.specs.WriteRun.{World as ModelWorld, Left, world, leftOf, runOf}
 use Rattle.courses.specs.declared.course.End.{End}
 use Rattle.promises.specs.Flash.{placeOf, Overlaid, Stands}
-use Rattle.promises.specs.Writes.{Event, acknowledged, failed, unheard, timedOut, World, began, shows, run}
+use Rattle.promises.specs.Events.{Event, acknowledged, failed, unheard, timedOut}
+use Rattle.promises.specs.Writes.{World, began, shows, run}
 use Rattle.promises.specs.Demand3.{clean, endIn, Tells, EndedWell, Goes, Accepted}
 
 -- ---- a run over a course

@@ -18,13 +18,16 @@ use Rattle.protocol.specs.Frame.{sealed}
 use Rattle.protocol.specs.Window.{inWindow}
 use Rattle.protocol.specs.declared.common.Config.{Config}
 use Rattle.protocol.specs.declared.error.Answer.{Answer}
+use Rattle.protocol.specs.declared.error.Answer.the-variants as answer
 use Rattle.engine.specs.declared.bus.Transfer.{Transfer}
 use Rattle.engine.specs.declared.bus.Transfer.the-variants as transfer
 use Rattle.writing.specs.Frames.{blockBytes}
 use Rattle.courses.specs.declared.course.End.{End}
 use Rattle.courses.specs.declared.course.End.the-variants as end
 use Rattle.promises.specs.Flash.{placeOf, store, Overlaid, Stands}
-use Rattle.promises.specs.Writes.{Event, acknowledged, World, began, shows, handed, run, runLent, events, Lends, Alike}
+use Rattle.promises.specs.Events.{Event, acknowledged}
+use Rattle.promises.specs.Host.{Doing, events, Allowed}
+use Rattle.promises.specs.Writes.{World, began, shows, handed, run, does, May, hosted, Alike}
 
 -- what one clean write leaves
 abbrev pub clean : ℕ → List ℕ → List ℕ → List ℕ
@@ -110,10 +113,17 @@ pub record Demand3 : Type 0 where
       → shows payload (run payload es (began config address payload work flash)) ≡ transfer.Write n
       → handed payload n (run payload es (began config address payload work flash))
       ≡ sealed (config .«pec_write») (blockBytes address (run payload es (began config address payload work flash) .acked) payload)
-  -- the bytes of the work buffer do not matter: the host may lend another one of that length for each transfer
-  pub any-work : (config : Config) (address : ℕ) (payload work flash : List ℕ) → Accepted address payload work flash
-      → (steps : List (Event × List ℕ)) → Lends (length work) steps
-      → Alike (runLent payload steps (began config address payload work flash)) (run payload (events steps) (began config address payload work flash))
+  -- any host: whatever work buffer of that length it lends for each transfer, whatever lies in the reply beside a failure, and whatever it reports in between
+  -- that is refused (8, 9 or 10), the call, the flash and the count are those of its transfers alone: none of that changes anything
+  pub any-host : (config : Config) (address : ℕ) (payload work flash : List ℕ) → Accepted address payload work flash
+      → (doings : List Doing) → Allowed (does payload) (May payload (length work)) doings (began config address payload work flash)
+      → Alike (hosted payload doings (began config address payload work flash)) (run payload (events doings) (began config address payload work flash))
+  -- the count that an error gives is of the blocks acknowledged
+  pub counted : (config : Config) (address : ℕ) (payload work flash : List ℕ) → Accepted address payload work flash → (es : List Event) (a : Answer)
+      → shows payload (run payload es (began config address payload work flash)) ≡ transfer.Ended a → (numberOf a ≡ 0 → ⊥)
+      → countOf a ≡ run payload es (began config address payload work flash) .acked * 32
+  -- figures: 6 with 64 gives 64; the code of a bus error is no count, and a timeout has none
+  pub counts : (countOf (answer.PartialDataFlashWrite 64) ≡ 64) × (countOf (answer.I2c 5) ≡ 0) × (countOf answer.Timeout ≡ 0)
   -- go on from the count, any number of times
   pub resumed : (address : ℕ) (payload flash after : List ℕ) → inWindow address (length payload) ≡ true → length flash ≡ 8192
       → Goes GoOver address payload flash after → after ≡ clean address payload flash

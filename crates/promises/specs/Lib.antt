@@ -1,6 +1,8 @@
 pub mod Demand1
 pub mod Demand2
 pub mod Flash
+pub mod Events
+pub mod Host
 pub mod Writes
 pub mod Demand3
 pub mod Worked3
