@@ -1,16 +1,18 @@
--- A run that is refused changes nothing, and a call that has ended shows no transfer.
+-- A run that is refused changes nothing, and a call that has ended or is lent other lengths shows no transfer.
 -- Assumes nothing.
 use Prim.Native.Nat.{ℕ, _<_}
 use mathlib.Core.Path.{_≡_, refl}
-use mathlib.Core.Bool.{Bool, true, false}
+use mathlib.Core.Bool.{Bool, true, false, _&&_}
 use mathlib.Core.List.{List, [], _∷_, _++_}
 use lib.ListN.{length}
-use lib.Dec.{ltb}
-use borrow.Author.Tests.{eq-eqb, ne-eqb, lt-ltb}
+use lib.Dec.{ltb, eqb}
+use borrow.Author.Tests.{eq-eqb, ne-eqb, lt-ltb, eqb-true}
 use Rattle.protocol.specs.Pick.{if_then_else_}
 use Rattle.protocol.specs.declared.error.Answer.{Answer}
 use Rattle.protocol.specs.declared.error.Answer.the-variants as answer
 use Rattle.engine.specs.Pick.{case_waiting_ended_}
+use Rattle.engine.specs.Bus.{fitsOf}
+use Rattle.engine.specs.declared.bus.Lent.{Lent}
 use Rattle.engine.specs.declared.bus.Phase.the-variants as phase
 use Rattle.writing.specs.Writing as writing
 use Rattle.reading.specs.Reading as reading
@@ -21,6 +23,7 @@ use Rattle.courses.specs.Figures.{Figures, wrote-nothing, read-nothing}
 use Rattle.courses.specs.WriteRun as writes
 use Rattle.courses.specs.ReadRun as reads
 use Rattle.courses.specs.declared.course.Admitted.the-variants as admitted
+use Rattle.courses.specs.declared.course.End.the-variants as end
 use Rattle.courses.specs.declared.read_run.Reader.{Reader}
 use Rattle.courses.specs.declared.write_run.Writer.{Writer}
 
@@ -48,6 +51,17 @@ admit-all : (n : ℕ) (course : List ℕ) → n ≡ 8192 → soundOf course ≡ 
 unfolding admitOf if_then_else_
 admit-all n course h s = rw (eq-eqb n 8192 h, s)
 
+-- ---- what is lent
+
+other-lengths : (lent : Lent) (n w : ℕ) → ((n ≡ lent .length) × (w ≡ lent .work) → ⊥) → fitsOf lent n w ≡ false
+unfolding fitsOf
+other-lengths lent n w other = by (eqb n (lent .length)) refl (eqb w (lent .work)) refl
+  where
+    by : (a : Bool) → eqb n (lent .length) ≡ a → (b : Bool) → eqb w (lent .work) ≡ b → (eqb n (lent .length) && eqb w (lent .work)) ≡ false
+    by true a true b = absurd (other (eqb-true n (lent .length) a, eqb-true w (lent .work) b))
+    by true a false b = rw (a, b)
+    by false a t b = rw a
+
 -- ---- writing runs
 
 module _ (payload work flash : List ℕ) (writer : Writer) where
@@ -56,20 +70,29 @@ module _ (payload work flash : List ℕ) (writer : Writer) where
   unfolding writes.runOf writes.refusedOf case_refused_admitted_
   writes-refused course a e = rw e
 
-  module _ (a : Answer) (over : writer .call .phase ≡ phase.Ended a) where
-    write-stays : (e : Event) → writes.stepOf payload e (writes.world writer work flash) ≡ writes.world writer work flash
-    unfolding writes.stepOf writing.nextOf writing.workAfter case_waiting_ended_ case_write_read_none_
-    write-stays e = rw over
-
+  -- a call that shows no transfer is left as it was
+  module _ (stays : (e : Event) → writes.stepOf payload e (writes.world writer work flash) ≡ writes.world writer work flash) where
     writes-stay : (es : List Event) → writes.driveOf payload es (writes.world writer work flash) ≡ writes.world writer work flash
     unfolding writes.driveOf
     writes-stay [] = refl
-    writes-stay (e ∷ es) = rw (write-stays e) (writes-stay es)
+    writes-stay (e ∷ es) = rw (stays e) (writes-stay es)
 
-    write-over : (course : List ℕ) → length flash ≡ 8192 → soundOf course ≡ true
+    write-idle : (course : List ℕ) (a : Answer) → length flash ≡ 8192 → soundOf course ≡ true
+        → endOf (writer .call .phase) (writer .call .task .lent) (length payload) (length work) ≡ end.Answered a
         → writes.runOf payload course (writes.world writer work flash) ≡ wrote-nothing a writer work flash
-    unfolding writes.runOf writes.leftOf writes.endedOf endOf case_refused_admitted_ case_waiting_ended_
-    write-over course h s = rw (admit-all (length flash) course h s, writes-stay (eventsOf course), over)
+    unfolding writes.runOf writes.leftOf writes.endedOf case_refused_admitted_
+    write-idle course a h s e = rw (admit-all (length flash) course h s, writes-stay (eventsOf course), e)
+
+  write-over : (course : List ℕ) (a : Answer) → length flash ≡ 8192 → soundOf course ≡ true → writer .call .phase ≡ phase.Ended a
+      → writes.runOf payload course (writes.world writer work flash) ≡ wrote-nothing a writer work flash
+  unfolding writes.stepOf writing.nextOf writing.workAfter endOf case_waiting_ended_ case_write_read_none_
+  write-over course a h s over = write-idle (λ e. rw over) course a h s (rw over)
+
+  write-other : (course : List ℕ) → length flash ≡ 8192 → soundOf course ≡ true → writer .call .phase ≡ phase.Waiting
+      → fitsOf (writer .call .task .lent) (length payload) (length work) ≡ false
+      → writes.runOf payload course (writes.world writer work flash) ≡ wrote-nothing answer.WrongBuffer writer work flash
+  unfolding writes.stepOf writing.nextOf writing.workAfter endOf case_waiting_ended_ case_write_read_none_ if_then_else_
+  write-other course h s waits other = write-idle (λ e. rw (waits, other)) course answer.WrongBuffer h s (rw (waits, other))
 
 -- ---- reading runs
 
@@ -79,20 +102,28 @@ module _ (buffer work flash : List ℕ) (reader : Reader) where
   unfolding reads.runOf reads.refusedOf case_refused_admitted_
   reads-refused course a e = rw e
 
-  module _ (a : Answer) (over : reader .call .phase ≡ phase.Ended a) where
-    read-stays : (e : Event) → reads.stepOf e (reads.world reader buffer work flash) ≡ reads.world reader buffer work flash
-    unfolding reads.stepOf reading.nextOf reading.workAfter case_waiting_ended_ case_write_read_none_
-    read-stays e = rw over
-
+  module _ (stays : (e : Event) → reads.stepOf e (reads.world reader buffer work flash) ≡ reads.world reader buffer work flash) where
     reads-stay : (es : List Event) → reads.driveOf es (reads.world reader buffer work flash) ≡ reads.world reader buffer work flash
     unfolding reads.driveOf
     reads-stay [] = refl
-    reads-stay (e ∷ es) = rw (read-stays e) (reads-stay es)
+    reads-stay (e ∷ es) = rw (stays e) (reads-stay es)
 
-    read-over : (course : List ℕ) → length flash ≡ 8192 → soundOf course ≡ true
+    read-idle : (course : List ℕ) (a : Answer) → length flash ≡ 8192 → soundOf course ≡ true
+        → endOf (reader .call .phase) (reader .call .task .lent) (length buffer) (length work) ≡ end.Answered a
         → reads.runOf course (reads.world reader buffer work flash) ≡ read-nothing a reader buffer work flash
-    unfolding reads.runOf reads.leftOf reads.endedOf endOf case_refused_admitted_ case_waiting_ended_
-    read-over course h s = rw (admit-all (length flash) course h s, reads-stay (eventsOf course), over)
+    unfolding reads.runOf reads.leftOf reads.endedOf case_refused_admitted_
+    read-idle course a h s e = rw (admit-all (length flash) course h s, reads-stay (eventsOf course), e)
+
+  read-over : (course : List ℕ) (a : Answer) → length flash ≡ 8192 → soundOf course ≡ true → reader .call .phase ≡ phase.Ended a
+      → reads.runOf course (reads.world reader buffer work flash) ≡ read-nothing a reader buffer work flash
+  unfolding reads.stepOf reading.nextOf reading.workAfter endOf case_waiting_ended_ case_write_read_none_
+  read-over course a h s over = read-idle (λ e. rw over) course a h s (rw over)
+
+  read-other : (course : List ℕ) → length flash ≡ 8192 → soundOf course ≡ true → reader .call .phase ≡ phase.Waiting
+      → fitsOf (reader .call .task .lent) (length buffer) (length work) ≡ false
+      → reads.runOf course (reads.world reader buffer work flash) ≡ read-nothing answer.WrongBuffer reader buffer work flash
+  unfolding reads.stepOf reading.nextOf reading.workAfter endOf case_waiting_ended_ case_write_read_none_ if_then_else_
+  read-other course h s waits other = read-idle (λ e. rw (waits, other)) course answer.WrongBuffer h s (rw (waits, other))
 
 pub figures : Figures
 unfolding eventOf eventsOf if_then_else_
@@ -104,6 +135,8 @@ figures = record {
       writes-refused payload work flash writer (front ++ byte ∷ back) answer.BadLine (admit-course (length flash) front back byte h k);
   read-course = λ front back buffer work flash byte reader h k.
       reads-refused buffer work flash reader (front ++ byte ∷ back) answer.BadLine (admit-course (length flash) front back byte h k);
-  write-refused = λ payload course work flash writer a h s p. write-over payload work flash writer a p course h s;
-  read-refused = λ course buffer work flash reader a h s p. read-over buffer work flash reader a p course h s;
+  write-refused = λ payload course work flash writer a h s p. write-over payload work flash writer course a h s p;
+  read-refused = λ course buffer work flash reader a h s p. read-over buffer work flash reader course a h s p;
+  write-lent = λ payload course work flash writer h s p q. write-other payload work flash writer course h s p (other-lengths (writer .call .task .lent) (length payload) (length work) q);
+  read-lent = λ course buffer work flash reader h s p q. read-other buffer work flash reader course h s p (other-lengths (reader .call .task .lent) (length buffer) (length work) q);
 }

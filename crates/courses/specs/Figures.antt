@@ -1,4 +1,4 @@
--- What the bytes of a course say, and what a run leaves that does not start or has nothing to do. (01, The model gauge)
+-- What the bytes of a course say, and what a run leaves that does not start or shows no transfer. (01, The model gauge)
 -- Assumes nothing.
 use Prim.Native.Nat.{ℕ, _<_}
 use mathlib.Core.Path.{_≡_}
@@ -42,3 +42,10 @@ pub record Figures : Type 0 where
       → writer .call .phase ≡ phase.Ended a → writes.runOf payload course (writes.world writer work flash) ≡ wrote-nothing a writer work flash
   pub read-refused : (course buffer work flash : List ℕ) (reader : Reader) (a : Answer) → length flash ≡ 8192 → soundOf course ≡ true
       → reader .call .phase ≡ phase.Ended a → reads.runOf course (reads.world reader buffer work flash) ≡ read-nothing a reader buffer work flash
+  -- and one that still waits and is lent another payload, buffer or work-buffer length than at its start gives 8
+  pub write-lent : (payload course work flash : List ℕ) (writer : Writer) → length flash ≡ 8192 → soundOf course ≡ true
+      → writer .call .phase ≡ phase.Waiting → ((length payload ≡ writer .call .task .lent .length) × (length work ≡ writer .call .task .lent .work) → ⊥)
+      → writes.runOf payload course (writes.world writer work flash) ≡ wrote-nothing answer.WrongBuffer writer work flash
+  pub read-lent : (course buffer work flash : List ℕ) (reader : Reader) → length flash ≡ 8192 → soundOf course ≡ true
+      → reader .call .phase ≡ phase.Waiting → ((length buffer ≡ reader .call .task .lent .length) × (length work ≡ reader .call .task .lent .work) → ⊥)
+      → reads.runOf course (reads.world reader buffer work flash) ≡ read-nothing answer.WrongBuffer reader buffer work flash
