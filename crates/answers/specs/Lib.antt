@@ -1,4 +1,5 @@
 pub mod Rows
+pub mod Steps
 pub mod Calls
 pub mod Runs
 pub mod Within

@@ -5,7 +5,7 @@ use Rattle.answers.proofs.Writing.{writes}
 use Rattle.answers.proofs.Reading.{reads}
 use Rattle.answers.proofs.Sorts.{sort-w, sort-r, shows-w, shows-r}
 use Rattle.answers.proofs.Calls.{starts-as, limits}
-use Rattle.answers.proofs.Costs.{numbers, cost-w, delivers}
+use Rattle.answers.proofs.Costs.{numbers, cost-w, cost-r, delivers}
 use Rattle.answers.proofs.Within.{within}
 use Rattle.promises.specs.Demand1.{Demand1}
 
@@ -20,6 +20,7 @@ demand1 = record {
   refused-w = sort-w;
   refused-r = sort-r;
   costs-w = cost-w;
+  costs-r = cost-r;
   delivers = delivers;
   shown-w = shows-w;
   shown-r = shows-r;

@@ -16,7 +16,8 @@ use Rattle.writing.specs.Writing as writing
 use Rattle.writing.specs.declared.call.WriteCall.{WriteCall}
 use Rattle.reading.specs.Reading as reading
 use Rattle.reading.specs.declared.call.ReadCall.{ReadCall}
-use Rattle.answers.specs.Rows.{Numbers, Starts, saidW, saidR, Writes, Reads, SortW, SortR, Shown, CostW, Delivers}
+use Rattle.answers.specs.Rows.{Numbers, Starts, saidW, saidR, Writes, Reads, SortW, SortR}
+use Rattle.answers.specs.Steps.{Shown, CostW, CostR, Delivers}
 use Rattle.answers.specs.Calls.{Admitted, Limits}
 use Rattle.answers.specs.Within.{Within}
 
@@ -35,8 +36,10 @@ pub record Demand1 : Type 0 where
   pub refused-w : (call : WriteCall) (o : Outcome) (r n w : ℕ) → SortW call (writing.reportOf call o r n w)
   pub refused-r : (call : ReadCall) (o : Outcome) (bytes buffer : List ℕ) (w : ℕ)
       → SortR call buffer (reading.bufferAfter call o bytes buffer w) (reading.reportOf call o bytes (length buffer) w)
-  -- what a report costs: retries and waits; and what it leaves in the caller's buffer
+  -- what a report costs: retries and waits, and what is due after it
   pub costs-w : (call : WriteCall) (o : Outcome) (r n w : ℕ) → CostW call o (writing.reportOf call o r n w)
+  pub costs-r : (call : ReadCall) (o : Outcome) (bytes : List ℕ) (n w : ℕ) → CostR call o bytes (reading.reportOf call o bytes n w)
+  -- what a report leaves in the caller's buffer
   pub delivers : (call : ReadCall) (buffer : List ℕ) (o : Outcome) (bytes : List ℕ) (w : ℕ) → Delivers call o bytes buffer (reading.bufferAfter call o bytes buffer w)
   -- what is shown, and when the work buffer is spared
   pub shown-w : (call : WriteCall) (payload work : List ℕ)

@@ -1,0 +1,90 @@
+-- What a step does to what is lent, and what it costs. (01, The step machine; Frames and retries)
+-- Assumes nothing.
+use Prim.Native.Nat.{ℕ, _+_, _*_}
+use mathlib.Core.Path.{_≡_}
+use mathlib.Core.Bool.{false}
+use mathlib.Core.List.{List}
+use mathlib.Core.Logic.{_⊎_, _↔_}
+use lib.ListN.{length, take, drop}
+use Rattle.protocol.specs.declared.error.Answer.the-variants as answer
+use Rattle.engine.specs.Budget.{moreOf}
+use Rattle.engine.specs.declared.budget.Budget.{Budget}
+use Rattle.engine.specs.declared.budget.Tally.{Tally}
+use Rattle.engine.specs.declared.bus.Lent.{Lent}
+use Rattle.engine.specs.declared.bus.Outcome.{Outcome}
+use Rattle.engine.specs.declared.bus.Outcome.the-variants as outcome
+use Rattle.engine.specs.declared.bus.Phase.{Phase}
+use Rattle.engine.specs.declared.bus.Phase.the-variants as phase
+use Rattle.engine.specs.declared.bus.Transfer.{Transfer}
+use Rattle.engine.specs.declared.bus.Transfer.the-variants as transfer
+use Rattle.writing.specs.declared.call.WriteCall.{WriteCall}
+use Rattle.writing.specs.declared.call.WriteReported.{WriteReported}
+use Rattle.writing.specs.declared.call.WriteReported.the-variants as wrote
+use Rattle.reading.specs.declared.parts.Head.the-variants as head
+use Rattle.reading.specs.declared.call.ReadCall.{ReadCall}
+use Rattle.reading.specs.declared.call.ReadReported.{ReadReported}
+use Rattle.reading.specs.declared.call.ReadReported.the-variants as read
+use Rattle.answers.specs.Rows.{Same, Failure, Damaged, made}
+
+-- ---- what is shown: an ended call its answer at any lent length, a waiting one 8 where the lengths differ; both spare the work buffer, and a frame lies
+-- at its front with nothing else changed there
+
+abbrev pub Shown : Phase → Lent → ℕ → ℕ → List ℕ → List ℕ → Transfer → Type 0
+Shown p lent n w before after (transfer.Ended a) = (p ≡ phase.Ended a) × (after ≡ before)
+Shown p lent n w before after (transfer.Refused a) = (p ≡ phase.Waiting) × (a ≡ answer.WrongBuffer) × (after ≡ before)
+Shown p lent n w before after (transfer.Write count) = (p ≡ phase.Waiting) × Same lent n w × (drop count after ≡ drop count before)
+Shown p lent n w before after (transfer.Read command count) = (p ≡ phase.Waiting) × Same lent n w × (after ≡ before)
+
+-- ---- what a report costs
+
+-- a failed attempt takes one retry and one wait; with none left it ends the call, with no wait
+abbrev pub FailedOnce : Budget → Tally → Phase → Budget → Tally → Type 0
+FailedOnce left waits p left′ waits′ =
+    ((p ≡ phase.Waiting) × (left′ .left + 1 ≡ left .left) × (waits′ .waits ≡ moreOf (waits .waits)))
+    ⊎ ((p ≡ phase.Waiting → ⊥) × (left .left ≡ 0) × (waits′ .waits ≡ waits .waits))
+
+-- of a write, after a failed attempt the same frame is due
+abbrev pub MissedW : WriteCall → WriteCall → Type 0
+MissedW call next = FailedOnce (call .budget) (call .tally) (next .phase) (next .budget) (next .tally) × (next .sent ≡ call .sent)
+
+-- an acknowledged frame is one more sent, and is followed by one with a budget of its own; no wait is made for it
+abbrev pub PaidW : WriteCall → Outcome → WriteCall → Type 0
+PaidW call outcome.Acknowledged next =
+    (next .budget .left ≡ call .task .plan .retries) × (next .tally .waits ≡ call .tally .waits) × (next .sent ≡ moreOf (call .sent))
+PaidW call (outcome.BusError code) next = MissedW call next
+PaidW call outcome.Timeout next = MissedW call next
+
+-- a refused report costs nothing (`SortW`); none that is taken changes what the call was started for
+abbrev pub CostW : WriteCall → Outcome → WriteReported → Type 0
+CostW call o (wrote.Refused a same) = Unit {0}
+CostW call o (wrote.Taken next) = (next .task ≡ call .task) × PaidW call o next
+
+-- of a read, after a failed attempt the head is due again exactly where there is one, with as many blocks received
+abbrev pub MissedR : ReadCall → ReadCall → Type 0
+MissedR call next =
+    FailedOnce (call .budget) (call .tally) (next .phase) (next .budget) (next .tally)
+    × (next .phase ≡ phase.Waiting → (next .heading ≡ false) ↔ (call .task .plan .head ≡ head.Bare))
+    × (next .received ≡ call .received)
+
+-- an acknowledged head or a believed reply leaves the budget of the whole call as it was, with no wait, and no head is due; a reply is one block more
+abbrev pub HeardR : ReadCall → ReadCall → Type 0
+HeardR call next =
+    (next .budget .left ≡ call .budget .left) × (next .tally .waits ≡ call .tally .waits) × (next .heading ≡ false) × (next .received ≡ made call)
+
+-- a read whose PEC differs is a failed attempt
+abbrev pub PaidR : ReadCall → Outcome → List ℕ → ReadCall → Type 0
+PaidR call outcome.Acknowledged bytes next = (Damaged call bytes → MissedR call next) × ((Damaged call bytes → ⊥) → HeardR call next)
+PaidR call (outcome.BusError code) bytes next = MissedR call next
+PaidR call outcome.Timeout bytes next = MissedR call next
+
+abbrev pub CostR : ReadCall → Outcome → List ℕ → ReadReported → Type 0
+CostR call o bytes (read.Refused a same) = Unit {0}
+CostR call o bytes (read.Taken next) = (next .task ≡ call .task) × PaidR call o bytes next
+
+-- ---- what a report leaves in a reading call's buffer: a failure or a wrong PEC brings nothing, and the blocks in front stay
+
+pub record Delivers (call : ReadCall) (o : Outcome) (bytes before after : List ℕ) : Type 0 where
+  pub failed-reply : Failure o → after ≡ before
+  pub damaged-reply : Damaged call bytes → after ≡ before
+  pub front : take (call .received * 32) after ≡ take (call .received * 32) before
+  pub size : length after ≡ length before
