@@ -9,3 +9,4 @@ pub mod Kept
 pub mod Fits
 pub mod Within
 pub mod Costs
+pub mod Hands

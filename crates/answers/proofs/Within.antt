@@ -1,13 +1,13 @@
 -- Each call by name stays within its bounds, however it is fed.
 -- Assumes nothing.
-use Prim.Native.Nat.{ℕ, _+_, _-_, _≤_, _<_}
+use Prim.Native.Nat.{ℕ, _+_, _≤_, _<_}
 use mathlib.Core.Path.{_≡_, refl, sym, subst, _∙_}
 use mathlib.Core.Bool.{Bool, true, false}
 use mathlib.Core.Logic.{_⊎_, inl, inr}
 use mathlib.Core.List.{List, []}
 use native.Mathlib.Omega.{arith}
 use lib.Dec.{ltb, eqb}
-use lib.ListN.{length, take, length-take}
+use lib.ListN.{length, length-take}
 use borrow.Author.Tests.{lt-ltb, eq-eqb}
 use Rattle.protocol.specs.Pick.{if_then_else_}
 use Rattle.protocol.specs.Frame.{pairOf, macBytes, fixedPair, commandBytes, registerBytes, infoBytes, sealed, laidOf}

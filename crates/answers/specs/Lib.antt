@@ -1,6 +1,6 @@
 pub mod Rows
-pub mod Steps
 pub mod Calls
 pub mod Runs
 pub mod Within
+pub mod Steps
 pub mod Worked

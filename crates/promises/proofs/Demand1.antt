@@ -6,6 +6,7 @@ use Rattle.answers.proofs.Reading.{reads}
 use Rattle.answers.proofs.Sorts.{sort-w, sort-r, shows-w, shows-r}
 use Rattle.answers.proofs.Calls.{starts-as, limits}
 use Rattle.answers.proofs.Costs.{numbers, cost-w, cost-r, delivers}
+use Rattle.answers.proofs.Hands.{hands-out}
 use Rattle.answers.proofs.Within.{within}
 use Rattle.promises.specs.Demand1.{Demand1}
 
@@ -24,5 +25,6 @@ demand1 = record {
   delivers = delivers;
   shown-w = shows-w;
   shown-r = shows-r;
+  hands-out = hands-out;
   within = within;
 }
