@@ -1,6 +1,6 @@
 -- The limits of all calls, by name.
 -- Assumes nothing.
-use mathlib.Core.Path.{_≡_, refl}
+use mathlib.Core.Path.{refl}
 use Rattle.protocol.specs.Pick.{if_then_else_}
 use Rattle.protocol.specs.declared.common.Config.{Config}
 use Rattle.writing.specs.Writing as writing
@@ -40,7 +40,3 @@ limits config = record {
   readsFlash = λ start. refl;
   writesFlash = λ start. refl;
 }
-
--- uniqueness: every public contract is such an equation, for the result and for each lent byte (docs/STATEMENTS.md)
-pub unique : {A : Type 0} (f r r′ : A) → r ≡ f → r′ ≡ f → r ≡ r′
-unique f r r′ p q = cc

@@ -10,3 +10,4 @@ pub mod Fits
 pub mod Within
 pub mod Costs
 pub mod Hands
+pub mod Unique

@@ -36,7 +36,7 @@ use Rattle.reading.specs.declared.call.ReadPlan.{ReadPlan}
 use Rattle.reading.specs.declared.call.ReadCall.{ReadCall}
 use Rattle.interface.specs.Plans.{plainLimit, writeWithRetries, writeRegister, readRegister, commandReads, dispatchCommand, readBuffer, writeBuffer}
 use Rattle.r5.specs.Plans.{macRead, macWrite, wholeAsk, sendAccessKey, writeMfgInfoC, readMfgInfoC, writeMfgInfo, readMfgInfo, readDataflash, writeDataflash}
-use Rattle.answers.specs.Runs.{WriteReport, feedW, ReadReport, Reader, feedR}
+use Rattle.answers.specs.Runs.{WriteReport, feedW, ReadReport, Reader, feedR, Stays}
 use Rattle.answers.specs.Within.{Inside, WritesBy, write-with-retries, write-register, write-buffer, write-security-keys, write-authentication-key, write-charging-voltage-override, write-register-unchecked, send-access-key, unseal-fg, write-mfg-info-c, write-mfg-info, write-dataflash, WritesOn, WritesWithin, ReadsBy, read-register, read-buffer, dispatch-command, read-security-keys, read-authentication-key, read-charging-voltage-override, read-register-unchecked, read-mfg-info-c, read-mfg-info, read-dataflash, ReadsWithin, Within}
 use Rattle.answers.proofs.Calls.{starts-as}
 use Rattle.answers.proofs.Fits.{Fits, admitted-fits, blocks-inside, blocks-few}
@@ -356,3 +356,6 @@ reads-within config r buffer plan name w es = by (reading.startOf plan (length b
 
 pub within : Within
 within = record { writing = writes-within; reading = reads-within }
+
+pub stays : Stays
+stays = record { writing = runs.over-stays; reading = kept.over-stays }

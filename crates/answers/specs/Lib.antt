@@ -3,4 +3,5 @@ pub mod Calls
 pub mod Runs
 pub mod Within
 pub mod Steps
+pub mod Unique
 pub mod Worked

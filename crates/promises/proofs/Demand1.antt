@@ -7,7 +7,8 @@ use Rattle.answers.proofs.Sorts.{sort-w, sort-r, shows-w, shows-r}
 use Rattle.answers.proofs.Calls.{starts-as, limits}
 use Rattle.answers.proofs.Costs.{numbers, cost-w, cost-r, delivers}
 use Rattle.answers.proofs.Hands.{hands-out}
-use Rattle.answers.proofs.Within.{within}
+use Rattle.answers.proofs.Unique.{unique}
+use Rattle.answers.proofs.Within.{stays, within}
 use Rattle.promises.specs.Demand1.{Demand1}
 
 pub demand1 : Demand1
@@ -25,6 +26,8 @@ demand1 = record {
   delivers = delivers;
   shown-w = shows-w;
   shown-r = shows-r;
+  stays = stays;
   hands-out = hands-out;
   within = within;
+  unique = unique;
 }

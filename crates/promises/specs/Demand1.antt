@@ -19,6 +19,8 @@ use Rattle.reading.specs.declared.call.ReadCall.{ReadCall}
 use Rattle.answers.specs.Rows.{Numbers, Starts, saidW, saidR, Writes, Reads, SortW, SortR}
 use Rattle.answers.specs.Steps.{Shown, HandsOut, CostW, CostR, Delivers}
 use Rattle.answers.specs.Calls.{Admitted, Limits}
+use Rattle.answers.specs.Runs.{Stays}
+use Rattle.answers.specs.Unique.{Unique}
 use Rattle.answers.specs.Within.{Within}
 
 pub record Demand1 : Type 0 where
@@ -46,7 +48,11 @@ pub record Demand1 : Type 0 where
       → Shown (call .phase) (call .task .lent) (length payload) (length work) work (writing.workAfter call payload work) (writing.nextOf call payload (length work))
   pub shown-r : (call : ReadCall) (n : ℕ) (work : List ℕ)
       → Shown (call .phase) (call .task .lent) n (length work) work (reading.workAfter call n work) (reading.nextOf call n (length work))
+  -- an answer stands: no report changes a call that has ended or was refused, nor the buffer
+  pub stays : Stays
   -- each call by name, however it is fed: what it hands out to be sent, and when it shows 8
   pub hands-out : HandsOut
   -- each call by name, however it is fed: it has a next transfer until it ends, no counter saturates, and an ending other than 0 leaves the buffer past whole blocks as it was
   pub within : Within
+  -- each contract has one answer
+  pub unique : Unique
