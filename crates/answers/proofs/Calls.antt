@@ -1,6 +1,6 @@
 -- The limits of all calls, by name.
 -- Assumes nothing.
-use mathlib.Core.Path.{_≡_, refl}
+use mathlib.Core.Path.{refl}
 use Rattle.protocol.specs.Pick.{if_then_else_}
 use Rattle.protocol.specs.declared.common.Config.{Config}
 use Rattle.writing.specs.Writing as writing
@@ -19,7 +19,6 @@ limits config = record {
   writesWithPec = λ e. rw e;
   writesPlain = λ e. rw e;
   writesRegister = λ address. refl;
-  writesUnchecked = λ address. refl;
   readsRegister = λ address n. refl;
   dispatches = λ address input n. refl;
   readsBuffer = λ address n. refl;
@@ -30,7 +29,10 @@ limits config = record {
   writesAuthenticationKey = refl;
   readsOverride = refl;
   writesOverride = refl;
+  readsUnchecked = λ address n. refl;
+  writesUnchecked = λ address. refl;
   sendsKey = λ lower upper. refl;
+  unseals = λ lower upper. refl;
   writesInfoC = λ lower upper. refl;
   readsInfoC = λ n. refl;
   writesInfo = refl;
@@ -38,7 +40,3 @@ limits config = record {
   readsFlash = λ start. refl;
   writesFlash = λ start. refl;
 }
-
--- uniqueness: every public contract is such an equation, for the result and for each lent byte (docs/STATEMENTS.md)
-pub unique : {A : Type 0} (f r r′ : A) → r ≡ f → r′ ≡ f → r ≡ r′
-unique f r r′ p q = cc

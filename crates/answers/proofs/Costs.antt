@@ -1,9 +1,9 @@
--- What a report costs a writing call, and what it leaves in a reading call's buffer.
+-- What a report costs, and what it leaves in a reading call's buffer.
 -- Assumes nothing.
 use Prim.Native.Nat.{ℕ, _+_, _-_, _*_}
-use mathlib.Core.Path.{_≡_, refl, sym, subst}
-use mathlib.Core.Bool.{Bool, true, false}
-use mathlib.Core.Logic.{inl, inr}
+use mathlib.Core.Path.{_≡_, refl, sym, subst, _∙_}
+use mathlib.Core.Bool.{Bool, true, false, false≢true}
+use mathlib.Core.Logic.{_⊎_, _↔_, inl, inr}
 use mathlib.Core.List.{List, _++_}
 use native.Mathlib.Omega.{arith}
 use lib.Dec.{leb, eqb}
@@ -18,6 +18,7 @@ use Rattle.protocol.specs.declared.error.Answer.the-variants as answer
 use Rattle.engine.specs.Pick.{case_waiting_ended_, case_acknowledged_error_timeout_, case_retry_spent_}
 use Rattle.engine.specs.Budget.{failed, waited}
 use Rattle.engine.specs.Bus.{fitsOf}
+use Rattle.engine.specs.declared.budget.Budget.{Budget}
 use Rattle.engine.specs.declared.bus.Outcome.{Outcome}
 use Rattle.engine.specs.declared.bus.Outcome.the-variants as outcome
 use Rattle.engine.specs.declared.bus.Phase.{Phase}
@@ -29,38 +30,56 @@ use Rattle.writing.specs.declared.call.WriteReported.the-variants as wrote
 use Rattle.reading.specs.Pick.{case_refused_fault_headed_block_}
 use Rattle.reading.specs.Parts as parts
 use Rattle.reading.specs.Reading as reading
+use Rattle.reading.specs.declared.parts.Head.{Head}
+use Rattle.reading.specs.declared.parts.Head.the-variants as head
 use Rattle.reading.specs.declared.call.ReadCall.{ReadCall}
 use Rattle.reading.specs.declared.call.Verdict.{Verdict}
 use Rattle.reading.specs.declared.call.Verdict.the-variants as verdict
-use Rattle.answers.specs.Rows.{Failure, FailedOnce, Paid, CostW, Damaged, Delivers}
+use Rattle.reading.specs.declared.call.ReadReported.{ReadReported}
+use Rattle.reading.specs.declared.call.ReadReported.the-variants as read
+use Rattle.answers.specs.Rows.{Failure, Damaged, made}
+use Rattle.answers.specs.Steps.{MissedW, PaidW, CostW, MissedR, HeardR, PaidR, CostR, Delivers}
 use Rattle.answers.proofs.Kept.{stored-length}
+
+-- a failed attempt: a retry is taken from the budget, or none is left
+either : {A : Type 0} (P : A → Type 0) (left : Budget) (again : Budget → A) (over : A)
+    → ((b : Budget) → b .left + 1 ≡ left .left → P (again b)) → (left .left ≡ 0 → P over) → P (case_retry_spent_ (failed left) again over)
+unfolding failed case_retry_spent_ if_then_else_
+either {A} P left again over some none = by (eqb (left .left) 0) refl
+  where
+    by : (t : Bool) → eqb (left .left) 0 ≡ t → P (case_retry_spent_ (failed left) again over)
+    by true t =
+        let q : case_retry_spent_ (failed left) again over ≡ over = rw t in
+        subst P (sym q) (none (eqb-true _ _ t))
+    by false t =
+        let more = eqb-false (left .left) 0 t in
+        let q : case_retry_spent_ (failed left) again over ≡ again (record { left = left .left - 1 }) = rw t in
+        subst P (sym q) (some (record { left = left .left - 1 }) (omega arith))
+
+-- a call that has ended does not wait
+over-waits : {a : Answer} → phase.Ended a ≡ phase.Waiting → ⊥
+over-waits e = let z : _≡_ {A = ℕ} 0 1 = cc in absurd (omega arith)
 
 -- ---- a writing call
 
 module _ (call : WriteCall) where
-  Once : WriteCall → Type 0
-  Once next = FailedOnce (call .budget) (call .tally) (next .phase) (next .budget) (next .tally)
+  -- what a report that was taken costs, with what the call was started for unchanged
+  MissesW : WriteCall → Type 0
+  MissesW next = (next .task ≡ call .task) × MissedW call next
 
-  fails-once : (why : Answer) → Once (writing.failOf call why)
-  unfolding Once writing.failOf writing.retryOf writing.endOf failed waited case_retry_spent_ if_then_else_
-  fails-once why = by (eqb (call .budget .left) 0) refl
-    where
-      by : (t : Bool) → eqb (call .budget .left) 0 ≡ t → Once (writing.failOf call why)
-      by true t =
-          let q : writing.failOf call why ≡ writing.endOf call why = rw t in
-          subst Once (sym q) (inr ((λ e. let z : _≡_ {A = ℕ} 0 1 = cc in absurd (omega arith)), eqb-true _ _ t, refl))
-      by false t =
-          let some = eqb-false (call .budget .left) 0 t in
-          let q : writing.failOf call why ≡ writing.retryOf call (record { left = call .budget .left - 1 }) = rw t in
-          subst Once (sym q) (inl (refl, omega arith, refl))
+  misses-w : (why : Answer) → MissesW (writing.failOf call why)
+  unfolding MissesW writing.failOf writing.retryOf writing.endOf waited
+  misses-w why =
+      either MissesW (call .budget) (writing.retryOf call) (writing.endOf call why) (λ b less. (refl, (inl (refl, less, refl), refl)))
+      (λ none. (refl, (inr (over-waits, none, refl), refl)))
 
-  settles : (o : Outcome) → Paid call o (writing.settleOf call o)
-  unfolding Once writing.settleOf writing.advanceOf case_acknowledged_error_timeout_
-  settles outcome.Acknowledged = (refl, refl)
-  settles (outcome.BusError code) = fails-once (answer.I2c code)
-  settles outcome.Timeout = fails-once answer.Timeout
+  settles : (o : Outcome) → (writing.settleOf call o .task ≡ call .task) × PaidW call o (writing.settleOf call o)
+  unfolding MissesW writing.settleOf writing.advanceOf case_acknowledged_error_timeout_
+  settles outcome.Acknowledged = (refl, (refl, refl, refl))
+  settles (outcome.BusError code) = misses-w (answer.I2c code)
+  settles outcome.Timeout = misses-w answer.Timeout
 
-  -- WHAT EVERY REPORT COSTS
+  -- WHAT EVERY REPORT COSTS A WRITING CALL
   pub cost-w : (o : Outcome) (r n w : ℕ) → CostW call o (writing.reportOf call o r n w)
   unfolding writing.reportOf case_waiting_ended_ if_then_else_
   cost-w o r n w = by (call .phase) refl (fitsOf (call .task .lent) n w) refl (writing.repliedOf o r) refl
@@ -73,6 +92,118 @@ module _ (call : WriteCall) where
       by phase.Waiting e false f s g = let q : result ≡ wrote.Refused answer.WrongBuffer call = rw (e, f) in subst (CostW call o) (sym q) tt
       by phase.Waiting e true f true g = let q : result ≡ wrote.Refused answer.WrongReply call = rw (e, f, g) in subst (CostW call o) (sym q) tt
       by phase.Waiting e true f false g = let q : result ≡ wrote.Taken (writing.settleOf call o) = rw (e, f, g) in subst (CostW call o) (sym q) (settles o)
+
+-- ---- a reading call
+
+-- a head is due where there is one
+bare-head : (h : Head) → (parts.hasHead h ≡ false) ↔ (h ≡ head.Bare)
+unfolding parts.hasHead
+bare-head head.Bare = (λ e. refl, λ e. refl)
+bare-head (head.Command address) = (λ e. absurd (false≢true (sym e)), λ e. let z : _≡_ {A = ℕ} 0 1 = cc in absurd (omega arith))
+bare-head (head.Mac command) = (λ e. absurd (false≢true (sym e)), λ e. let z : _≡_ {A = ℕ} 0 1 = cc in absurd (omega arith))
+bare-head (head.DataFlash start) = (λ e. absurd (false≢true (sym e)), λ e. let z : _≡_ {A = ℕ} 0 1 = cc in absurd (omega arith))
+
+module _ (call : ReadCall) where
+  MissesR : ReadCall → Type 0
+  MissesR next = (next .task ≡ call .task) × MissedR call next
+
+  misses-r : (why : Answer) → MissesR (reading.failOf call why)
+  unfolding MissesR reading.failOf reading.retryOf reading.endOf waited
+  misses-r why =
+      either MissesR (call .budget) (reading.retryOf call) (reading.endOf call why)
+      (λ b less. (refl, (inl (refl, less, refl), (λ e. bare-head (call .task .plan .head)), refl)))
+      (λ none. (refl, (inr (over-waits, none, refl), (λ e. absurd (over-waits e)), refl)))
+
+  -- what a verdict that is no refusal says of outcome and reply
+  abbrev Comes : Outcome → List ℕ → Verdict → Type 0
+  Comes o bytes (verdict.Refused a) = Unit {0}
+  Comes o bytes (verdict.Failed a) = Failure o ⊎ Damaged call bytes
+  Comes o bytes verdict.Head = (o ≡ outcome.Acknowledged) × (call .heading ≡ true)
+  Comes o bytes verdict.Block = (o ≡ outcome.Acknowledged) × (call .heading ≡ false) × (Damaged call bytes → ⊥)
+
+  block-comes : (bytes : List ℕ) → call .heading ≡ false → Comes outcome.Acknowledged bytes (reading.heardBlock (reading.dueAsk call) bytes)
+  unfolding reading.heardBlock reading.verdictOf reply.heardOf if_then_else_
+  block-comes bytes h =
+      by (eqb (reply.countOf (reading.dueAsk call)) (length bytes)) refl (reading.dueAsk call .pec) refl
+      (reply.checkedOf (reading.dueAsk call .covered) bytes) refl
+    where
+      heard : Verdict
+      heard = reading.heardBlock (reading.dueAsk call) bytes
+
+      by : (t : Bool) → eqb (reply.countOf (reading.dueAsk call)) (length bytes) ≡ t → (p : Bool) → reading.dueAsk call .pec ≡ p
+          → (k : Bool) → reply.checkedOf (reading.dueAsk call .covered) bytes ≡ k → Comes outcome.Acknowledged bytes heard
+      by false t p x k y = let q : heard ≡ verdict.Refused answer.WrongReply = rw t in subst (Comes outcome.Acknowledged bytes) (sym q) tt
+      by true t false x k y =
+          let q : heard ≡ verdict.Block = rw (t, x) in
+          subst (Comes outcome.Acknowledged bytes) (sym q) (refl, h, (λ d. false≢true (sym x ∙ d .1)))
+      by true t true x true y =
+          let q : heard ≡ verdict.Block = rw (t, x, y) in
+          subst (Comes outcome.Acknowledged bytes) (sym q) (refl, h, (λ d. false≢true (sym (d .2) ∙ y)))
+      by true t true x false y =
+          let q : heard ≡ verdict.Failed answer.Pec = rw (t, x, y) in
+          subst (Comes outcome.Acknowledged bytes) (sym q) (inr (h, x, y))
+
+  outcome-comes : (o : Outcome) (bytes : List ℕ) → Comes o bytes (reading.outcomeOf call o bytes)
+  unfolding reading.outcomeOf reading.acknowledgedOf reading.heardHead case_acknowledged_error_timeout_ if_then_else_
+  outcome-comes (outcome.BusError code) bytes = inl tt
+  outcome-comes outcome.Timeout bytes = inl tt
+  outcome-comes outcome.Acknowledged bytes = by (call .heading) refl (eqb (length bytes) 0) refl
+    where
+      heard : Verdict
+      heard = reading.outcomeOf call outcome.Acknowledged bytes
+
+      by : (h : Bool) → call .heading ≡ h → (t : Bool) → eqb (length bytes) 0 ≡ t → Comes outcome.Acknowledged bytes heard
+      by true h true t = let q : heard ≡ verdict.Head = rw (h, t) in subst (Comes outcome.Acknowledged bytes) (sym q) (refl, h)
+      by true h false t = let q : heard ≡ verdict.Refused answer.WrongReply = rw (h, t) in subst (Comes outcome.Acknowledged bytes) (sym q) tt
+      by false h t k =
+          let q : heard ≡ reading.heardBlock (reading.dueAsk call) bytes = rw h in
+          subst (Comes outcome.Acknowledged bytes) (sym q) (block-comes bytes h)
+
+  judge-comes : (o : Outcome) (bytes : List ℕ) (n w : ℕ) → Comes o bytes (reading.judgeOf call o bytes n w)
+  unfolding reading.judgeOf case_waiting_ended_ if_then_else_
+  judge-comes o bytes n w = by (call .phase) refl (fitsOf (call .task .lent) n w) refl
+    where
+      verdict-of : Verdict
+      verdict-of = reading.judgeOf call o bytes n w
+
+      by : (p : Phase) → call .phase ≡ p → (t : Bool) → fitsOf (call .task .lent) n w ≡ t → Comes o bytes verdict-of
+      by (phase.Ended a) e t f = let q : verdict-of ≡ verdict.Refused answer.NothingOutstanding = rw e in subst (Comes o bytes) (sym q) tt
+      by phase.Waiting e false f = let q : verdict-of ≡ verdict.Refused answer.WrongBuffer = rw (f, e) in subst (Comes o bytes) (sym q) tt
+      by phase.Waiting e true f = let q : verdict-of ≡ reading.outcomeOf call o bytes = rw (f, e) in subst (Comes o bytes) (sym q) (outcome-comes o bytes)
+
+  -- a failed attempt, by what came of it
+  pays-miss : (o : Outcome) (bytes : List ℕ) (next : ReadCall) → Failure o ⊎ Damaged call bytes → MissedR call next → PaidR call o bytes next
+  pays-miss outcome.Acknowledged bytes next (inl f) m = absurd f
+  pays-miss outcome.Acknowledged bytes next (inr d) m = (λ e. m, λ fine. absurd (fine d))
+  pays-miss (outcome.BusError code) bytes next why m = m
+  pays-miss outcome.Timeout bytes next why m = m
+
+  pays-heard : (o : Outcome) (bytes : List ℕ) (next : ReadCall) → o ≡ outcome.Acknowledged → (Damaged call bytes → ⊥) → HeardR call next → PaidR call o bytes next
+  pays-heard o bytes next ack fine m = subst (λ (x : Outcome). PaidR call x bytes next) (sym ack) ((λ d. absurd (fine d)), (λ e. m))
+
+  -- WHAT EVERY REPORT COSTS A READING CALL
+  pub cost-r : (o : Outcome) (bytes : List ℕ) (n w : ℕ) → CostR call o bytes (reading.reportOf call o bytes n w)
+  unfolding MissesR reading.reportOf reading.headedOf reading.advanceOf made case_refused_fault_headed_block_ if_then_else_
+  cost-r o bytes n w = by (reading.judgeOf call o bytes n w) refl (judge-comes o bytes n w)
+    where
+      result : ReadReported
+      result = reading.reportOf call o bytes n w
+
+      by : (v : Verdict) → reading.judgeOf call o bytes n w ≡ v → Comes o bytes (reading.judgeOf call o bytes n w) → CostR call o bytes result
+      by (verdict.Refused a) e c = let q : result ≡ read.Refused a call = rw e in subst (CostR call o bytes) (sym q) tt
+      by (verdict.Failed a) e c =
+          let q : result ≡ read.Taken (reading.failOf call a) = rw e in
+          let m = misses-r a in
+          subst (CostR call o bytes) (sym q) (m .0, pays-miss o bytes (reading.failOf call a) (subst (Comes o bytes) e c) (m .1))
+      by verdict.Head e c =
+          let q : result ≡ read.Taken (reading.headedOf call) = rw e in
+          let d : Comes o bytes verdict.Head = subst (Comes o bytes) e c in
+          subst (CostR call o bytes) (sym q)
+          (refl, pays-heard o bytes (reading.headedOf call) (d .0) (λ x. false≢true (sym (x .0) ∙ d .1)) (refl, refl, refl, rw (d .1)))
+      by verdict.Block e c =
+          let q : result ≡ read.Taken (reading.advanceOf call) = rw e in
+          let d : Comes o bytes verdict.Block = subst (Comes o bytes) e c in
+          subst (CostR call o bytes) (sym q) (refl, pays-heard o bytes (reading.advanceOf call) (d .0) (d .2) (refl, refl, refl, rw (d .1)))
 
 -- ---- a reading call's buffer
 

@@ -11,3 +11,5 @@ pub mod Fits
 pub mod Within
 pub mod Costs
 pub mod Unlooked
+pub mod Hands
+pub mod Unique

@@ -42,7 +42,8 @@ use Rattle.reading.specs.declared.call.Verdict.{Verdict}
 use Rattle.reading.specs.declared.call.Verdict.the-variants as verdict
 use Rattle.reading.specs.declared.call.ReadReported.{ReadReported}
 use Rattle.reading.specs.declared.call.ReadReported.the-variants as read
-use Rattle.answers.specs.Rows.{OneOf, Among, SortW, Kept, SortR, Shown}
+use Rattle.answers.specs.Rows.{OneOf, Among, SortW, Kept, SortR}
+use Rattle.answers.specs.Steps.{Shown}
 use Rattle.answers.proofs.Laws.{fits-same}
 
 -- a call goes on or is done

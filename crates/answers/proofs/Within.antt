@@ -1,13 +1,13 @@
 -- Each call by name stays within its bounds, however it is fed.
 -- Assumes nothing.
-use Prim.Native.Nat.{ℕ, _+_, _-_, _≤_, _<_}
+use Prim.Native.Nat.{ℕ, _+_, _≤_, _<_}
 use mathlib.Core.Path.{_≡_, refl, sym, subst, _∙_}
 use mathlib.Core.Bool.{Bool, true, false}
 use mathlib.Core.Logic.{_⊎_, inl, inr}
 use mathlib.Core.List.{List, []}
 use native.Mathlib.Omega.{arith}
 use lib.Dec.{ltb, eqb}
-use lib.ListN.{length, take, length-take}
+use lib.ListN.{length, length-take}
 use borrow.Author.Tests.{lt-ltb, eq-eqb}
 use Rattle.protocol.specs.Pick.{if_then_else_}
 use Rattle.protocol.specs.Frame.{pairOf, macBytes, fixedPair, commandBytes, registerBytes, infoBytes, sealed, laidOf}
@@ -36,8 +36,8 @@ use Rattle.reading.specs.declared.call.ReadPlan.{ReadPlan}
 use Rattle.reading.specs.declared.call.ReadCall.{ReadCall}
 use Rattle.interface.specs.Plans.{plainLimit, writeWithRetries, writeRegister, readRegister, commandReads, dispatchCommand, readBuffer, writeBuffer}
 use Rattle.r5.specs.Plans.{macRead, macWrite, wholeAsk, sendAccessKey, writeMfgInfoC, readMfgInfoC, writeMfgInfo, readMfgInfo, readDataflash, writeDataflash}
-use Rattle.answers.specs.Runs.{WriteReport, feedW, ReadReport, Reader, feedR}
-use Rattle.answers.specs.Within.{Inside, WritesBy, write-with-retries, write-register, write-register-unchecked, write-buffer, write-security-keys, write-authentication-key, write-charging-voltage-override, send-access-key, write-mfg-info-c, write-mfg-info, write-dataflash, WritesOn, WritesWithin, ReadsBy, read-register, read-buffer, dispatch-command, read-security-keys, read-authentication-key, read-charging-voltage-override, read-mfg-info-c, read-mfg-info, read-dataflash, ReadsWithin, Within}
+use Rattle.answers.specs.Runs.{WriteReport, feedW, ReadReport, Reader, feedR, Stays}
+use Rattle.answers.specs.Within.{Inside, WritesBy, write-with-retries, write-register, write-buffer, write-security-keys, write-authentication-key, write-charging-voltage-override, write-register-unchecked, send-access-key, unseal-fg, write-mfg-info-c, write-mfg-info, write-dataflash, WritesOn, WritesWithin, ReadsBy, read-register, read-buffer, dispatch-command, read-security-keys, read-authentication-key, read-charging-voltage-override, read-register-unchecked, read-mfg-info-c, read-mfg-info, read-dataflash, ReadsWithin, Within}
 use Rattle.answers.proofs.Calls.{starts-as}
 use Rattle.answers.proofs.Fits.{Fits, admitted-fits, blocks-inside, blocks-few}
 use Rattle.answers.proofs.Runs as runs
@@ -95,17 +95,21 @@ module _ (config : Config) (payload : List ℕ) where
       let q : writeWithRetries config .limit ≡ limit.Free = rw e in
       record { some = omega arith; few = omega arith; room = λ i. inl (refl, e); inside = λ i h. subst (λ (l : Limit). Inside l (length payload) i) (sym q) tt }
 
+  key-sane : (lower upper : ℕ) → Sane (sendAccessKey config lower upper) payload
+  unfolding sendAccessKey writing.planOf frames.countOf frames.bytesAt
+  key-sane lower upper = record { some = omega arith; few = omega arith; room = λ i. inr (length-half lower upper i); inside = λ i h. tt }
+
   sane : (plan : WritePlan) → WritesBy config plan → Fits (plan .limit) (length payload) → Sane plan payload
   unfolding writeRegister writeBuffer macWrite sendAccessKey writeMfgInfoC writeMfgInfo writeDataflash writing.planOf frames.countOf frames.isPlain frames.bytesAt registerBytes infoBytes
   sane plan (write-with-retries) h = plain-sane (config .«pec_write») refl h
   sane plan (write-register address) h = one-frame plan refl (λ i. omega arith) (λ i. tt)
-  sane plan (write-register-unchecked address) h = one-frame plan refl (λ i. omega arith) (λ i. tt)
   sane plan (write-buffer address) h = one-frame plan refl (λ i. omega arith) (λ i. tt)
   sane plan (write-security-keys) h = one-frame plan refl (λ i. length-mac mac.SecurityKeys payload (omega arith)) (λ i. tt)
   sane plan (write-authentication-key) h = one-frame plan refl (λ i. length-mac mac.AuthenticationKey payload (omega arith)) (λ i. tt)
   sane plan (write-charging-voltage-override) h = one-frame plan refl (λ i. length-mac mac.ChargingVoltageOverride payload (omega arith)) (λ i. tt)
-  sane plan (send-access-key lower upper) h =
-      record { some = omega arith; few = omega arith; room = λ i. inr (length-half lower upper i); inside = λ i h. tt }
+  sane plan (write-register-unchecked address) h = one-frame plan refl (λ i. omega arith) (λ i. tt)
+  sane plan (send-access-key lower upper) h = key-sane lower upper
+  sane plan (unseal-fg lower upper) h = key-sane lower upper
   sane plan (write-mfg-info-c lower upper) h =
       record { some = omega arith; few = omega arith; room = λ i. inr (length-info lower upper i payload h); inside = λ i h. tt }
   sane plan (write-mfg-info) h = one-frame plan refl (λ i. omega arith) (λ i. tt)
@@ -164,12 +168,13 @@ retries-write : (config : Config) (plan : WritePlan) → WritesBy config plan �
 unfolding writeWithRetries writeRegister writeBuffer macWrite sendAccessKey writeMfgInfoC writeMfgInfo writeDataflash writing.planOf
 retries-write config plan (write-with-retries) = refl
 retries-write config plan (write-register address) = refl
-retries-write config plan (write-register-unchecked address) = refl
 retries-write config plan (write-buffer address) = refl
 retries-write config plan (write-security-keys) = refl
 retries-write config plan (write-authentication-key) = refl
 retries-write config plan (write-charging-voltage-override) = refl
+retries-write config plan (write-register-unchecked address) = refl
 retries-write config plan (send-access-key lower upper) = refl
+retries-write config plan (unseal-fg lower upper) = refl
 retries-write config plan (write-mfg-info-c lower upper) = refl
 retries-write config plan (write-mfg-info) = refl
 retries-write config plan (write-dataflash start) = refl
@@ -242,6 +247,7 @@ module _ (config : Config) (n : ℕ) where
   sane-read plan (read-security-keys) h = one-read plan refl (λ i. tt) (λ i. omega arith)
   sane-read plan (read-authentication-key) h = one-read plan refl (λ i. tt) (λ i. omega arith)
   sane-read plan (read-charging-voltage-override) h = one-read plan refl (λ i. tt) (λ i. omega arith)
+  sane-read plan (read-register-unchecked address) h = one-read plan refl (λ i. tt) (λ i. omega arith)
   sane-read plan (read-mfg-info-c) h = one-read plan refl (λ i. tt) (λ i. whole-asks (config .«pec_read») 32 (omega arith))
   sane-read plan (read-mfg-info) h = one-read plan refl (λ i. tt) (λ i. whole-asks (config .«pec_read») 33 (omega arith))
   sane-read plan (read-dataflash start) h = record {
@@ -259,6 +265,7 @@ retries-read config n plan (dispatch-command address input) = refl
 retries-read config n plan (read-security-keys) = refl
 retries-read config n plan (read-authentication-key) = refl
 retries-read config n plan (read-charging-voltage-override) = refl
+retries-read config n plan (read-register-unchecked address) = refl
 retries-read config n plan (read-mfg-info-c) = refl
 retries-read config n plan (read-mfg-info) = refl
 retries-read config n plan (read-dataflash start) = refl
@@ -349,3 +356,6 @@ reads-within config r buffer plan name w es = by (reading.startOf plan (length b
 
 pub within : Within
 within = record { writing = writes-within; reading = reads-within }
+
+pub stays : Stays
+stays = record { writing = runs.over-stays; reading = kept.over-stays }

@@ -6,22 +6,18 @@ use mathlib.Core.Path.{_≡_}
 use mathlib.Core.Bool.{true, false}
 use mathlib.Core.List.{List, [], _∷_}
 use mathlib.Core.Logic.{_⊎_}
-use lib.ListN.{length, take, drop}
+use lib.ListN.{length}
 use Rattle.protocol.specs.Pick.{if_then_else_}
 use Rattle.protocol.specs.Answer.{numberOf, detailOf}
 use Rattle.protocol.specs.Reply as reply
 use Rattle.protocol.specs.declared.error.Answer.{Answer}
 use Rattle.protocol.specs.declared.error.Answer.the-variants as answer
 use Rattle.engine.specs.Budget.{moreOf}
-use Rattle.engine.specs.declared.budget.Budget.{Budget}
-use Rattle.engine.specs.declared.budget.Tally.{Tally}
 use Rattle.engine.specs.declared.bus.Lent.{Lent}
 use Rattle.engine.specs.declared.bus.Outcome.{Outcome}
 use Rattle.engine.specs.declared.bus.Outcome.the-variants as outcome
 use Rattle.engine.specs.declared.bus.Phase.{Phase}
 use Rattle.engine.specs.declared.bus.Phase.the-variants as phase
-use Rattle.engine.specs.declared.bus.Transfer.{Transfer}
-use Rattle.engine.specs.declared.bus.Transfer.the-variants as transfer
 use Rattle.engine.specs.declared.limit.Limit.{Limit}
 use Rattle.engine.specs.declared.limit.Limit.the-variants as limit
 use Rattle.writing.specs.Frames as frames
@@ -175,38 +171,3 @@ Kept p before after = (p ≡ phase.Waiting → ⊥) → (Says 0 0 p → ⊥) →
 abbrev pub SortR : ReadCall → List ℕ → List ℕ → ReadReported → Type 0
 SortR call before after (read.Refused a same) = OneOf (8 ∷ 9 ∷ 10 ∷ []) (numberOf a) × (same ≡ call) × (after ≡ before)
 SortR call before after (read.Taken next) = (call .phase ≡ phase.Waiting) × Among (0 ∷ 1 ∷ 2 ∷ 3 ∷ []) (next .phase) × Kept (next .phase) before after
-
--- ---- what is shown: an ended call its answer at any lent length, a waiting one 8 where the lengths differ; both spare the work buffer, and a frame lies
--- at its front with nothing else changed there
-
-abbrev pub Shown : Phase → Lent → ℕ → ℕ → List ℕ → List ℕ → Transfer → Type 0
-Shown p lent n w before after (transfer.Ended a) = (p ≡ phase.Ended a) × (after ≡ before)
-Shown p lent n w before after (transfer.Refused a) = (p ≡ phase.Waiting) × (a ≡ answer.WrongBuffer) × (after ≡ before)
-Shown p lent n w before after (transfer.Write count) = (p ≡ phase.Waiting) × Same lent n w × (drop count after ≡ drop count before)
-Shown p lent n w before after (transfer.Read command count) = (p ≡ phase.Waiting) × Same lent n w × (after ≡ before)
-
--- ---- what a report costs a writing call
-
--- a failed attempt takes one retry and one wait; with none left it ends the call, with no wait
-abbrev pub FailedOnce : Budget → Tally → Phase → Budget → Tally → Type 0
-FailedOnce left waits p left′ waits′ =
-    ((p ≡ phase.Waiting) × (left′ .left + 1 ≡ left .left) × (waits′ .waits ≡ moreOf (waits .waits)))
-    ⊎ ((p ≡ phase.Waiting → ⊥) × (left .left ≡ 0) × (waits′ .waits ≡ waits .waits))
-
--- an acknowledged frame is followed by one with a budget of its own; no wait is made for it
-abbrev pub Paid : WriteCall → Outcome → WriteCall → Type 0
-Paid call outcome.Acknowledged next = (next .budget .left ≡ call .task .plan .retries) × (next .tally .waits ≡ call .tally .waits)
-Paid call (outcome.BusError code) next = FailedOnce (call .budget) (call .tally) (next .phase) (next .budget) (next .tally)
-Paid call outcome.Timeout next = FailedOnce (call .budget) (call .tally) (next .phase) (next .budget) (next .tally)
-
-abbrev pub CostW : WriteCall → Outcome → WriteReported → Type 0
-CostW call o (wrote.Refused a same) = Unit {0}
-CostW call o (wrote.Taken next) = Paid call o next
-
--- ---- what a report leaves in a reading call's buffer: a failure or a wrong PEC brings nothing, and the blocks in front stay
-
-pub record Delivers (call : ReadCall) (o : Outcome) (bytes before after : List ℕ) : Type 0 where
-  pub failed-reply : Failure o → after ≡ before
-  pub damaged-reply : Damaged call bytes → after ≡ before
-  pub front : take (call .received * 32) after ≡ take (call .received * 32) before
-  pub size : length after ≡ length before

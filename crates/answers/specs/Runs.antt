@@ -4,7 +4,9 @@ use Prim.Native.Nat.{ℕ, _+_, _≤_}
 use mathlib.Core.Path.{_≡_}
 use mathlib.Core.List.{List, [], _∷_}
 use lib.ListN.{length}
+use Rattle.protocol.specs.declared.error.Answer.{Answer}
 use Rattle.engine.specs.declared.bus.Outcome.{Outcome}
+use Rattle.engine.specs.declared.bus.Phase.the-variants as phase
 use Rattle.writing.specs.Writing as writing
 use Rattle.writing.specs.declared.call.WriteCall.{WriteCall}
 use Rattle.writing.specs.declared.call.WriteReported.{WriteReported}
@@ -71,3 +73,9 @@ pub record TameR (call : ReadCall) : Type 0 where
   pub blocks : call .received ≤ 256
   pub budget : call .tally .waits + call .budget .left ≡ call .task .plan .retries
   pub waits : call .tally .waits ≤ 65535
+
+-- ---- a call that has ended, or was refused at its start, stays as it is, whatever is reported to it; and so does the caller's buffer
+
+pub record Stays : Type 0 where
+  pub writing : (es : List WriteReport) (call : WriteCall) (a : Answer) → call .phase ≡ phase.Ended a → feedW call es ≡ call
+  pub reading : (es : List ReadReport) (r : Reader) (a : Answer) → r .call .phase ≡ phase.Ended a → feedR r es ≡ r

@@ -7,7 +7,6 @@ use mathlib.Core.Bool.{true, false}
 use mathlib.Core.List.{List}
 use mathlib.Core.Logic.{_⊎_}
 use lib.ListN.{length, drop}
-use Rattle.protocol.specs.Common.{noPec}
 use Rattle.protocol.specs.Reply as reply
 use Rattle.protocol.specs.declared.common.Config.{Config}
 use Rattle.protocol.specs.declared.error.Answer.the-variants as answer
@@ -24,7 +23,7 @@ use Rattle.reading.specs.Reading as reading
 use Rattle.reading.specs.declared.call.ReadPlan.{ReadPlan}
 use Rattle.reading.specs.declared.call.ReadCall.{ReadCall}
 use Rattle.interface.specs.Plans.{writeWithRetries, writeRegister, readRegister, dispatchCommand, readBuffer, writeBuffer}
-use Rattle.r5.specs.Plans.{readSecurityKeys, writeSecurityKeys, readAuthenticationKey, writeAuthenticationKey, readChargingVoltageOverride, writeChargingVoltageOverride, sendAccessKey, writeMfgInfoC, readMfgInfoC, writeMfgInfo, readMfgInfo, readDataflash, writeDataflash}
+use Rattle.r5.specs.Plans.{readSecurityKeys, writeSecurityKeys, readAuthenticationKey, writeAuthenticationKey, readChargingVoltageOverride, writeChargingVoltageOverride, readRegisterUnchecked, writeRegisterUnchecked, sendAccessKey, unsealFg, writeMfgInfoC, readMfgInfoC, writeMfgInfo, readMfgInfo, readDataflash, writeDataflash}
 use Rattle.answers.specs.Runs.{WriteReport, feedW, TameW, ReadReport, Reader, feedR, TameR}
 
 -- block i of a data-flash transfer of n bytes lies in the window
@@ -40,12 +39,13 @@ Inside (limit.Command input) n i = Unit {0}
 pub data WritesBy (config : Config) : WritePlan → Type 0 where
   write-with-retries : WritesBy config (writeWithRetries config)
   write-register : (address : ℕ) → WritesBy config (writeRegister config address)
-  write-register-unchecked : (address : ℕ) → WritesBy config (writeRegister (noPec config) address)
   write-buffer : (address : ℕ) → WritesBy config (writeBuffer config address)
   write-security-keys : WritesBy config (writeSecurityKeys config)
   write-authentication-key : WritesBy config (writeAuthenticationKey config)
   write-charging-voltage-override : WritesBy config (writeChargingVoltageOverride config)
-  send-access-key : (lower upper : ℕ) → WritesBy config (sendAccessKey config lower upper)  -- and unseal_fg
+  write-register-unchecked : (address : ℕ) → WritesBy config (writeRegisterUnchecked config address)
+  send-access-key : (lower upper : ℕ) → WritesBy config (sendAccessKey config lower upper)
+  unseal-fg : (lower upper : ℕ) → WritesBy config (unsealFg config lower upper)
   write-mfg-info-c : (lower upper : ℕ) → WritesBy config (writeMfgInfoC config lower upper)
   write-mfg-info : WritesBy config (writeMfgInfo config)
   write-dataflash : (start : ℕ) → WritesBy config (writeDataflash config start)
@@ -64,11 +64,12 @@ pub record WritesWithin (plan : WritePlan) (payload : List ℕ) (w : ℕ) (call 
 
 pub data ReadsBy (config : Config) (n : ℕ) : ReadPlan → Type 0 where
   read-register : (address : ℕ) → ReadsBy config n (readRegister config address n)
-  read-buffer : (address : ℕ) → ReadsBy config n (readBuffer config address n)  -- and read_register_unchecked
+  read-buffer : (address : ℕ) → ReadsBy config n (readBuffer config address n)
   dispatch-command : (address input : ℕ) → ReadsBy config n (dispatchCommand config address input n)
   read-security-keys : ReadsBy config n (readSecurityKeys config)
   read-authentication-key : ReadsBy config n (readAuthenticationKey config)
   read-charging-voltage-override : ReadsBy config n (readChargingVoltageOverride config)
+  read-register-unchecked : (address : ℕ) → ReadsBy config n (readRegisterUnchecked config address n)
   read-mfg-info-c : ReadsBy config n (readMfgInfoC config n)
   read-mfg-info : ReadsBy config n (readMfgInfo config n)
   read-dataflash : (start : ℕ) → ReadsBy config n (readDataflash config start)

@@ -6,9 +6,11 @@ use Rattle.answers.proofs.Writing.{writes}
 use Rattle.answers.proofs.Reading.{reads}
 use Rattle.answers.proofs.Sorts.{sort-w, sort-r, shows-w, shows-r}
 use Rattle.answers.proofs.Calls.{starts-as, limits}
-use Rattle.answers.proofs.Costs.{cost-w, delivers}
+use Rattle.answers.proofs.Costs.{cost-w, cost-r, delivers}
+use Rattle.answers.proofs.Hands.{hands-out}
+use Rattle.answers.proofs.Unique.{unique}
 use Rattle.answers.proofs.Unlooked.{unlooked-w, unlooked-r}
-use Rattle.answers.proofs.Within.{within}
+use Rattle.answers.proofs.Within.{stays, within}
 use Rattle.promises.specs.Demand1.{Demand1}
 
 pub demand1 : Demand1
@@ -24,8 +26,12 @@ demand1 = record {
   refused-w = sort-w;
   refused-r = sort-r;
   costs-w = cost-w;
+  costs-r = cost-r;
   delivers = delivers;
   shown-w = shows-w;
   shown-r = shows-r;
+  stays = stays;
+  hands-out = hands-out;
   within = within;
+  unique = unique;
 }

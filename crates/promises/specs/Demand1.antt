@@ -15,8 +15,11 @@ use Rattle.writing.specs.Writing as writing
 use Rattle.writing.specs.declared.call.WriteCall.{WriteCall}
 use Rattle.reading.specs.Reading as reading
 use Rattle.reading.specs.declared.call.ReadCall.{ReadCall}
-use Rattle.answers.specs.Rows.{Numbers, Says, Starts, Failure, saidW, saidR, Writes, Reads, SortW, SortR, Shown, CostW, Delivers}
+use Rattle.answers.specs.Rows.{Numbers, Says, Starts, Failure, saidW, saidR, Writes, Reads, SortW, SortR}
+use Rattle.answers.specs.Steps.{Shown, HandsOut, CostW, CostR, Delivers}
 use Rattle.answers.specs.Calls.{Admitted, Limits}
+use Rattle.answers.specs.Runs.{Stays}
+use Rattle.answers.specs.Unique.{Unique}
 use Rattle.answers.specs.Within.{Within}
 
 pub record Demand1 : Type 0 where
@@ -38,13 +41,21 @@ pub record Demand1 : Type 0 where
   pub refused-w : (call : WriteCall) (o : Outcome) (r n w : ℕ) → SortW call (writing.reportOf call o r n w)
   pub refused-r : (call : ReadCall) (o : Outcome) (bytes buffer : List ℕ) (w : ℕ)
       → SortR call buffer (reading.bufferAfter call o bytes buffer w) (reading.reportOf call o bytes (length buffer) w)
-  -- what a report costs: retries and waits; and what it leaves in the caller's buffer
+  -- what a report costs: retries and waits, and what is due after it
   pub costs-w : (call : WriteCall) (o : Outcome) (r n w : ℕ) → CostW call o (writing.reportOf call o r n w)
+  pub costs-r : (call : ReadCall) (o : Outcome) (bytes : List ℕ) (n w : ℕ) → CostR call o bytes (reading.reportOf call o bytes n w)
+  -- what a report leaves in the caller's buffer
   pub delivers : (call : ReadCall) (buffer : List ℕ) (o : Outcome) (bytes : List ℕ) (w : ℕ) → Delivers call o bytes buffer (reading.bufferAfter call o bytes buffer w)
   -- what is shown, and when the work buffer is spared
   pub shown-w : (call : WriteCall) (payload work : List ℕ)
       → Shown (call .phase) (call .task .lent) (length payload) (length work) work (writing.workAfter call payload work) (writing.nextOf call payload (length work))
   pub shown-r : (call : ReadCall) (n : ℕ) (work : List ℕ)
       → Shown (call .phase) (call .task .lent) n (length work) work (reading.workAfter call n work) (reading.nextOf call n (length work))
+  -- an answer stands: no report changes a call that has ended or was refused, nor the buffer
+  pub stays : Stays
+  -- each call by name, however it is fed: what it hands out to be sent, and when it shows 8
+  pub hands-out : HandsOut
   -- each call by name, however it is fed: it has a next transfer until it ends, no counter saturates, and an ending other than 0 leaves the buffer past whole blocks as it was
   pub within : Within
+  -- each contract has one answer
+  pub unique : Unique

@@ -1,0 +1,147 @@
+-- What a step does to what is lent, and what it costs. (01, The step machine; Frames and retries)
+-- Assumes nothing.
+use Prim.Native.Nat.{ℕ, _+_, _*_, _≤_}
+use mathlib.Core.Path.{_≡_}
+use mathlib.Core.Bool.{Bool, true, false}
+use mathlib.Core.List.{List}
+use mathlib.Core.Logic.{_⊎_, _↔_}
+use lib.ListN.{length, take, drop}
+use Rattle.protocol.specs.Answer.{numberOf}
+use Rattle.protocol.specs.declared.common.Config.{Config}
+use Rattle.protocol.specs.declared.error.Answer.the-variants as answer
+use Rattle.engine.specs.Budget.{moreOf}
+use Rattle.engine.specs.declared.budget.Budget.{Budget}
+use Rattle.engine.specs.declared.budget.Tally.{Tally}
+use Rattle.engine.specs.declared.bus.Lent.{Lent}
+use Rattle.engine.specs.declared.bus.Outcome.{Outcome}
+use Rattle.engine.specs.declared.bus.Outcome.the-variants as outcome
+use Rattle.engine.specs.declared.bus.Phase.{Phase}
+use Rattle.engine.specs.declared.bus.Phase.the-variants as phase
+use Rattle.engine.specs.declared.bus.Transfer.{Transfer}
+use Rattle.engine.specs.declared.bus.Transfer.the-variants as transfer
+use Rattle.writing.specs.Writing as writing
+use Rattle.writing.specs.declared.call.WritePlan.{WritePlan}
+use Rattle.writing.specs.declared.call.WriteCall.{WriteCall}
+use Rattle.writing.specs.declared.call.WriteReported.{WriteReported}
+use Rattle.writing.specs.declared.call.WriteReported.the-variants as wrote
+use Rattle.reading.specs.Reading as reading
+use Rattle.reading.specs.declared.parts.Head.the-variants as head
+use Rattle.reading.specs.declared.call.ReadPlan.{ReadPlan}
+use Rattle.reading.specs.declared.call.ReadCall.{ReadCall}
+use Rattle.reading.specs.declared.call.ReadReported.{ReadReported}
+use Rattle.reading.specs.declared.call.ReadReported.the-variants as read
+use Rattle.answers.specs.Rows.{Same, Failure, Damaged, made}
+use Rattle.answers.specs.Runs.{WriteReport, feedW, ReadReport, feedR}
+use Rattle.answers.specs.Within.{WritesBy, write-with-retries, write-register, write-buffer, write-security-keys, write-authentication-key, write-charging-voltage-override, write-register-unchecked, send-access-key, unseal-fg, write-mfg-info-c, write-mfg-info, write-dataflash, ReadsBy}
+
+-- ---- what is shown: an ended call its answer at any lent length, a waiting one a transfer at the lengths of the start, or 8; a frame lies at the front of
+-- the work buffer with nothing else changed there, and all else spares it
+
+abbrev pub Shown : Phase → Lent → ℕ → ℕ → List ℕ → List ℕ → Transfer → Type 0
+Shown p lent n w before after (transfer.Ended a) = (p ≡ phase.Ended a) × (after ≡ before)
+Shown p lent n w before after (transfer.Refused a) = (p ≡ phase.Waiting) × (numberOf a ≡ 8) × (after ≡ before)
+Shown p lent n w before after (transfer.Write count) = (p ≡ phase.Waiting) × Same lent n w × (drop count after ≡ drop count before)
+Shown p lent n w before after (transfer.Read command count) = (p ≡ phase.Waiting) × Same lent n w × (after ≡ before)
+
+-- ---- what is handed out to be sent, by the call's name
+
+-- every frame is built in the work buffer, but that of a plain write with `pec_write` off, which the caller built
+abbrev pub builds : (config : Config) (plan : WritePlan) → WritesBy config plan → Bool
+builds config plan (write-with-retries) = config .«pec_write»
+builds config plan (write-register address) = true
+builds config plan (write-buffer address) = true
+builds config plan (write-security-keys) = true
+builds config plan (write-authentication-key) = true
+builds config plan (write-charging-voltage-override) = true
+builds config plan (write-register-unchecked address) = true
+builds config plan (send-access-key lower upper) = true
+builds config plan (unseal-fg lower upper) = true
+builds config plan (write-mfg-info-c lower upper) = true
+builds config plan (write-mfg-info) = true
+builds config plan (write-dataflash start) = true
+
+-- the part to send has the n bytes that were shown. Of a frame that is built it is the front of the work buffer, and nothing else has changed there;
+-- otherwise it is the caller's own bytes, all of them, and the work buffer is as it was
+abbrev pub Handed : Bool → List ℕ → List ℕ → List ℕ → ℕ → List ℕ → Type 0
+Handed true payload before after n part = (length part ≡ n) × (part ≡ take n after) × (drop n after ≡ drop n before) × (length after ≡ length before)
+Handed false payload before after n part = (length part ≡ n) × (part ≡ payload) × (after ≡ before)
+
+-- of a call that stands at p and was started at these lengths
+pub record Hands (built : Bool) (p : Phase) (lent : Lent) (payload before after : List ℕ) (part : ℕ → List ℕ) (shown : Transfer) : Type 0 where
+  -- a waiting call shows 8 exactly where the lent lengths differ
+  pub refuses : (shown ≡ transfer.Refused answer.WrongBuffer) ↔ ((p ≡ phase.Waiting) × (Same lent (length payload) (length before) → ⊥))
+  -- what it shows as a write is handed out
+  pub hands : (n : ℕ) → shown ≡ transfer.Write n → Handed built payload before after n (part n)
+
+abbrev pub HandsW : Bool → Lent → WriteCall → List ℕ → List ℕ → Type 0
+HandsW built lent call payload work =
+    Hands built (call .phase) lent payload work (writing.workAfter call payload work) (writing.partOf call payload (writing.workAfter call payload work))
+    (writing.nextOf call payload (length work))
+
+-- a head is built; of the buffer only the length is looked at
+abbrev pub HandsR : Lent → ReadCall → List ℕ → List ℕ → Type 0
+HandsR lent call buffer work =
+    Hands true (call .phase) lent buffer work (reading.workAfter call (length buffer) work) (λ n. take n (reading.workAfter call (length buffer) work))
+    (reading.nextOf call (length buffer) (length work))
+
+-- each call, started at any lengths and however it is fed, whatever is lent then
+pub record HandsOut : Type 0 where
+  pub writing : (config : Config) → config .«max_bus_retries» ≤ 65535 → (plan : WritePlan) (name : WritesBy config plan) (n w : ℕ) (es : List WriteReport)
+      → (payload work : List ℕ) → HandsW (builds config plan name) (record { length = n; work = w }) (feedW (writing.startOf plan n w) es) payload work
+  pub reading : (config : Config) → config .«max_bus_retries» ≤ 65535 → (start : List ℕ) (plan : ReadPlan) → ReadsBy config (length start) plan
+      → (w : ℕ) (es : List ReadReport) (buffer work : List ℕ)
+      → HandsR (record { length = length start; work = w }) (feedR (record { call = reading.startOf plan (length start) w; buffer = start }) es .call) buffer work
+
+-- ---- what a report costs
+
+-- a failed attempt takes one retry and one wait; with none left it ends the call, with no wait
+abbrev pub FailedOnce : Budget → Tally → Phase → Budget → Tally → Type 0
+FailedOnce left waits p left′ waits′ =
+    ((p ≡ phase.Waiting) × (left′ .left + 1 ≡ left .left) × (waits′ .waits ≡ moreOf (waits .waits)))
+    ⊎ ((p ≡ phase.Waiting → ⊥) × (left .left ≡ 0) × (waits′ .waits ≡ waits .waits))
+
+-- of a write, after a failed attempt the same frame is due
+abbrev pub MissedW : WriteCall → WriteCall → Type 0
+MissedW call next = FailedOnce (call .budget) (call .tally) (next .phase) (next .budget) (next .tally) × (next .sent ≡ call .sent)
+
+-- an acknowledged frame is one more sent, and is followed by one with a budget of its own; no wait is made for it
+abbrev pub PaidW : WriteCall → Outcome → WriteCall → Type 0
+PaidW call outcome.Acknowledged next =
+    (next .budget .left ≡ call .task .plan .retries) × (next .tally .waits ≡ call .tally .waits) × (next .sent ≡ moreOf (call .sent))
+PaidW call (outcome.BusError code) next = MissedW call next
+PaidW call outcome.Timeout next = MissedW call next
+
+-- a refused report costs nothing (`SortW`); none that is taken changes what the call was started for
+abbrev pub CostW : WriteCall → Outcome → WriteReported → Type 0
+CostW call o (wrote.Refused a same) = Unit {0}
+CostW call o (wrote.Taken next) = (next .task ≡ call .task) × PaidW call o next
+
+-- of a read, after a failed attempt the head is due again exactly where there is one, with as many blocks received
+abbrev pub MissedR : ReadCall → ReadCall → Type 0
+MissedR call next =
+    FailedOnce (call .budget) (call .tally) (next .phase) (next .budget) (next .tally)
+    × (next .phase ≡ phase.Waiting → (next .heading ≡ false) ↔ (call .task .plan .head ≡ head.Bare))
+    × (next .received ≡ call .received)
+
+-- an acknowledged head or a believed reply leaves the budget of the whole call as it was, with no wait, and no head is due; a reply is one block more
+abbrev pub HeardR : ReadCall → ReadCall → Type 0
+HeardR call next =
+    (next .budget .left ≡ call .budget .left) × (next .tally .waits ≡ call .tally .waits) × (next .heading ≡ false) × (next .received ≡ made call)
+
+-- a read whose PEC differs is a failed attempt
+abbrev pub PaidR : ReadCall → Outcome → List ℕ → ReadCall → Type 0
+PaidR call outcome.Acknowledged bytes next = (Damaged call bytes → MissedR call next) × ((Damaged call bytes → ⊥) → HeardR call next)
+PaidR call (outcome.BusError code) bytes next = MissedR call next
+PaidR call outcome.Timeout bytes next = MissedR call next
+
+abbrev pub CostR : ReadCall → Outcome → List ℕ → ReadReported → Type 0
+CostR call o bytes (read.Refused a same) = Unit {0}
+CostR call o bytes (read.Taken next) = (next .task ≡ call .task) × PaidR call o bytes next
+
+-- ---- what a report leaves in a reading call's buffer: a failure or a wrong PEC brings nothing, and the blocks in front stay
+
+pub record Delivers (call : ReadCall) (o : Outcome) (bytes before after : List ℕ) : Type 0 where
+  pub failed-reply : Failure o → after ≡ before
+  pub damaged-reply : Damaged call bytes → after ≡ before
+  pub front : take (call .received * 32) after ≡ take (call .received * 32) before
+  pub size : length after ≡ length before
