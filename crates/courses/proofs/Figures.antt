@@ -34,7 +34,7 @@ unfolding if_then_else_
 either true s e = refl
 either false s e = e
 
-not-sound : (front back : List ℕ) (byte : ℕ) → 2 < byte → soundOf (front ++ byte ∷ back) ≡ false
+pub not-sound : (front back : List ℕ) (byte : ℕ) → 2 < byte → soundOf (front ++ byte ∷ back) ≡ false
 unfolding soundOf if_then_else_
 not-sound [] back byte h = rw (lt-ltb 2 byte h)
 not-sound (x ∷ front) back byte h = either (ltb 2 x) (soundOf (front ++ byte ∷ back)) (not-sound front back byte h)

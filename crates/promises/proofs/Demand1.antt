@@ -12,6 +12,7 @@ use Rattle.answers.proofs.Unique.{unique}
 use Rattle.answers.proofs.Unlooked.{unlooked-w, unlooked-r}
 use Rattle.answers.proofs.Within.{stays, within}
 use Rattle.promises.specs.Demand1.{Demand1}
+use Rattle.promises.proofs.CourseRows.{course-rows}
 
 pub demand1 : Demand1
 demand1 = record {
@@ -33,5 +34,6 @@ demand1 = record {
   stays = stays;
   hands-out = hands-out;
   within = within;
+  courses = course-rows;
   unique = unique;
 }

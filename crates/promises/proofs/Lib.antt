@@ -14,6 +14,7 @@ pub mod Hosted
 pub mod Host
 pub mod Demand3
 pub mod Courses
+pub mod CourseRows
 pub mod Replies
 pub mod ReadSteps
 pub mod Reading

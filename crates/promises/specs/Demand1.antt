@@ -21,6 +21,7 @@ use Rattle.answers.specs.Calls.{Admitted, Limits}
 use Rattle.answers.specs.Runs.{Stays}
 use Rattle.answers.specs.Unique.{Unique}
 use Rattle.answers.specs.Within.{Within}
+use Rattle.promises.specs.CourseRows.{CourseRows}
 
 pub record Demand1 : Type 0 where
   -- the answers' numbers and details
@@ -57,5 +58,7 @@ pub record Demand1 : Type 0 where
   pub hands-out : HandsOut
   -- each call by name, however it is fed: it has a next transfer until it ends, no counter saturates, and an ending other than 0 leaves the buffer past whole blocks as it was
   pub within : Within
+  -- rows 8 and 11 of a run over a course, by a call that waits
+  pub courses : CourseRows
   -- each contract has one answer
   pub unique : Unique

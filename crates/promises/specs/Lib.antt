@@ -7,4 +7,5 @@ pub mod Writes
 pub mod Demand3
 pub mod Worked3
 pub mod Courses
+pub mod CourseRows
 pub mod Reading
