@@ -48,14 +48,14 @@ module _ (start : ℕ) where
   abbrev address : Bool → ℕ → List ℕ
   address pec at = if pec then withPec (0x44 ∷ 2 ∷ toLeBytes (start + at)) else (0x44 ∷ 2 ∷ toLeBytes (start + at))
 
-  abbrev count : Bool → ℕ → ℕ
+  abbrev pub count : Bool → ℕ → ℕ
   count pec left = if pec then 36 else min 35 (left + 2 + 1)
 
-  abbrev bad : Bool → List ℕ → Bool
+  abbrev pub bad : Bool → List ℕ → Bool
   bad pec reply = pec && not (eqb (getD reply 35 0) (pecOf 0 (0x16 ∷ 0x44 ∷ 0x17 ∷ take 35 reply)))
 
   -- a chunk of k bytes of a reply, where it belongs
-  abbrev placed : ℕ → ℕ → List ℕ → List ℕ → List ℕ
+  abbrev pub placed : ℕ → ℕ → List ℕ → List ℕ → List ℕ
   placed at k reply buffer = take at buffer ++ take k (drop 3 reply) ++ drop (at + k) buffer
 
   pub loop-done : (pec : Bool) (retries : ℕ) (buffer : List ℕ) (bytesRead : ℕ) (sendAddress : Bool) (log : Log) (outcomes : List BusOutcome) → length buffer ≤ bytesRead
@@ -67,12 +67,12 @@ module _ (start : ℕ) where
   loop-done false retries buffer bytesRead sendAddress log (o ∷ outcomes) h = rw (le-leb (length buffer) bytesRead h)
 
   module _ (retries : ℕ) (buffer : List ℕ) (bytesRead : ℕ) (log : Log) (more : bytesRead < length buffer) where
-    address-waits : (pec : Bool) → start + bytesRead ≤ 0xFFFF → loop pec retries buffer bytesRead true log [] ≡ Waiting (made (write (address pec bytesRead)) log) leaving buffer
+    pub address-waits : (pec : Bool) → start + bytesRead ≤ 0xFFFF → loop pec retries buffer bytesRead true log [] ≡ Waiting (made (write (address pec bytesRead)) log) leaving buffer
     unfolding loop readChunks readChunksPec if_then_else_
     address-waits true h = rw (lt-leb (length buffer) bytesRead more, le-ltb 0xFFFF (start + bytesRead) h)
     address-waits false h = rw (lt-leb (length buffer) bytesRead more, le-ltb 0xFFFF (start + bytesRead) h)
 
-    address-turn : (pec : Bool) (o : BusOutcome) (outcomes : List BusOutcome) → start + bytesRead ≤ 0xFFFF
+    pub address-turn : (pec : Bool) (o : BusOutcome) (outcomes : List BusOutcome) → start + bytesRead ≤ 0xFFFF
         → loop pec retries buffer bytesRead true log (o ∷ outcomes)
         ≡ (busOp o
         err (λ e. if eqb retries 0 then Err e (made (write (address pec bytesRead)) log) outcomes leaving buffer
@@ -82,12 +82,12 @@ module _ (start : ℕ) where
     address-turn true o outcomes h = rw (lt-leb (length buffer) bytesRead more, le-ltb 0xFFFF (start + bytesRead) h)
     address-turn false o outcomes h = rw (lt-leb (length buffer) bytesRead more, le-ltb 0xFFFF (start + bytesRead) h)
 
-    read-waits : (pec : Bool) → loop pec retries buffer bytesRead false log [] ≡ Waiting (made (read 0x44 (count pec (length buffer - bytesRead))) log) leaving buffer
+    pub read-waits : (pec : Bool) → loop pec retries buffer bytesRead false log [] ≡ Waiting (made (read 0x44 (count pec (length buffer - bytesRead))) log) leaving buffer
     unfolding loop readChunks readChunksPec if_then_else_
     read-waits true = rw (lt-leb (length buffer) bytesRead more)
     read-waits false = rw (lt-leb (length buffer) bytesRead more)
 
-    read-turn : (pec : Bool) (o : BusOutcome) (outcomes : List BusOutcome)
+    pub read-turn : (pec : Bool) (o : BusOutcome) (outcomes : List BusOutcome)
         → loop pec retries buffer bytesRead false log (o ∷ outcomes)
         ≡ (busOp o
         err (λ e. if eqb retries 0 then Err e (made (read 0x44 (count pec (length buffer - bytesRead))) log) outcomes leaving buffer

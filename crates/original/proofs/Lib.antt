@@ -12,3 +12,6 @@ pub mod FlashRead
 pub mod WriteCalls
 pub mod ReadCalls
 pub mod Equal
+pub mod Brought
+pub mod ReadFronts
+pub mod Fronts

@@ -55,6 +55,14 @@ mac-head mac.AuthenticationKey = refl
 mac-head mac.ChargingVoltageOverride = refl
 mac-head mac.MfgInfoC = refl
 
+-- read_dataflash is one loop or the other
+pub read-dataflash-by : (config : Config) (outcomes : List BusOutcome) (start : ℕ) (buffer : List ℕ) (pec : Bool) → config .«pec_read» ≡ pec
+    → (if rust.checkDfRange start (length buffer) then flash-read.loop start (config .«pec_read») (config .«max_bus_retries») buffer 0 true begun outcomes else Err answer.DataFlashAddressOutOfRange begun outcomes leaving buffer)
+    ≡ rust-r5.readDataflash config start buffer begun outcomes
+unfolding flash-read.loop if_then_else_ rust.macReadFromDfWithRetries rust.macReadFromDfWithRetriesPec rust-r5.readDataflash
+read-dataflash-by config outcomes start buffer true p = rw p
+read-dataflash-by config outcomes start buffer false p = rw p
+
 module _ (config : Config) (small : config .«max_bus_retries» ≤ 65535) (w : ℕ) (roomy : 39 ≤ w) (lent : ℕ → Lending) (steady : Lends w lent) (outcomes : List BusOutcome) where
   -- a plain read that is admitted, into bytes of its own that are copied
   plain : (l : Limit) (command : ℕ) (buffer inner : List ℕ) (pec : Bool) → measured l (length buffer) ≡ phase.Waiting → length buffer ≤ length inner → (if pec then length inner + 1 else length inner) ≤ 18446744073709551615
@@ -179,15 +187,8 @@ module _ (config : Config) (small : config .«max_bus_retries» ≤ 65535) (w : 
       ∙ flash-read.same start (config .«max_bus_retries») (limit.Window start) (length buffer) w lent steady roomy (far .0) (far .1) outcomes (config .«pec_read») true 0 (config .«max_bus_retries») 0 buffer [] refl some (omega arith)
       ∙ rw (range-window, t)
 
-  read-dataflash-by : (start : ℕ) (buffer : List ℕ) (pec : Bool) → config .«pec_read» ≡ pec
-      → (if rust.checkDfRange start (length buffer) then flash-read.loop start (config .«pec_read») (config .«max_bus_retries») buffer 0 true begun outcomes else Err answer.DataFlashAddressOutOfRange begun outcomes leaving buffer)
-      ≡ rust-r5.readDataflash config start buffer begun outcomes
-  unfolding flash-read.loop if_then_else_ rust.macReadFromDfWithRetries rust.macReadFromDfWithRetriesPec rust-r5.readDataflash
-  read-dataflash-by start buffer true p = rw p
-  read-dataflash-by start buffer false p = rw p
-
   pub read-dataflash : (start : ℕ) (buffer : List ℕ) → reads (machine-r5.readDataflash config start) buffer w lent outcomes ≡ rust-r5.readDataflash config start buffer begun outcomes
-  read-dataflash start buffer = dataflash-by start buffer (inWindow start (length buffer)) refl (eqb (length buffer) 0) refl ∙ read-dataflash-by start buffer (config .«pec_read») refl
+  read-dataflash start buffer = dataflash-by start buffer (inWindow start (length buffer)) refl (eqb (length buffer) 0) refl ∙ read-dataflash-by config outcomes start buffer (config .«pec_read») refl
 
   -- a command that is admitted: a write where there is no output, a read behind its frame where there is
   dispatched : (address : ℕ) (input output : List ℕ) → measured (limit.Command (length input)) (length output) ≡ phase.Waiting → length output ≤ 32 → (n : Bool) → eqb (length output) 0 ≡ n
