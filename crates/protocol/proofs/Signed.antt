@@ -1,8 +1,8 @@
 -- A signed figure of 16 bits by its sign: at or above 0 it is a number, below 0 it is -1 - n.
 -- Assumes nothing.
-use Prim.Native.Nat.{ℕ, zero, suc, _+_, _-_, _*_, _/_, _%_, _<_}
+use Prim.Native.Nat.{ℕ, zero, suc, _-_, _<_}
 use mathlib.Core.Path.{_≡_, refl, sym}
-use mathlib.Core.Bool.{Bool, true, false, false≢true}
+use mathlib.Core.Bool.{true, false, false≢true}
 use native.Mathlib.Nat.{zero-add, not-suc-le-zero}
 use native.Mathlib.Omega.{arith}
 use lib.Dec.{ltb}
@@ -11,9 +11,8 @@ use lib.Signed.{ltZ}
 use mir.Syntax.{w16}
 use mir.Val.{SFits, ofZ, toZ}
 use mir.ValLaws.{toZ-ofZ, toZ-pos}
-use borrow.Author.Tests.{ltb-true, lt-ltb, le-ltb}
-use Rattle.protocol.specs.Pick.{if_then_else_}
-use Rattle.protocol.specs.Voltage.{bitsOf, figureOf}
+use borrow.Author.Tests.{ltb-true, le-ltb}
+use Rattle.protocol.specs.Voltage.{bitsOf}
 
 -- -1 - z for each sign of z
 pub minus-negsuc : (n : ℕ) → negsuc 0 -ℤ negsuc n ≡ pos n
@@ -72,26 +71,3 @@ other m h =
     let e : negsuc 0 -ℤ toZ w16 m ≡ negsuc m = rw (toZ-pos w16 m h) (minus-pos m) in
     let f : SFits w16 (negsuc m) = record { sfits = h } in
     record { is = e; fits = f; read = rw e (toZ-ofZ w16 (negsuc m) f) }
-
--- a figure's two bytes read back, over the whole range
-pub figure-back : (z : ℤ) → SFits w16 z → figureOf (bitsOf z % 256) (bitsOf z / 256 % 256) ≡ z
-unfolding bitsOf figureOf if_then_else_
-figure-back (pos n) f =
-    let h : n < 32768 = f .sfits in
-    let e : n / 256 % 256 * 256 + n % 256 ≡ n = omega arith in
-    rw (e, lt-ltb n 32768 h)
-figure-back (negsuc n) f =
-    let h : n < 32768 = f .sfits in
-    let e : (65535 - n) / 256 % 256 * 256 + (65535 - n) % 256 ≡ 65535 - n = omega arith in
-    let t : ltb (65535 - n) 32768 ≡ false = le-ltb (65535 - n) 32768 (omega arith) in
-    let b : 65535 - (65535 - n) ≡ n = omega arith in
-    rw (e, t, b)
-
--- and two bytes made of the figure that they are
-pub bits-back : (low high : ℕ) → low < 256 → high < 256 → bitsOf (figureOf low high) ≡ high * 256 + low
-unfolding bitsOf figureOf if_then_else_
-bits-back low high hl hh = by (ltb (high * 256 + low) 32768)
-  where
-    by : (t : Bool) → bitsOf (if t then pos (high * 256 + low) else negsuc (65535 - (high * 256 + low))) ≡ high * 256 + low
-    by true = refl
-    by false = omega arith

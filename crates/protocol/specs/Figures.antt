@@ -1,4 +1,4 @@
--- The figures of document 01 on each side of a line: PECs and windows, as one table under one statement.
+-- The figures of document 01 on each side of a line: PECs, windows and the settings that a driver starts with, as one table under one statement.
 -- Assumes nothing.
 use mathlib.Core.Path.{_≡_, refl}
 use mathlib.Core.Bool.{Bool, true, false, _&&_}
@@ -6,6 +6,7 @@ use mathlib.Core.List.{List, [], _∷_, map}
 use Prim.Native.Nat.{ℕ}
 use lib.Dec.{eqb}
 use Rattle.smbus_pec.specs.Pec.{bitStep, bitSteps, byteStep, pecOf}
+use Rattle.protocol.specs.Common.{defaultConfig}
 use Rattle.protocol.specs.Window.{inWindow}
 
 pub data Figure : Type 0 where
@@ -13,6 +14,8 @@ pub data Figure : Type 0 where
   pec : List ℕ → ℕ → Figure
   -- a start, a length, and whether they pass
   window : ℕ → ℕ → Bool → Figure
+  -- the settings that a driver starts with: retries, a PEC on what it writes, on what it reads (common.rs, Config)
+  settings : ℕ → Bool → Bool → Figure
 
 abbrev pub figures : List Figure
 figures =
@@ -30,6 +33,7 @@ figures =
     ∷ window 0x4000 8193 false
     ∷ window 0xFFFF 0 true
     ∷ window 0xFFFF 2 false
+    ∷ settings 3 false false
     ∷ []
 
 abbrev same : Bool → Bool → Bool
@@ -41,6 +45,8 @@ same false false = true
 abbrev pub right : Figure → Bool
 right (pec s p) = eqb (pecOf 0 s) p
 right (window start len passes) = same (inWindow start len) passes
+right (settings retries write read) =
+    eqb (defaultConfig .«max_bus_retries») retries && same (defaultConfig .«pec_write») write && same (defaultConfig .«pec_read») read
 
 abbrev pub all : List Bool → Bool
 all [] = true

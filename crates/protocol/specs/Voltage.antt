@@ -1,9 +1,10 @@
 -- The charging voltage override's figures. (01, Keys; common.rs, ChargingVoltageOverride; r5.rs, to_le_bytes and from_le_bytes)
 -- Assumes nothing.
-use Prim.Native.Nat.{ℕ, _+_, _-_, _*_}
+use Prim.Native.Nat.{ℕ, _+_, _-_, _*_, _/_, _%_, _<_}
+use mathlib.Core.Path.{_≡_}
 use lib.IntN.{ℤ, pos, negsuc}
 use mathlib.Core.List.{List, _++_}
-use lib.ListN.{getD}
+use lib.ListN.{length, getD}
 use lib.Dec.{ltb}
 use Rattle.protocol.specs.Pick.{if_then_else_}
 use Rattle.protocol.specs.Frame.{pairOf}
@@ -37,3 +38,22 @@ overrideOf s = record {
   «hi_temp_chrg_mv» = figureOf (getD s 6 0) (getD s 7 0);
   «recommended_temp_chrg_mv» = figureOf (getD s 8 0) (getD s 9 0);
 }
+
+-- ---- there and back, over the whole range
+
+-- a figure of 16 bits: from -32,768 to 32,767
+abbrev pub InRange : ℤ → Type 0
+InRange (pos n) = n < 32768
+InRange (negsuc n) = n < 32768
+
+pub record BothWays : Type 0 where
+  -- a figure comes back from its two bytes
+  pub figure-back : (z : ℤ) → InRange z → figureOf (bitsOf z % 256) (bitsOf z / 256 % 256) ≡ z
+  -- and two bytes from the figure that they are
+  pub bits-back : (low high : ℕ) → low < 256 → high < 256 → InRange (figureOf low high) × (bitsOf (figureOf low high) ≡ high * 256 + low)
+  -- an override comes back from its ten bytes
+  pub override-back : (v : ChargingVoltageOverride)
+      → InRange (v .«low_temp_chrg_mv») → InRange (v .«std_low_temp_chrg_mv») → InRange (v .«std_hi_temp_chrg_mv») → InRange (v .«hi_temp_chrg_mv»)
+      → InRange (v .«recommended_temp_chrg_mv») → overrideOf (overrideBytes v) ≡ v
+  -- and ten bytes from the override that they are
+  pub bytes-back : (s : List ℕ) → length s ≡ 10 → ((i : ℕ) → getD s i 0 < 256) → overrideBytes (overrideOf s) ≡ s
