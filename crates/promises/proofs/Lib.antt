@@ -12,6 +12,7 @@ pub mod Resumed
 pub mod Counted
 pub mod Hosted
 pub mod Host
+pub mod OverOriginal
 pub mod Demand3
 pub mod Courses
 pub mod CourseRows

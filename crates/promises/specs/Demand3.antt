@@ -3,7 +3,7 @@
 -- What is supposed of the gauge: it reads the frames that the step machine shows, and stores their bytes, as the model does (model_gauge, `stored`);
 -- it has stored whole every block that it acknowledged; and a failed transfer did nothing or its full work unheard. Nothing is supposed of the bus, the
 -- retries or the PEC: the list of events says what becomes of each transfer, and any list will do.
--- The frames are those of demand 2 (`Equal` in crate `original`); `frames` below spells them out.
+-- The frames are those of demand 2: `over-original` below lays the events over the transfers that the Rust makes, and `frames` spells them out.
 -- Assumes nothing.
 use Prim.Native.Nat.{ℕ, _+_, _*_, _≤_, _<_}
 use mathlib.Core.Path.{_≡_}
@@ -24,9 +24,12 @@ use Rattle.engine.specs.declared.bus.Transfer.the-variants as transfer
 use Rattle.writing.specs.Frames.{blockBytes}
 use Rattle.courses.specs.declared.course.End.{End}
 use Rattle.courses.specs.declared.course.End.the-variants as end
+use Rattle.original.specs.Bus.{begun}
+use Rattle.original.specs.OriginalR5 as rust
 use Rattle.promises.specs.Flash.{placeOf, store, Overlaid, Stands}
 use Rattle.promises.specs.Events.{Event, acknowledged}
 use Rattle.promises.specs.Host.{Doing, events, Allowed}
+use Rattle.promises.specs.OverOriginal.{outcomesIn, transfersOf, laidOver, stopOf}
 use Rattle.promises.specs.Writes.{World, began, shows, handed, run, does, May, hosted, Alike}
 
 -- what one clean write leaves
@@ -113,6 +116,13 @@ pub record Demand3 : Type 0 where
       → shows payload (run payload es (began config address payload work flash)) ≡ transfer.Write n
       → handed payload n (run payload es (began config address payload work flash))
       ≡ sealed (config .«pec_write») (blockBytes address (run payload es (began config address payload work flash) .acked) payload)
+  -- demand 2's transfers: for the outcomes of these events the flash is what becomes of the transfers that the Rust makes, and the machine stands where
+  -- the Rust's call does, cut or with its answer
+  pub over-original : (config : Config) (address : ℕ) (payload work flash : List ℕ) → config .«max_bus_retries» ≤ 65535 → Accepted address payload work flash
+      → (es : List Event)
+      → (run payload es (began config address payload work flash) .flash
+      ≡ laidOver es (transfersOf (rust.writeDataflash config address payload begun (outcomesIn es))) flash)
+      × (endIn (shows payload (run payload es (began config address payload work flash))) ≡ stopOf (rust.writeDataflash config address payload begun (outcomesIn es)))
   -- any host: whatever work buffer of that length it lends for each transfer, whatever lies in the reply beside a failure, and whatever it reports in between
   -- that is refused (8, 9 or 10), the call, the flash and the count are those of its transfers alone: none of that changes anything
   pub any-host : (config : Config) (address : ℕ) (payload work flash : List ℕ) → Accepted address payload work flash

@@ -4,6 +4,7 @@ pub mod Flash
 pub mod Events
 pub mod Host
 pub mod Writes
+pub mod OverOriginal
 pub mod Demand3
 pub mod Worked3
 pub mod Courses
