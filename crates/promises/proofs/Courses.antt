@@ -266,17 +266,14 @@ on-courses-leaves address payload flash e now win whole g =
 
 -- ---- every transfer is heard
 
-pub heard-events : (n : ℕ) → eventsOf (replicate n 0) ≡ replicate n model.Heard
-unfolding eventsOf eventOf if_then_else_
-heard-events zero = refl
-heard-events (suc n) = ap (λ (es : List ModelEvent). model.Heard ∷ es) (heard-events n)
-
 pub heard-sound : (n : ℕ) → soundOf (replicate n 0) ≡ true
 unfolding soundOf if_then_else_
 heard-sound zero = refl
 heard-sound (suc n) = heard-sound n
 
-heard-in : (n : ℕ) → eventsIn (replicate n model.Heard) ≡ replicate n written.acknowledged
+-- it is acknowledged
+pub heard-in : (n : ℕ) → eventsIn (eventsOf (replicate n 0)) ≡ replicate n written.acknowledged
+unfolding eventsOf eventOf if_then_else_
 heard-in zero = refl
 heard-in (suc n) = ap (λ (es : List written.Event). written.acknowledged ∷ es) (heard-in n)
 
@@ -286,9 +283,8 @@ pub unbroken : (config : Config) (address : ℕ) (payload work flash : List ℕ)
     × (ran config address payload work flash gauge (replicate n 0) .flash ≡ clean address payload flash)
 unbroken config address payload work flash a gauge n l =
     let u = whole-write config address payload work flash a n l in
-    let events : eventsIn (eventsOf (replicate n 0)) ≡ replicate n written.acknowledged = ap eventsIn (heard-events n) ∙ heard-in n in
     let left : Left = ran config address payload work flash gauge (replicate n 0) in
-    let well : EndedWell (endIn (shows payload (ranIn config address payload work flash (replicate n 0)))) = rw events (u .0) in
+    let well : EndedWell (endIn (shows payload (ranIn config address payload work flash (replicate n 0)))) = rw (heard-in n) (u .0) in
     let ran-well : EndedWell (left .run .end) = rw (run-ends config address payload work flash a gauge (replicate n 0) (heard-sound n)) well in
     let go : GoOnCourses address payload flash (left .run .end) (left .flash) =
     record { config = config; work = work; gauge = gauge; left = left; room = a .room; go = started (replicate n 0) (heard-sound n); ends = refl; leaves = refl } in

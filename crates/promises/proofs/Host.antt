@@ -3,7 +3,7 @@
 use Prim.Native.Nat.{ℕ, _≤_, _<_}
 use mathlib.Core.Path.{_≡_, refl, sym, ap, subst, _∙_}
 use mathlib.Core.Bool.{Bool, true, false}
-use mathlib.Core.Logic.{_⊎_, inl, inr}
+use mathlib.Core.Logic.{_⊎_}
 use mathlib.Core.List.{List, [], _∷_}
 use native.Mathlib.Omega.{arith}
 use lib.Dec.{eqb}
@@ -22,7 +22,6 @@ use Rattle.engine.specs.declared.bus.Outcome.{Outcome}
 use Rattle.engine.specs.declared.bus.Outcome.the-variants as outcome
 use Rattle.engine.specs.declared.bus.Phase.{Phase}
 use Rattle.engine.specs.declared.bus.Phase.the-variants as phase
-use Rattle.engine.specs.declared.bus.Transfer.{Transfer}
 use Rattle.engine.specs.declared.bus.Transfer.the-variants as transfer
 use Rattle.writing.specs.Writing.{repliedOf, reportOf}
 use Rattle.courses.specs.WriteRun.{takenOf}
@@ -33,14 +32,7 @@ use Rattle.promises.specs.Demand3.{Accepted}
 use Rattle.promises.proofs.Window.{within}
 use Rattle.promises.proofs.Machine.{worldAt, callAt, frameOf, shows-block, laid-long, made-sent, made-ended}
 use Rattle.promises.proofs.Stopped.{Going, going-step, going, run-empty}
-use Rattle.promises.proofs.Hosted.{hosted-run}
-
--- 1 for an answer
-abbrev answers : Transfer → ℕ
-answers (transfer.Write n) = 0
-answers (transfer.Read command count) = 0
-answers (transfer.Refused a) = 0
-answers (transfer.Ended a) = 1
+use Rattle.promises.proofs.Hosted.{answers, not-fits, hosted-run}
 
 -- the same but for the bytes of a work buffer of n
 abbrev Like : ℕ → World → World → Type 0
@@ -53,14 +45,8 @@ module _ (config : Config) (address : ℕ) (payload : List ℕ) (n : ℕ) (room 
     -- a report of other lengths is refused
     not-fitting : (o : Outcome) (r lent work : ℕ) → (lent ≡ length payload → ⊥) ⊎ (work ≡ n → ⊥)
         → takenOf (reportOf (callAt config address payload n phase.Waiting i b t) o r lent work) ≡ callAt config address payload n phase.Waiting i b t
-    unfolding takenOf reportOf case_waiting_ended_ fitsOf if_then_else_
-    not-fitting o r lent work (inl other) = rw (ne-eqb lent (length payload) other)
-    not-fitting o r lent work (inr other) = by (eqb lent (length payload)) refl
-      where
-        by : (z : Bool) → eqb lent (length payload) ≡ z
-            → takenOf (reportOf (callAt config address payload n phase.Waiting i b t) o r lent work) ≡ callAt config address payload n phase.Waiting i b t
-        by true z = rw (z, ne-eqb work n other)
-        by false z = rw z
+    unfolding takenOf reportOf case_waiting_ended_ if_then_else_
+    not-fitting o r lent work other = rw (not-fits (length payload) n lent work other)
 
     -- an acknowledgement with a reply is refused, at whatever lengths
     not-asked : (r lent work : ℕ) → (r ≡ 0 → ⊥)

@@ -19,4 +19,7 @@ pub mod CourseRows
 pub mod Replies
 pub mod ReadSteps
 pub mod Reading
+pub mod ReadStopped
+pub mod ReadHost
+pub mod ReadCourses
 pub mod ReadsTrue

@@ -3,6 +3,7 @@
 use Prim.Native.Nat.{ℕ, suc, _+_, _*_, _≤_, _<_, min}
 use mathlib.Core.Path.{_≡_, refl, sym, _∙_}
 use mathlib.Core.Bool.{Bool, true, false}
+use mathlib.Core.Logic.{_⊎_, inl, inr}
 use mathlib.Core.List.{List, []}
 use native.Mathlib.Omega.{arith}
 use lib.ListN.{length, drop, length-append, length-take}
@@ -10,6 +11,7 @@ use borrow.Author.Tests.{eq-eqb, lt-ltb}
 use Rattle.protocol.specs.Pick.{if_then_else_}
 use Rattle.protocol.specs.Bytes.{over, sendOf, blocksOf}
 use Rattle.protocol.specs.Frame.{sealed, pairOf, macBytes, laidOf, workLaid}
+use Rattle.protocol.specs.Answer.{numberOf}
 use Rattle.protocol.specs.declared.common.Config.{Config}
 use Rattle.protocol.specs.declared.error.Answer.{Answer}
 use Rattle.protocol.specs.declared.error.Answer.the-variants as answer
@@ -39,6 +41,10 @@ use Rattle.promises.specs.Writes.{World, sent, made, step}
 abbrev pub whyOf : Cause → Answer
 whyOf (busError code) = answer.I2c code
 whyOf timedOut = answer.Timeout
+
+pub why-number : (c : Cause) → (numberOf (whyOf c) ≡ 1) ⊎ (numberOf (whyOf c) ≡ 2)
+why-number (busError code) = inl refl
+why-number timedOut = inr refl
 
 -- a write brings no bytes, and those beside a failure are not looked at
 no-reply : (e : Event) (beside : List ℕ) → repliedOf (outcomeOf e) (length (lentOf e [] beside)) ≡ false

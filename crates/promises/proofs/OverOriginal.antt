@@ -26,7 +26,7 @@ use Rattle.original.specs.Bus.{BusOutcome, Made, write, Log, Came, Ok, Err, Wai
 use Rattle.original.specs.Fed.{told, brings, Lending, reply, answered, shows_sending_transfer_answer_, wrote_taken_refused_, fedWrite}
 use Rattle.original.specs.OriginalR5 as rust
 use Rattle.original.proofs.Equal.{equal}
-use Rattle.promises.specs.Events.{busError, timedOut, Event, acknowledged, failed, unheard, outcomeOf, flashAfter, each}
+use Rattle.promises.specs.Events.{busError, timedOut, Event, acknowledged, failed, unheard, outcomeOf, each}
 use Rattle.promises.specs.OverOriginal.{outcomeIn, outcomesIn, transfersOf, laidOver, stopOf}
 use Rattle.promises.specs.Writes.{World, began, shows, step, run}
 use Rattle.promises.specs.Demand3.{endIn, Accepted}

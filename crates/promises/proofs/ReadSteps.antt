@@ -15,8 +15,7 @@ use Rattle.protocol.specs.Frame.{sealed, pairOf, macBytes, laidOf, workLaid}
 use Rattle.protocol.specs.Reply.{macAsk, countOf, heardOf, dataOf}
 use Rattle.protocol.specs.declared.common.Config.{Config}
 use Rattle.protocol.specs.declared.error.Answer.{Answer}
-use Rattle.protocol.specs.declared.error.Answer.the-variants as answer
-use Rattle.protocol.specs.declared.reply.Heard.the-variants as heard
+use Rattle.protocol.specs.declared.reply.Heard.the-variants as reply
 use Rattle.protocol.proofs.Laws.{take-over, length-over, take-min, laid-more}
 use Rattle.engine.specs.Pick.{case_waiting_ended_, case_acknowledged_error_timeout_}
 use Rattle.engine.specs.Bus.{writeOf, phaseAfter, fitsOf}
@@ -33,15 +32,17 @@ use Rattle.reading.specs.Reading.{dueAsk, shownHead, workHead, shownOf, workSho
 use Rattle.reading.specs.declared.call.ReadCall.{ReadCall}
 use Rattle.reading.specs.declared.call.ReadTask.{ReadTask}
 use Rattle.r5.specs.Plans.{readDataflash}
-use Rattle.model_gauge.specs.Gauge.{stored, storedForm, pointed, pointedForm, takes, takesForm, flashAfter}
-use Rattle.model_gauge.specs.declared.gauge.Event.{Event}
+use Rattle.model_gauge.specs.Gauge.{stored, storedForm, pointed, pointedForm, takes, takesForm, replyOf, repliedOf}
 use Rattle.model_gauge.specs.declared.gauge.Gauge.{Gauge}
 use Rattle.courses.specs.Pick.{case_write_read_none_}
-use Rattle.courses.specs.ReadRun.{World, world, takenOf, reportedOf, sentOf, sentBuffer, askedOf, askedBuffer, stepOf, driveOf}
+use Rattle.courses.specs.ReadRun.{takenOf, reportedOf}
 use Rattle.courses.proofs.Cases.{at-write, at-read}
 use Rattle.promises.specs.Flash.{blockOf}
+use Rattle.promises.specs.Events.{Cause, busError, timedOut, Event, acknowledged, failed, unheard, causeOf, outcomeOf as heardBy, lentOf, after, flashAfter, ackedAfter}
+use Rattle.promises.specs.Reads.{ReadWorld, heard, headSent, asked, lending, readMade}
 use Rattle.promises.proofs.Window.{inside}
 use Rattle.promises.proofs.Frames.{reads-address}
+use Rattle.promises.proofs.Machine.{whyOf}
 use Rattle.promises.proofs.Replies.{count-of}
 
 drop-take : (a b : ℕ) (l : List ℕ) → drop a (take b l) ≡ take (b - a) (drop a l)
@@ -91,8 +92,8 @@ module _ (config : Config) (address size n : ℕ) where
   abbrev pub readAt : Phase → Bool → ℕ → Budget → Tally → ReadCall
   readAt p h i b t = record { task = readTask; phase = p; heading = h; received = i; budget = b; tally = t }
 
-  abbrev pub readWorld : Phase → Bool → ℕ → Budget → Tally → Gauge → List ℕ → List ℕ → List ℕ → World
-  readWorld p h i b t g buffer work flash = world (record { call = readAt p h i b t; gauge = g }) buffer work flash
+  abbrev pub readWorld : Phase → Bool → ℕ → Budget → Tally → Gauge → List ℕ → List ℕ → List ℕ → ReadWorld
+  readWorld p h i b t g buffer work flash = record { call = readAt p h i b t; gauge = g; buffer = buffer; work = work; flash = flash; got = i }
 
   -- the head of block i
   abbrev pub headOf : ℕ → List ℕ
@@ -105,19 +106,18 @@ module _ (config : Config) (address size n : ℕ) where
     unfolding nextOf case_waiting_ended_ fitsOf shownOf shownHead readDataflash headBytes laidOf writeOf if_then_else_ macBytes pairOf
     shows-head = rw (eq-eqb (length buffer) size fits, eq-eqb (length work) n long, lt-ltb 4 (length work) (omega arith))
 
-    lays-head : workAfter (readAt phase.Waiting true i b t) (length buffer) work ≡ over (headOf i) work
+    pub lays-head : workAfter (readAt phase.Waiting true i b t) (length buffer) work ≡ over (headOf i) work
     unfolding workAfter case_waiting_ended_ fitsOf workShown workHead readDataflash headBytes workLaid if_then_else_ macBytes pairOf
     lays-head = rw (eq-eqb (length buffer) size fits, eq-eqb (length work) n long, lt-ltb 4 (length work) (omega arith))
 
     pub head-long : length (over (headOf i) work) ≡ n
     head-long = length-over (headOf i) work (omega (arith, head-short (config .«pec_read») (address + i * 32))) ∙ long
 
-    pub step-head : (e : Event)
-        → stepOf e (readWorld phase.Waiting true i b t g buffer work flash)
-        ≡ world (sentOf e (headOf i) size n (record { call = readAt phase.Waiting true i b t; gauge = g }))
-        (sentBuffer e (headOf i) n (record { call = readAt phase.Waiting true i b t; gauge = g }) buffer) (over (headOf i) work) (flashAfter e (headOf i) flash)
-    unfolding stepOf
-    step-head e = sym (at-write _ _ _ _ _ _ _ refl shows-head (rw (lays-head, take-over, head-long, fits)))
+    pub made-head : (e : Event) (beside : List ℕ)
+        → readMade e beside (readWorld phase.Waiting true i b t g buffer work flash)
+        ≡ heard e [] beside (over (headOf i) work) (after e g (pointed (headOf i) g)) (flashAfter e (headOf i) flash) i (readWorld phase.Waiting true i b t g buffer work flash)
+    unfolding readMade headSent
+    made-head e beside = sym (at-write _ _ _ _ _ _ _ refl shows-head (rw (lays-head, take-over)))
 
     -- ---- a read is due
 
@@ -125,26 +125,56 @@ module _ (config : Config) (address size n : ℕ) where
     unfolding nextOf case_waiting_ended_ fitsOf shownOf dueAsk askOf readDataflash if_then_else_
     shows-read = rw (eq-eqb (length buffer) size fits, eq-eqb (length work) n long, ask-command)
 
-    lays-none : workAfter (readAt phase.Waiting false i b t) (length buffer) work ≡ work
+    pub lays-none : workAfter (readAt phase.Waiting false i b t) (length buffer) work ≡ work
     unfolding workAfter case_waiting_ended_ fitsOf workShown if_then_else_
     lays-none = rw (eq-eqb (length buffer) size fits, eq-eqb (length work) n long)
 
-    pub step-read : (e : Event)
-        → stepOf e (readWorld phase.Waiting false i b t g buffer work flash)
-        ≡ world (askedOf e 0x44 (countOf (blockAsk (size - i * 32) (config .«pec_read»))) size n flash (record { call = readAt phase.Waiting false i b t; gauge = g }))
-        (askedBuffer e 0x44 (countOf (blockAsk (size - i * 32) (config .«pec_read»))) n flash (record { call = readAt phase.Waiting false i b t; gauge = g }) buffer) work flash
-    unfolding stepOf
-    step-read e = sym (at-read _ _ _ _ _ _ _ _ refl shows-read (rw (lays-none, long, fits)))
+    -- how many bytes it asks for, and those that the gauge brings
+    abbrev pub countAt : ℕ
+    countAt = countOf (blockAsk (size - i * 32) (config .«pec_read»))
+
+    abbrev pub broughtAt : List ℕ
+    broughtAt = take countAt (replyOf g flash)
+
+    pub made-read : (e : Event) (beside : List ℕ)
+        → readMade e beside (readWorld phase.Waiting false i b t g buffer work flash)
+        ≡ heard e broughtAt beside work (after e g (repliedOf 0x44 countAt g)) flash (ackedAfter e i) (readWorld phase.Waiting false i b t g buffer work flash)
+    unfolding readMade asked
+    made-read e beside = sym (at-read _ _ _ _ _ _ _ _ refl shows-read (rw lays-none))
 
     -- ---- what the call hears
 
-    pub timed-out : (h : Bool) (reply : List ℕ) → reportedOf (readAt phase.Waiting h i b t) outcome.Timeout reply size n ≡ failOf (readAt phase.Waiting h i b t) answer.Timeout
+    reported-failed : (c : Cause) (h : Bool) (bytes : List ℕ) → reportedOf (readAt phase.Waiting h i b t) (causeOf c) bytes size n ≡ failOf (readAt phase.Waiting h i b t) (whyOf c)
     unfolding reportedOf takenOf reportOf judgeOf outcomeOf case_waiting_ended_ case_acknowledged_error_timeout_ case_refused_fault_headed_block_ fitsOf if_then_else_
-    timed-out h reply = rw (eq-eqb size size refl, eq-eqb n n refl)
+    reported-failed (busError code) h bytes = rw (eq-eqb size size refl, eq-eqb n n refl)
+    reported-failed timedOut h bytes = rw (eq-eqb size size refl, eq-eqb n n refl)
 
-    pub timed-out-buffer : (h : Bool) (reply : List ℕ) → bufferAfter (readAt phase.Waiting h i b t) outcome.Timeout reply buffer n ≡ buffer
+    buffer-failed : (c : Cause) (h : Bool) (bytes : List ℕ) → bufferAfter (readAt phase.Waiting h i b t) (causeOf c) bytes buffer n ≡ buffer
     unfolding bufferAfter judgeOf outcomeOf case_waiting_ended_ case_acknowledged_error_timeout_ case_refused_fault_headed_block_ fitsOf if_then_else_
-    timed-out-buffer h reply = rw (eq-eqb (length buffer) size fits, eq-eqb n n refl)
+    buffer-failed (busError code) h bytes = rw (eq-eqb (length buffer) size fits, eq-eqb n n refl)
+    buffer-failed timedOut h bytes = rw (eq-eqb (length buffer) size fits, eq-eqb n n refl)
+
+    -- of a failure its cause alone, whatever lies beside it
+    pub heard-failed : (e : Event) (c : Cause) → heardBy e ≡ causeOf c → (h : Bool) (brought beside laid : List ℕ) → length laid ≡ n → (g′ : Gauge) (flash′ : List ℕ) (k : ℕ)
+        → heard e brought beside laid g′ flash′ k (readWorld phase.Waiting h i b t g buffer work flash)
+        ≡ record { call = failOf (readAt phase.Waiting h i b t) (whyOf c); gauge = g′; buffer = buffer; work = laid; flash = flash′; got = k }
+    unfolding heard
+    heard-failed e c o h brought beside laid long′ g′ flash′ k =
+        let bytes : List ℕ = lentOf e brought beside in
+        rw (o, long′, buffer-failed c h bytes, fits, reported-failed c h bytes)
+
+    -- whatever lies beside a failure, and whatever work buffer was lent, the call hears the same
+    pub heard-same : (e : Event) (h : Bool) (brought beside laid laid′ work′ : List ℕ) → length laid ≡ n → length laid′ ≡ n → (g′ : Gauge) (flash′ : List ℕ) (k : ℕ)
+        → heard e brought beside laid′ g′ flash′ k (readWorld phase.Waiting h i b t g buffer work′ flash)
+        ≡ lending laid′ (heard e brought [] laid g′ flash′ k (readWorld phase.Waiting h i b t g buffer work flash))
+    unfolding heard
+    heard-same (acknowledged) h brought beside laid laid′ work′ l l′ g′ flash′ k = rw (l, l′)
+    heard-same (failed c) h brought beside laid laid′ work′ l l′ g′ flash′ k =
+        heard-failed (failed c) c refl h brought beside laid′ l′ g′ flash′ k
+        ∙ ap (lending laid′) (sym (heard-failed (failed c) c refl h brought [] laid l g′ flash′ k))
+    heard-same (unheard c) h brought beside laid laid′ work′ l l′ g′ flash′ k =
+        heard-failed (unheard c) c refl h brought beside laid′ l′ g′ flash′ k
+        ∙ ap (lending laid′) (sym (heard-failed (unheard c) c refl h brought [] laid l g′ flash′ k))
 
     pub head-heard : reportedOf (readAt phase.Waiting true i b t) outcome.Acknowledged [] size n ≡ readAt (phaseAfter (blocksOf size) i) false i b t
     unfolding reportedOf takenOf reportOf judgeOf outcomeOf acknowledgedOf heardHead headedOf parts.countOf readDataflash case_waiting_ended_ case_acknowledged_error_timeout_ case_refused_fault_headed_block_ fitsOf if_then_else_
@@ -154,24 +184,23 @@ module _ (config : Config) (address size n : ℕ) where
     unfolding bufferAfter judgeOf outcomeOf acknowledgedOf heardHead case_waiting_ended_ case_acknowledged_error_timeout_ case_refused_fault_headed_block_ fitsOf if_then_else_
     head-heard-buffer = rw (eq-eqb (length buffer) size fits, eq-eqb n n refl)
 
-    module _ (reply : List ℕ) (good : heardOf (blockAsk (size - i * 32) (config .«pec_read»)) reply ≡ heard.Good) where
-      pub received : i < 4294967295 → reportedOf (readAt phase.Waiting false i b t) outcome.Acknowledged reply size n ≡ readAt (phaseAfter (blocksOf size) (suc i)) false (suc i) b t
+    module _ (bytes : List ℕ) (good : heardOf (blockAsk (size - i * 32) (config .«pec_read»)) bytes ≡ reply.Good) where
+      pub received : i < 4294967295 → reportedOf (readAt phase.Waiting false i b t) outcome.Acknowledged bytes size n ≡ readAt (phaseAfter (blocksOf size) (suc i)) false (suc i) b t
       unfolding reportedOf takenOf reportOf judgeOf outcomeOf acknowledgedOf heardBlock verdictOf dueAsk askOf advanceOf parts.countOf readDataflash case_waiting_ended_ case_acknowledged_error_timeout_ case_refused_fault_headed_block_ fitsOf if_then_else_
       received h =
           let more : min (i + 1) 4294967295 ≡ suc i = omega arith in
           rw (eq-eqb size size refl, eq-eqb n n refl, good, more)
 
-      pub received-buffer : bufferAfter (readAt phase.Waiting false i b t) outcome.Acknowledged reply buffer n
-          ≡ storedAt (i * 32) 32 (dataOf (blockAsk (size - i * 32) (config .«pec_read»)) reply) buffer
+      pub received-buffer : bufferAfter (readAt phase.Waiting false i b t) outcome.Acknowledged bytes buffer n
+          ≡ storedAt (i * 32) 32 (dataOf (blockAsk (size - i * 32) (config .«pec_read»)) bytes) buffer
       unfolding bufferAfter judgeOf outcomeOf acknowledgedOf heardBlock verdictOf dueAsk askOf storedOf mostOf readDataflash case_waiting_ended_ case_acknowledged_error_timeout_ case_refused_fault_headed_block_ fitsOf if_then_else_
       received-buffer = rw (eq-eqb (length buffer) size fits, eq-eqb n n refl, good)
 
 -- an ended call stays as it is
-pub ended-stays : (config : Config) (address size n : ℕ) (es : List Event) (a : Answer) (h : Bool) (i : ℕ) (b : Budget) (t : Tally) (g : Gauge) (buffer work flash : List ℕ)
-    → driveOf es (readWorld config address size n (phase.Ended a) h i b t g buffer work flash) ≡ readWorld config address size n (phase.Ended a) h i b t g buffer work flash
-unfolding driveOf stepOf nextOf workAfter case_waiting_ended_ case_write_read_none_
-ended-stays config address size n [] a h i b t g buffer work flash = refl
-ended-stays config address size n (e ∷ es) a h i b t g buffer work flash = ended-stays config address size n es a h i b t g buffer work flash
+pub made-over : (config : Config) (address size n : ℕ) (e : Event) (beside : List ℕ) (a : Answer) (h : Bool) (i : ℕ) (b : Budget) (t : Tally) (g : Gauge) (buffer work flash : List ℕ)
+    → readMade e beside (readWorld config address size n (phase.Ended a) h i b t g buffer work flash) ≡ readWorld config address size n (phase.Ended a) h i b t g buffer work flash
+unfolding readMade nextOf workAfter case_waiting_ended_ case_write_read_none_
+made-over config address size n e beside a h i b t g buffer work flash = refl
 
 -- a block into the buffer, after the i blocks that are there
 pub block-in : (size i : ℕ) (wanted old buffer bytes : List ℕ) → i * 32 < size → length wanted ≡ size → length old ≡ size

@@ -1,41 +1,43 @@
--- A data-flash read over the model's courses: what every event keeps, and what is so of a read that ends well.
+-- A data-flash read over events: what every event keeps, whatever its cause.
 -- Assumes nothing.
 use Prim.Native.Nat.{ℕ, suc, _+_, _*_, _-_, _≤_, _<_, min}
 use mathlib.Core.Path.{_≡_, refl, sym, ap, _∙_}
 use mathlib.Core.Bool.{Bool, true, false, false≢true}
-use mathlib.Core.List.{List, [], _∷_, append-nil}
+use mathlib.Core.List.{List, [], _∷_}
 use native.Mathlib.Omega.{arith}
 use lib.Dec.{eqb, leb}
 use lib.ListN.{length, take, drop, length-take, length-drop}
-use lib.Seq.{take-all, length-take-le, drop-length}
+use lib.Seq.{length-take-le}
 use borrow.Author.Tests.{le-leb, leb-true, leb-false}
 use Rattle.protocol.specs.Pick.{if_then_else_}
 use Rattle.protocol.specs.Bytes.{over, storedAt, blocksOf}
-use Rattle.protocol.specs.Reply.{countOf, heardOf, dataOf}
-use Rattle.protocol.specs.Answer.{numberOf}
+use Rattle.protocol.specs.Reply.{dataOf}
 use Rattle.protocol.specs.declared.common.Config.{Config}
 use Rattle.protocol.specs.declared.error.Answer.the-variants as answer
 use Rattle.protocol.proofs.Laws.{length-over}
 use Rattle.engine.specs.Pick.{case_retry_spent_}
-use Rattle.engine.specs.Budget.{failed, waited}
+use Rattle.engine.specs.Budget.{failed as failedOf, waited}
 use Rattle.engine.specs.Bus.{phaseAfter}
 use Rattle.engine.specs.declared.budget.Budget.{Budget}
 use Rattle.engine.specs.declared.budget.Tally.{Tally}
 use Rattle.engine.specs.declared.bus.Phase.{Phase}
 use Rattle.engine.specs.declared.bus.Phase.the-variants as phase
 use Rattle.reading.specs.Parts.{hasHead, blockAsk}
-use Rattle.reading.specs.Reading.{retryOf, endOf, failOf, outcomeOf}
+use Rattle.reading.specs.Reading.{retryOf, endOf, failOf}
 use Rattle.r5.specs.Plans.{readDataflash}
-use Rattle.model_gauge.specs.Gauge as gauge
-use Rattle.model_gauge.specs.Gauge.{offsetOf, pointed, flashAfter, actedOf, gaugeAfter, repliesTo, movedOf, repliedOf, readAfter, readOutcome}
-use Rattle.model_gauge.specs.declared.gauge.Event.{Event}
-use Rattle.model_gauge.specs.declared.gauge.Event.the-variants as event
+use Rattle.model_gauge.specs.Gauge.{offsetOf, pointed, repliesTo, movedOf, repliedOf}
 use Rattle.model_gauge.specs.declared.gauge.Gauge.{Gauge}
-use Rattle.courses.specs.ReadRun.{World, world, sentOf, sentBuffer, askedOf, askedBuffer, stepOf, driveOf}
 use Rattle.promises.specs.Flash.{placeOf, blockOf}
-use Rattle.promises.specs.Reading.{flashBytes}
+use Rattle.promises.specs.Events.{Cause, Event, acknowledged, failed, unheard, causeOf, outcomeOf as heardBy, after, flashAfter, ackedAfter, each}
+use Rattle.promises.specs.Reads.{ReadWorld, heard, readStep, readRun}
+use Rattle.promises.specs.Reading.{flashBytes, ReadAnswered, all-got, gave-up}
+use Rattle.promises.proofs.Machine.{whyOf, why-number}
 use Rattle.promises.proofs.Replies.{cutReply, reply-good, reply-data}
-use Rattle.promises.proofs.ReadSteps.{wanted-block, reads-head, head-points, head-stores, ask-small, readAt, readWorld, headOf, head-long, step-head, step-read, timed-out, timed-out-buffer, head-heard, head-heard-buffer, received, received-buffer, ended-stays, block-in}
+use Rattle.promises.proofs.ReadSteps.{wanted-block, head-points, head-stores, ask-small, readAt, readWorld, headOf, head-long, made-head, countAt, broughtAt, made-read, heard-failed, head-heard, head-heard-buffer, received, received-buffer, made-over, block-in}
+
+-- as many bytes of the flash as are wanted
+pub flash-long : (address size : ℕ) (flash : List ℕ) → length flash ≡ 8192 → 0x4000 ≤ address → address + size ≤ 0x6000 → length (flashBytes address size flash) ≡ size
+flash-long address size flash whole low high = length-take-le size (drop (placeOf address) flash) (simp length-drop (omega arith))
 
 module _ (config : Config) (address n : ℕ) (old flash : List ℕ) (room : 39 ≤ n) (whole : length flash ≡ 8192)
     (low : 0x4000 ≤ address) (high : address + length old ≤ 0x6000) where
@@ -46,15 +48,15 @@ module _ (config : Config) (address n : ℕ) (old flash : List ℕ) (room : 39 �
   wanted = flashBytes address (length old) flash
 
   wanted-long : length wanted ≡ size
-  wanted-long = length-take-le size (drop (placeOf address) flash) (simp length-drop (omega arith))
+  wanted-long = flash-long address size flash whole low high
 
-  -- a call that waits has a block to read, and where its head was heard the pointer stands at that block; one that is done has had every block
+  -- a call that waits has a block to read, and where its head was heard the pointer stands at that block; one that has ended says what has come
   abbrev pub Kept : Phase → Bool → ℕ → Gauge → Type 0
   Kept phase.Waiting h i g = (i * 32 < size) × (h ≡ false → g .pointer ≡ address + i * 32)
-  Kept (phase.Ended a) h i g = numberOf a ≡ 0 → size ≤ i * 32
+  Kept (phase.Ended a) h i g = ReadAnswered size i a
 
-  -- the blocks received stand in front, and the rest of the buffer is as it was; the flash is as it was
-  pub record Reading (w : World) : Type 0 where
+  -- the blocks that were acknowledged stand in front, and the rest of the buffer is as it was; the flash is as it was
+  pub record Reading (w : ReadWorld) : Type 0 where
     pub at : Phase
     pub head : Bool
     pub i : ℕ
@@ -72,17 +74,17 @@ module _ (config : Config) (address n : ℕ) (old flash : List ℕ) (room : 39 �
   buffer-long i buffer e = ap length e ∙ length-over (take (i * 32) wanted) old (omega (arith, length-take (i * 32) wanted, wanted-long))
 
   -- a failed attempt: the head is due again, or the call gives up
-  reading-failed : (h : Bool) (i : ℕ) (b : Budget) (t : Tally) (g : Gauge) (buffer work : List ℕ) → length work ≡ n → i * 32 < size
+  reading-failed : (c : Cause) (h : Bool) (i : ℕ) (b : Budget) (t : Tally) (g : Gauge) (buffer work : List ℕ) → length work ≡ n → i * 32 < size
       → buffer ≡ over (take (i * 32) wanted) old
-      → Reading (world (record { call = failOf (readAt config address size n phase.Waiting h i b t) answer.Timeout; gauge = g }) buffer work flash)
-  unfolding failOf failed case_retry_spent_ retryOf endOf hasHead readDataflash if_then_else_
-  reading-failed h i b t g buffer work long l f = by (eqb (b .left) 0) refl
+      → Reading (record { call = failOf (readAt config address size n phase.Waiting h i b t) (whyOf c); gauge = g; buffer = buffer; work = work; flash = flash; got = i })
+  unfolding failOf failedOf case_retry_spent_ retryOf endOf hasHead readDataflash if_then_else_
+  reading-failed c h i b t g buffer work long l f = by (eqb (b .left) 0) refl
     where
       by : (z : Bool) → eqb (b .left) 0 ≡ z
-          → Reading (world (record { call = failOf (readAt config address size n phase.Waiting h i b t) answer.Timeout; gauge = g }) buffer work flash)
+          → Reading (record { call = failOf (readAt config address size n phase.Waiting h i b t) (whyOf c); gauge = g; buffer = buffer; work = work; flash = flash; got = i })
       by true z =
           rw z
-          (record { at = phase.Ended answer.Timeout; head = h; i = i; b = b; t = t; gauge = g; buffer = buffer; work = work; is = refl; long = long; front = f; kept = λ e. absurd (omega arith) })
+          (record { at = phase.Ended (whyOf c); head = h; i = i; b = b; t = t; gauge = g; buffer = buffer; work = work; is = refl; long = long; front = f; kept = gave-up (why-number c) l })
       by false z =
           rw z
           (record {
@@ -100,140 +102,127 @@ module _ (config : Config) (address n : ℕ) (old flash : List ℕ) (room : 39 �
             kept = (l, λ e. absurd (false≢true (sym e)));
           })
 
-  pub kept-after : (h : Bool) (i : ℕ) (g : Gauge) → (i * 32 < size → g .pointer ≡ address + i * 32) → Kept (phaseAfter (blocksOf size) i) h i g
+  kept-after : (h : Bool) (i : ℕ) (g : Gauge) → (i * 32 < size → g .pointer ≡ address + i * 32) → Kept (phaseAfter (blocksOf size) i) h i g
   unfolding phaseAfter if_then_else_
   kept-after h i g points = by (leb (blocksOf size) i) refl
     where
       by : (z : Bool) → leb (blocksOf size) i ≡ z → Kept (if z then phase.Ended answer.Done else phase.Waiting) h i g
-      by true z = let l : blocksOf size ≤ i = leb-true _ _ z in λ e. omega arith
+      by true z = let l : blocksOf size ≤ i = leb-true _ _ z in all-got refl (omega arith)
       by false z =
           let l : i < blocksOf size = leb-false _ _ z in
           let m : i * 32 < size = omega arith in
           (m, λ e. points m)
 
-  -- the head went out
-  pub head-sent : (i : ℕ) (b : Budget) (t : Tally) (g : Gauge) (buffer work : List ℕ) → length work ≡ n → i * 32 < size
-      → buffer ≡ over (take (i * 32) wanted) old
-      → world (sentOf event.Heard (headOf config address size n i) size n (record { call = readAt config address size n phase.Waiting true i b t; gauge = g }))
-      (sentBuffer event.Heard (headOf config address size n i) n (record { call = readAt config address size n phase.Waiting true i b t; gauge = g }) buffer)
-      (over (headOf config address size n i) work) (flashAfter event.Heard (headOf config address size n i) flash)
-      ≡ readWorld config address size n (phaseAfter (blocksOf size) i) false i b t (record { pointer = address + i * 32 }) buffer (over (headOf config address size n i) work) flash
-  unfolding sentOf sentBuffer flashAfter gaugeAfter actedOf gauge.outcomeOf gauge.heardOf if_then_else_
-  head-sent i b t g buffer work long l f =
-      let fits : length buffer ≡ size = buffer-long i buffer f in
-      let a : address + i * 32 < 0x6000 = omega arith in
-      rw (reads-head (config .«pec_read») (address + i * 32) (omega arith) a, head-points (config .«pec_read») (address + i * 32) (omega arith) a g, head-stores (config .«pec_read») (address + i * 32) (omega arith) a flash, head-heard config address size n i b t g buffer work flash fits long room, head-heard-buffer config address size n i b t g buffer work flash fits long room)
+  -- ---- the head is due
 
-  head-event : (e : Event) (i : ℕ) (b : Budget) (t : Tally) (g : Gauge) (buffer work : List ℕ) → length work ≡ n → i * 32 < size
-      → buffer ≡ over (take (i * 32) wanted) old
-      → Reading (world (sentOf e (headOf config address size n i) size n (record { call = readAt config address size n phase.Waiting true i b t; gauge = g }))
-      (sentBuffer e (headOf config address size n i) n (record { call = readAt config address size n phase.Waiting true i b t; gauge = g }) buffer)
-      (over (headOf config address size n i) work) (flashAfter e (headOf config address size n i) flash))
-  unfolding sentOf sentBuffer flashAfter gaugeAfter actedOf gauge.outcomeOf gauge.heardOf if_then_else_
-  head-event event.Heard i b t g buffer work long l f =
-      record {
-        at = phaseAfter (blocksOf size) i;
-        head = false;
-        i = i;
-        b = b;
-        t = t;
-        gauge = record { pointer = address + i * 32 };
-        buffer = buffer;
-        work = over (headOf config address size n i) work;
-        is = head-sent i b t g buffer work long l f;
-        long = head-long config address size n i b t g buffer work flash (buffer-long i buffer f) long room;
-        front = f;
-        kept = kept-after false i (record { pointer = address + i * 32 }) (λ m. refl);
-      }
-  head-event event.LostBefore i b t g buffer work long l f =
-      let fits : length buffer ≡ size = buffer-long i buffer f in
-      rw (timed-out config address size n i b t g buffer work flash fits long room, timed-out-buffer config address size n i b t g buffer work flash fits long room)
-      (reading-failed true i b t g buffer (over (headOf config address size n i) work) (head-long config address size n i b t g buffer work flash fits long room) l f)
-  head-event event.LostAfter i b t g buffer work long l f =
-      let fits : length buffer ≡ size = buffer-long i buffer f in
-      let a : address + i * 32 < 0x6000 = omega arith in
-      rw (timed-out config address size n i b t g buffer work flash fits long room, timed-out-buffer config address size n i b t g buffer work flash fits long room, head-stores (config .«pec_read») (address + i * 32) (omega arith) a flash)
-      (reading-failed true i b t (pointed (headOf config address size n i) g) buffer (over (headOf config address size n i) work) (head-long config address size n i b t g buffer work flash fits long room) l f)
+  module _ (i : ℕ) (b : Budget) (t : Tally) (g : Gauge) (buffer work : List ℕ) (long : length work ≡ n) (l : i * 32 < size) (f : buffer ≡ over (take (i * 32) wanted) old) where
+    fits : length buffer ≡ size
+    fits = buffer-long i buffer f
 
-  -- a read went out
-  abbrev pub askedOf-block : ℕ → ℕ
-  askedOf-block i = countOf (blockAsk (size - i * 32) (config .«pec_read»))
+    -- the head was heard: the gauge points at its block
+    pub step-head-heard : readStep acknowledged (readWorld config address size n phase.Waiting true i b t g buffer work flash)
+        ≡ readWorld config address size n (phaseAfter (blocksOf size) i) false i b t (record { pointer = address + i * 32 }) buffer (over (headOf config address size n i) work) flash
+    unfolding heard
+    step-head-heard =
+        let a : address + i * 32 < 0x6000 = omega arith in
+        made-head config address size n i b t g buffer work flash fits long room acknowledged []
+        ∙ rw (head-long config address size n i b t g buffer work flash fits long room, head-points (config .«pec_read») (address + i * 32) (omega arith) a g, head-stores (config .«pec_read») (address + i * 32) (omega arith) a flash, head-heard-buffer config address size n i b t g buffer work flash fits long room, fits, head-heard config address size n i b t g buffer work flash fits long room)
 
-  abbrev pub blockAfter : ℕ → Gauge → List ℕ → List ℕ
-  blockAfter i g buffer = storedAt (i * 32) 32 (dataOf (blockAsk (size - i * 32) (config .«pec_read»)) (cutReply g flash (config .«pec_read») (size - i * 32))) buffer
+    -- the head is lost, before the gauge acts or after
+    head-failed : (e : Event) (c : Cause) → heardBy e ≡ causeOf c → (g′ : Gauge)
+        → after e g (pointed (headOf config address size n i) g) ≡ g′ → flashAfter e (headOf config address size n i) flash ≡ flash
+        → Reading (readStep e (readWorld config address size n phase.Waiting true i b t g buffer work flash))
+    head-failed e c o g′ p q =
+        let laid : length (over (headOf config address size n i) work) ≡ n = head-long config address size n i b t g buffer work flash fits long room in
+        rw (made-head config address size n i b t g buffer work flash fits long room e [], heard-failed config address size n i b t g buffer work flash fits long room e c o true [] [] (over (headOf config address size n i) work) laid (after e g (pointed (headOf config address size n i) g)) (flashAfter e (headOf config address size n i) flash) i, p, q)
+        (reading-failed c true i b t g′ buffer (over (headOf config address size n i) work) laid l f)
 
-  pub read-heard : (i : ℕ) (b : Budget) (t : Tally) (g : Gauge) (buffer work : List ℕ) → length work ≡ n → i * 32 < size
-      → buffer ≡ over (take (i * 32) wanted) old
-      → world (askedOf event.Heard 0x44 (askedOf-block i) size n flash (record { call = readAt config address size n phase.Waiting false i b t; gauge = g }))
-      (askedBuffer event.Heard 0x44 (askedOf-block i) n flash (record { call = readAt config address size n phase.Waiting false i b t; gauge = g }) buffer) work flash
-      ≡ readWorld config address size n (phaseAfter (blocksOf size) (suc i)) false (suc i) b t (record { pointer = min (g .pointer + 32) 0x6000 }) (blockAfter i g buffer) work flash
-  unfolding askedOf askedBuffer readAfter actedOf repliedOf movedOf readOutcome gauge.heardOf repliesTo if_then_else_
-  read-heard i b t g buffer work long l f =
-      let fits : length buffer ≡ size = buffer-long i buffer f in
-      let good = reply-good g flash (config .«pec_read») (size - i * 32) in
-      rw (le-leb (askedOf-block i) 36 (ask-small (config .«pec_read») (size - i * 32)), received config address size n i b t g buffer work flash fits long room (cutReply g flash (config .«pec_read») (size - i * 32)) good (omega arith), received-buffer config address size n i b t g buffer work flash fits long room (cutReply g flash (config .«pec_read») (size - i * 32)) good)
+    head-event : (e : Event) → Reading (readStep e (readWorld config address size n phase.Waiting true i b t g buffer work flash))
+    head-event acknowledged =
+        rw step-head-heard
+        (record {
+          at = phaseAfter (blocksOf size) i;
+          head = false;
+          i = i;
+          b = b;
+          t = t;
+          gauge = record { pointer = address + i * 32 };
+          buffer = buffer;
+          work = over (headOf config address size n i) work;
+          is = refl;
+          long = head-long config address size n i b t g buffer work flash fits long room;
+          front = f;
+          kept = kept-after false i (record { pointer = address + i * 32 }) (λ m. refl);
+        })
+    head-event (failed c) = head-failed (failed c) c refl _ refl refl
+    head-event (unheard c) = head-failed (unheard c) c refl _ refl (head-stores (config .«pec_read») (address + i * 32) (omega arith) (omega arith) flash)
 
-  -- its data is the block that is due
-  pub block-after : (i : ℕ) (g : Gauge) (buffer : List ℕ) → i * 32 < size → g .pointer ≡ address + i * 32 → buffer ≡ over (take (i * 32) wanted) old
-      → blockAfter i g buffer ≡ over (take (suc i * 32) wanted) old
-  block-after i g buffer l q f =
-      let place : offsetOf (g .pointer) ≡ placeOf address + i * 32 = rw q (omega arith) in
-      let bytes : take (min 32 (size - i * 32)) (dataOf (blockAsk (size - i * 32) (config .«pec_read»)) (cutReply g flash (config .«pec_read») (size - i * 32))) ≡ blockOf 32 i wanted =
-      reply-data g flash (config .«pec_read») (size - i * 32) (omega arith) ∙ rw place (sym (wanted-block (placeOf address) size i flash)) in
-      block-in size i wanted old buffer _ l wanted-long refl f bytes
+    -- ---- a read is due
 
-  read-event : (e : Event) (i : ℕ) (b : Budget) (t : Tally) (g : Gauge) (buffer work : List ℕ) → length work ≡ n → i * 32 < size
-      → g .pointer ≡ address + i * 32 → buffer ≡ over (take (i * 32) wanted) old
-      → Reading (world (askedOf e 0x44 (askedOf-block i) size n flash (record { call = readAt config address size n phase.Waiting false i b t; gauge = g }))
-      (askedBuffer e 0x44 (askedOf-block i) n flash (record { call = readAt config address size n phase.Waiting false i b t; gauge = g }) buffer) work flash)
-  unfolding askedOf askedBuffer readAfter actedOf readOutcome gauge.heardOf
-  read-event event.Heard i b t g buffer work long l q f =
-      record {
-        at = phaseAfter (blocksOf size) (suc i);
-        head = false;
-        i = suc i;
-        b = b;
-        t = t;
-        gauge = record { pointer = min (g .pointer + 32) 0x6000 };
-        buffer = blockAfter i g buffer;
-        work = work;
-        is = read-heard i b t g buffer work long l f;
-        long = long;
-        front = block-after i g buffer l q f;
-        kept = kept-after false (suc i) (record { pointer = min (g .pointer + 32) 0x6000 }) (λ m. omega arith);
-      }
-  read-event event.LostBefore i b t g buffer work long l q f =
-      let fits : length buffer ≡ size = buffer-long i buffer f in
-      rw (timed-out config address size n i b t g buffer work flash fits long room, timed-out-buffer config address size n i b t g buffer work flash fits long room)
-      (reading-failed false i b t g buffer work long l f)
-  read-event event.LostAfter i b t g buffer work long l q f =
-      let fits : length buffer ≡ size = buffer-long i buffer f in
-      rw (timed-out config address size n i b t g buffer work flash fits long room, timed-out-buffer config address size n i b t g buffer work flash fits long room)
-      (reading-failed false i b t (repliedOf 0x44 (askedOf-block i) g) buffer work long l f)
+    -- the buffer with the block of a reply in it
+    abbrev pub blockAfter : List ℕ
+    blockAfter = storedAt (i * 32) 32 (dataOf (blockAsk (size - i * 32) (config .«pec_read»)) (cutReply g flash (config .«pec_read») (size - i * 32))) buffer
+
+    -- the block has come: the pointer moves on
+    pub step-read-heard : readStep acknowledged (readWorld config address size n phase.Waiting false i b t g buffer work flash)
+        ≡ readWorld config address size n (phaseAfter (blocksOf size) (suc i)) false (suc i) b t (record { pointer = min (g .pointer + 32) 0x6000 }) blockAfter work flash
+    unfolding heard repliedOf movedOf repliesTo if_then_else_
+    step-read-heard =
+        let good = reply-good g flash (config .«pec_read») (size - i * 32) in
+        made-read config address size n i b t g buffer work flash fits long room acknowledged []
+        ∙ rw (long, le-leb (countAt config address size n i b t g buffer work flash fits long room) 36 (ask-small (config .«pec_read») (size - i * 32)), received-buffer config address size n i b t g buffer work flash fits long room (cutReply g flash (config .«pec_read») (size - i * 32)) good, fits, received config address size n i b t g buffer work flash fits long room (cutReply g flash (config .«pec_read») (size - i * 32)) good (omega arith))
+
+    -- its data is the block that is due
+    pub block-after : g .pointer ≡ address + i * 32 → blockAfter ≡ over (take (suc i * 32) wanted) old
+    block-after q =
+        let place : offsetOf (g .pointer) ≡ placeOf address + i * 32 = rw q (omega arith) in
+        let bytes : take (min 32 (size - i * 32)) (dataOf (blockAsk (size - i * 32) (config .«pec_read»)) (cutReply g flash (config .«pec_read») (size - i * 32))) ≡ blockOf 32 i wanted =
+        reply-data g flash (config .«pec_read») (size - i * 32) (omega arith) ∙ rw place (sym (wanted-block (placeOf address) size i flash)) in
+        block-in size i wanted old buffer _ l wanted-long refl f bytes
+
+    -- the read is lost, before the gauge acts or after
+    read-failed : (e : Event) (c : Cause) → heardBy e ≡ causeOf c → ackedAfter e i ≡ i
+        → Reading (readStep e (readWorld config address size n phase.Waiting false i b t g buffer work flash))
+    read-failed e c o k =
+        let count : ℕ = countAt config address size n i b t g buffer work flash fits long room in
+        rw (made-read config address size n i b t g buffer work flash fits long room e [], k, heard-failed config address size n i b t g buffer work flash fits long room e c o false (broughtAt config address size n i b t g buffer work flash fits long room) [] work long (after e g (repliedOf 0x44 count g)) flash i)
+        (reading-failed c false i b t (after e g (repliedOf 0x44 count g)) buffer work long l f)
+
+    read-event : (e : Event) → g .pointer ≡ address + i * 32 → Reading (readStep e (readWorld config address size n phase.Waiting false i b t g buffer work flash))
+    read-event acknowledged q =
+        rw step-read-heard
+        (record {
+          at = phaseAfter (blocksOf size) (suc i);
+          head = false;
+          i = suc i;
+          b = b;
+          t = t;
+          gauge = record { pointer = min (g .pointer + 32) 0x6000 };
+          buffer = blockAfter;
+          work = work;
+          is = refl;
+          long = long;
+          front = block-after q;
+          kept = kept-after false (suc i) (record { pointer = min (g .pointer + 32) 0x6000 }) (λ m. omega arith);
+        })
+    read-event (failed c) q = read-failed (failed c) c refl refl
+    read-event (unheard c) q = read-failed (unheard c) c refl refl
+
+  -- ---- every event
 
   reading-at : (e : Event) (p : Phase) (h : Bool) (i : ℕ) (b : Budget) (t : Tally) (g : Gauge) (buffer work : List ℕ) → length work ≡ n
       → buffer ≡ over (take (i * 32) wanted) old → Kept p h i g
-      → Reading (stepOf e (readWorld config address size n p h i b t g buffer work flash))
-  unfolding driveOf
+      → Reading (readStep e (readWorld config address size n p h i b t g buffer work flash))
   reading-at e (phase.Ended a) h i b t g buffer work long f k =
-      rw (ended-stays config address size n (e ∷ []) a h i b t g buffer work flash)
+      rw (made-over config address size n e [] a h i b t g buffer work flash)
       (record { at = phase.Ended a; head = h; i = i; b = b; t = t; gauge = g; buffer = buffer; work = work; is = refl; long = long; front = f; kept = k })
-  reading-at e phase.Waiting true i b t g buffer work long f k =
-      rw (step-head config address size n i b t g buffer work flash (buffer-long i buffer f) long room e) (head-event e i b t g buffer work long (k .0) f)
-  reading-at e phase.Waiting false i b t g buffer work long f k =
-      rw (step-read config address size n i b t g buffer work flash (buffer-long i buffer f) long room e) (read-event e i b t g buffer work long (k .0) (k .1 refl) f)
+  reading-at e phase.Waiting true i b t g buffer work long f k = head-event i b t g buffer work long (k .0) f e
+  reading-at e phase.Waiting false i b t g buffer work long f k = read-event i b t g buffer work long (k .0) f e (k .1 refl)
 
-  pub reading-step : (e : Event) (w : World) → Reading w → Reading (stepOf e w)
+  pub reading-step : (e : Event) (w : ReadWorld) → Reading w → Reading (readStep e w)
   reading-step e w r = rw (r .is) (reading-at e (r .at) (r .head) (r .i) (r .b) (r .t) (r .gauge) (r .buffer) (r .work) (r .long) (r .front) (r .kept))
 
-  pub reading-run : (es : List Event) (w : World) → Reading w → Reading (driveOf es w)
-  unfolding driveOf
+  pub reading-run : (es : List Event) (w : ReadWorld) → Reading w → Reading (readRun es w)
+  unfolding each
   reading-run [] w r = r
-  reading-run (e ∷ es) w r = reading-run es (stepOf e w) (reading-step e w r)
-
-  -- every block received: the buffer has what was wanted
-  pub all-received : (i : ℕ) (buffer : List ℕ) → size ≤ i * 32 → buffer ≡ over (take (i * 32) wanted) old → buffer ≡ wanted
-  unfolding over
-  all-received i buffer h f =
-      let e : take (i * 32) wanted ≡ wanted = take-all (i * 32) wanted (omega (arith, wanted-long)) in
-      f ∙ rw (e, wanted-long, drop-length, append-nil)
+  reading-run (e ∷ es) w r = reading-run es (readStep e w) (reading-step e w r)

@@ -3,7 +3,7 @@
 use Prim.Native.Nat.{ℕ, suc, _+_, _*_, _-_, _≤_, _<_, min}
 use mathlib.Core.Path.{_≡_, refl, sym, ap, _∙_}
 use mathlib.Core.Bool.{Bool, true, false}
-use mathlib.Core.Logic.{_⊎_, inl, inr}
+use mathlib.Core.Logic.{inl, inr}
 use mathlib.Core.List.{List, [], _∷_}
 use native.Mathlib.Omega.{arith}
 use lib.Dec.{eqb, leb}
@@ -11,7 +11,6 @@ use lib.ListN.{length, drop, length-take, length-drop}
 use borrow.Author.Tests.{eqb-true, eqb-false, leb-true, leb-false, ne-eqb, eq-eqb, le-ltb}
 use Rattle.protocol.specs.Pick.{if_then_else_}
 use Rattle.protocol.specs.Bytes.{over, blocksOf}
-use Rattle.protocol.specs.Answer.{numberOf}
 use Rattle.protocol.specs.declared.common.Config.{Config}
 use Rattle.protocol.specs.declared.error.Answer.{Answer}
 use Rattle.protocol.specs.declared.error.Answer.the-variants as answer
@@ -28,7 +27,7 @@ use Rattle.writing.specs.Writing.{planOf, startOf, gaveUp, retryOf, endOf, fail
 use Rattle.r5.specs.Plans.{writeDataflash}
 use Rattle.model_gauge.specs.Gauge.{stored}
 use Rattle.promises.specs.Flash.{placeOf, blockOf, upto, Overlaid}
-use Rattle.promises.specs.Events.{Cause, busError, timedOut, Event, acknowledged, failed, unheard, each}
+use Rattle.promises.specs.Events.{Cause, Event, acknowledged, failed, unheard, each}
 use Rattle.promises.specs.Writes.{World, began, shows, step, run}
 use Rattle.promises.specs.Demand3.{Answered, all-acked, some-acked, none-acked, Told, Promised, Accepted}
 use Rattle.promises.proofs.Overlay.{overlaid-long, overlaid-none, landed}
@@ -36,7 +35,7 @@ use Rattle.promises.proofs.Store.{store-nothing}
 use Rattle.promises.proofs.Window.{within}
 use Rattle.promises.proofs.Bytes.{agree}
 use Rattle.promises.proofs.Frames.{stores-block}
-use Rattle.promises.proofs.Machine.{whyOf, worldAt, callAt, frameOf, shows-block, shows-ended, laid-long, step-acknowledged, step-failed, step-unheard, made-ended}
+use Rattle.promises.proofs.Machine.{whyOf, why-number, worldAt, callAt, frameOf, shows-block, shows-ended, laid-long, step-acknowledged, step-failed, step-unheard, made-ended}
 
 -- ---- what the phases say
 
@@ -59,12 +58,8 @@ told-gave-up : (n i : ℕ) (c : Cause) → i * 32 < n → Answered 32 n i (if eq
 unfolding if_then_else_
 told-gave-up n i c h = by c (eqb i 0) refl
   where
-    cause : (c : Cause) → (numberOf (whyOf c) ≡ 1) ⊎ (numberOf (whyOf c) ≡ 2)
-    cause (busError code) = inl refl
-    cause timedOut = inr refl
-
     by : (c : Cause) (t : Bool) → eqb i 0 ≡ t → Answered 32 n i (if t then whyOf c else answer.PartialDataFlashWrite (i * 32))
-    by c true t = none-acked (cause c) (eqb-true i 0 t)
+    by c true t = none-acked (why-number c) (eqb-true i 0 t)
     by c false t = let some : i ≡ 0 → ⊥ = eqb-false i 0 t in some-acked refl refl (omega arith) h
 
 -- what is promised of a world, but for the bytes

@@ -32,11 +32,15 @@ lentOf acknowledged brought beside = brought
 lentOf (failed c) brought beside = beside
 lentOf (unheard c) brought beside = beside
 
--- what a frame does to the flash: the one place where that is supposed
+-- its full work is done, unless it failed with nothing done: the one place where that is supposed
+abbrev pub after : {A : Type 0} → Event → (before done : A) → A
+after acknowledged before done = done
+after (failed c) before done = before
+after (unheard c) before done = done
+
+-- what a frame does to the flash
 abbrev pub flashAfter : Event → List ℕ → List ℕ → List ℕ
-flashAfter acknowledged frame flash = stored frame flash
-flashAfter (failed c) frame flash = flash
-flashAfter (unheard c) frame flash = stored frame flash
+flashAfter e frame flash = after e flash (stored frame flash)
 
 -- one more, where it was acknowledged
 abbrev pub ackedAfter : Event → ℕ → ℕ

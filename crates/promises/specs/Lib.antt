@@ -8,5 +8,6 @@ pub mod OverOriginal
 pub mod Demand3
 pub mod Worked3
 pub mod Courses
+pub mod Reads
 pub mod CourseRows
 pub mod Reading

@@ -1,45 +1,86 @@
--- Beside demand 3, for the reader, on the model's courses: a read that ends well returns the flash's bytes, and what was written is read back.
+-- Beside demand 3, for the reader: stop a data-flash read anywhere and know every byte of its buffer; what ended well has the flash's bytes; and what was
+-- written is read back. What is supposed of the gauge is what demand 3 supposes, and that it replies to a read as the model does.
 -- Assumes nothing.
-use Prim.Native.Nat.{ℕ, _≤_, _<_}
+use Prim.Native.Nat.{ℕ, _*_, _≤_, _<_}
 use mathlib.Core.Path.{_≡_}
 use mathlib.Core.Bool.{true}
+use mathlib.Core.Logic.{_⊎_}
 use mathlib.Core.List.{List, _++_}
 use lib.ListN.{length, take, drop, replicate}
-use Rattle.protocol.specs.Bytes.{blocksOf}
+use Rattle.protocol.specs.Answer.{numberOf}
+use Rattle.protocol.specs.Bytes.{over, blocksOf}
 use Rattle.protocol.specs.declared.common.Config.{Config}
+use Rattle.protocol.specs.declared.error.Answer.{Answer}
 use Rattle.engine.specs.declared.bus.Transfer.{Transfer}
-use Rattle.reading.specs.Reading.{startOf, nextOf}
-use Rattle.r5.specs.Plans.{readDataflash}
+use Rattle.engine.specs.declared.bus.Transfer.the-variants as transfer
 use Rattle.model_gauge.specs.declared.gauge.Gauge.{Gauge}
-use Rattle.courses.specs.Course.{soundOf}
-use Rattle.courses.specs.ReadRun.{World, Left, world, runOf}
+use Rattle.courses.specs.Course.{eventsOf, soundOf}
+use Rattle.courses.specs.ReadRun.{World, Left, world, leftOf, runOf}
 use Rattle.promises.specs.Flash.{placeOf}
+use Rattle.promises.specs.Events.{Event}
+use Rattle.promises.specs.Host.{Doing, events, Allowed}
+use Rattle.promises.specs.Reads.{ReadWorld, readBegan, readShows, readRun, readDoes, ReadMay, readHosted, ReadAlike}
 use Rattle.promises.specs.Demand3.{endIn, EndedWell, Accepted}
-use Rattle.promises.specs.Courses.{ran}
+use Rattle.promises.specs.Courses.{eventsIn, ran}
 
 -- the n bytes of the flash from an address on
 abbrev pub flashBytes : ℕ → ℕ → List ℕ → List ℕ
 flashBytes address n flash = take n (drop (placeOf address) flash)
 
--- a data-flash read starts, beside a gauge
-unfoldable pub readBegan : Gauge → Config → ℕ → List ℕ → List ℕ → List ℕ → World
-readBegan gauge config address buffer work flash =
-    world (record { call = startOf (readDataflash config address) (length buffer) (length work); gauge = gauge }) buffer work flash
+-- ---- over events
 
--- and is run over a course
+-- what an answer says of i acknowledged reads of a buffer of n bytes: 0, every block has come; 1 or 2, one has not
+pub data ReadAnswered (n i : ℕ) (a : Answer) : Type 0 where
+  all-got : numberOf a ≡ 0 → n ≤ i * 32 → ReadAnswered n i a
+  gave-up : (numberOf a ≡ 1) ⊎ (numberOf a ≡ 2) → i * 32 < n → ReadAnswered n i a
+
+-- what the machine shows then: a transfer, where a block is left to read, or such an answer; never a refusal
+abbrev pub ReadTold : ℕ → ℕ → Transfer → Type 0
+ReadTold n i (transfer.Write count) = i * 32 < n
+ReadTold n i (transfer.Read command count) = i * 32 < n
+ReadTold n i (transfer.Refused a) = ⊥
+ReadTold n i (transfer.Ended a) = ReadAnswered n i a
+
+-- at every point of stopping
+pub record ReadPromised (address : ℕ) (buffer flash : List ℕ) (w : ReadWorld) : Type 0 where
+  -- the flash is as it was
+  pub kept : w .flash ≡ flash
+  -- the buffer has the flash's bytes in front, as many blocks as were acknowledged, and the rest of it is as it was
+  pub front : w .buffer ≡ over (take (w .got * 32) (flashBytes address (length buffer) flash)) buffer
+  -- and what the machine shows
+  pub told : ReadTold (length buffer) (w .got) (readShows w)
+
+-- ---- over courses
+
+-- the call and the gauge, the buffer, the work buffer and the flash, as the model's runs have them
+abbrev pub inModel : ReadWorld → World
+inModel w = world (record { call = w .call; gauge = w .gauge }) (w .buffer) (w .work) (w .flash)
+
+-- a read starts beside a gauge and is run over a course
 abbrev pub readRan : Config → ℕ → List ℕ → List ℕ → List ℕ → Gauge → List ℕ → Left
-readRan config address buffer work flash gauge course = runOf course (readBegan gauge config address buffer work flash)
+readRan config address buffer work flash gauge course = runOf course (inModel (readBegan gauge config address buffer work flash))
+
+-- the same read over the same events
+abbrev pub readRanIn : Config → ℕ → List ℕ → List ℕ → List ℕ → Gauge → List ℕ → ReadWorld
+readRanIn config address buffer work flash gauge course = readRun (eventsIn (eventsOf course)) (readBegan gauge config address buffer work flash)
 
 -- what a run left, to be run on
 abbrev pub read-over : Left → World
 read-over l = world (l .run .reader) (l .buffer) (l .work) (l .flash)
 
--- what the call shows
-abbrev pub readShows : World → Transfer
-readShows w = nextOf (w .reader .call) (length (w .buffer)) (length (w .work))
-
 pub record ReadsTrue : Type 0 where
-  -- over every course, with a PEC or without, from whatever pointer: no read changes the flash, and one that ends well returns its bytes
+  -- stop anywhere, whatever each failure's cause, with a PEC or without, from whatever pointer
+  pub stopped : (config : Config) (address : ℕ) (buffer work flash : List ℕ) → Accepted address buffer work flash → (gauge : Gauge) (es : List Event)
+      → ReadPromised address buffer flash (readRun es (readBegan gauge config address buffer work flash))
+  -- any host: whatever work buffer it lends, whatever lies in the reply beside a failure and whatever refused report comes in between, nothing else changes
+  pub any-host : (config : Config) (address : ℕ) (buffer work flash : List ℕ) → Accepted address buffer work flash → (gauge : Gauge)
+      → (doings : List Doing) → Allowed readDoes (ReadMay (length buffer) (length work)) doings (readBegan gauge config address buffer work flash)
+      → ReadAlike (readHosted doings (readBegan gauge config address buffer work flash)) (readRun (events doings) (readBegan gauge config address buffer work flash))
+  -- on a course: a run leaves what the run over the course's events leaves
+  pub same : (config : Config) (address : ℕ) (buffer work flash : List ℕ) → Accepted address buffer work flash
+      → (gauge : Gauge) (course : List ℕ) → soundOf course ≡ true
+      → readRan config address buffer work flash gauge course ≡ leftOf (inModel (readRanIn config address buffer work flash gauge course))
+  -- no read changes the flash, and one that ends well returns its bytes
   pub reads : (config : Config) (address : ℕ) (buffer work flash : List ℕ) → Accepted address buffer work flash
       → (gauge : Gauge) (course : List ℕ) → soundOf course ≡ true
       → (readRan config address buffer work flash gauge course .flash ≡ flash)
@@ -48,7 +89,7 @@ pub record ReadsTrue : Type 0 where
   -- a run is cut where the call then shows a transfer, and else has the answer that it shows
   pub ends : (config : Config) (address : ℕ) (buffer work flash : List ℕ) → Accepted address buffer work flash
       → (gauge : Gauge) (course : List ℕ) → soundOf course ≡ true
-      → readRan config address buffer work flash gauge course .run .end ≡ endIn (readShows (read-over (readRan config address buffer work flash gauge course)))
+      → readRan config address buffer work flash gauge course .run .end ≡ endIn (readShows (readRanIn config address buffer work flash gauge course))
   -- a read that was cut and is run on over a further course is the read run over both
   pub runs-on : (config : Config) (address : ℕ) (buffer work flash : List ℕ) → Accepted address buffer work flash
       → (gauge : Gauge) (course further : List ℕ) → soundOf course ≡ true → soundOf further ≡ true

@@ -1,0 +1,114 @@
+-- Stop a read anywhere: what every event keeps, a read keeps over every list of events.
+-- Assumes nothing.
+use Prim.Native.Nat.{ℕ, _+_, _≤_, _<_}
+use mathlib.Core.Path.{_≡_, refl, sym}
+use mathlib.Core.Bool.{Bool, true, false, false≢true}
+use mathlib.Core.List.{List, [], _∷_}
+use native.Mathlib.Omega.{arith}
+use lib.Dec.{eqb}
+use lib.ListN.{length}
+use borrow.Author.Tests.{eq-eqb, ne-eqb, eqb-true, eqb-false, le-ltb}
+use Rattle.protocol.specs.Pick.{if_then_else_}
+use Rattle.protocol.specs.Bytes.{over}
+use Rattle.protocol.specs.declared.common.Config.{Config}
+use Rattle.protocol.specs.declared.error.Answer.{Answer}
+use Rattle.protocol.specs.declared.error.Answer.the-variants as answer
+use Rattle.engine.specs.Pick.{case_waiting_ended_}
+use Rattle.engine.specs.Budget.{nothing}
+use Rattle.engine.specs.Limit.{windowed, measured, admitted}
+use Rattle.engine.specs.declared.budget.Budget.{Budget}
+use Rattle.engine.specs.declared.budget.Tally.{Tally}
+use Rattle.engine.specs.declared.bus.Phase.{Phase}
+use Rattle.engine.specs.declared.bus.Phase.the-variants as phase
+use Rattle.reading.specs.Parts.{hasHead}
+use Rattle.reading.specs.Reading.{startOf, nextOf}
+use Rattle.r5.specs.Plans.{readDataflash}
+use Rattle.model_gauge.specs.declared.gauge.Gauge.{Gauge}
+use Rattle.promises.specs.Events.{Event, each}
+use Rattle.promises.specs.Reads.{ReadWorld, readBegan, readShows, readRun}
+use Rattle.promises.specs.Reading.{all-got, ReadTold, ReadPromised}
+use Rattle.promises.specs.Demand3.{Accepted}
+use Rattle.promises.proofs.Window.{within}
+use Rattle.promises.proofs.ReadSteps.{readWorld, shows-head, shows-read, made-over}
+use Rattle.promises.proofs.Reading.{Kept, Reading, buffer-long, reading-run}
+
+-- an ended call stays as it is over every list of events
+pub read-ended : (config : Config) (address size n : ℕ) (es : List Event) (a : Answer) (h : Bool) (i : ℕ) (b : Budget) (t : Tally) (g : Gauge) (buffer work flash : List ℕ)
+    → readRun es (readWorld config address size n (phase.Ended a) h i b t g buffer work flash) ≡ readWorld config address size n (phase.Ended a) h i b t g buffer work flash
+unfolding each
+read-ended config address size n [] a h i b t g buffer work flash = refl
+read-ended config address size n (e ∷ es) a h i b t g buffer work flash =
+    rw (made-over config address size n e [] a h i b t g buffer work flash) (read-ended config address size n es a h i b t g buffer work flash)
+
+module _ (config : Config) (address : ℕ) (buffer work flash : List ℕ) (a : Accepted address buffer work flash) (gauge : Gauge) where
+  abbrev pub start : ReadWorld
+  start = readBegan gauge config address buffer work flash
+
+  -- an accepted read waits with its head due, or is done where nothing is to be read
+  pub start-is : (t : Bool) → eqb (length buffer) 0 ≡ t
+      → start ≡ readWorld config address (length buffer) (length work) (if t then phase.Ended answer.Done else phase.Waiting) true 0 (record { left = config .«max_bus_retries» }) nothing gauge buffer work flash
+  unfolding readBegan startOf admitted measured windowed readDataflash hasHead if_then_else_
+  start-is t e = rw (le-ltb (length work) 39 (a .room), a .window, e)
+
+  -- nothing is to be read: it has ended before its first transfer
+  pub read-empty : length buffer ≡ 0 → (es : List Event)
+      → readRun es start ≡ readWorld config address (length buffer) (length work) (phase.Ended answer.Done) true 0 (record { left = config .«max_bus_retries» }) nothing gauge buffer work flash
+  unfolding if_then_else_
+  read-empty none es =
+      rw (start-is true (eq-eqb (length buffer) 0 none)) (read-ended config address (length buffer) (length work) es answer.Done true 0 _ nothing gauge buffer work flash)
+
+  -- something is to be read
+  pub reading : 0 < length buffer → (low : 0x4000 ≤ address) (high : address + length buffer ≤ 0x6000) (es : List Event)
+      → Reading config address (length work) buffer flash (a .room) (a .whole) low high (readRun es start)
+  unfolding if_then_else_ over
+  reading some low high es =
+      let t : eqb (length buffer) 0 ≡ false = ne-eqb (length buffer) 0 (λ e. omega arith) in
+      reading-run config address (length work) buffer flash (a .room) (a .whole) low high es start
+      (record {
+        at = phase.Waiting;
+        head = true;
+        i = 0;
+        b = record { left = config .«max_bus_retries» };
+        t = nothing;
+        gauge = gauge;
+        buffer = buffer;
+        work = work;
+        is = start-is false t;
+        long = refl;
+        front = refl;
+        kept = (omega arith, λ e. absurd (false≢true (sym e)));
+      })
+
+  -- what is shown
+  told-at : (low : 0x4000 ≤ address) (high : address + length buffer ≤ 0x6000) (p : Phase) (h : Bool) (i : ℕ) (b : Budget) (t : Tally) (g : Gauge) (now work′ : List ℕ)
+      → length now ≡ length buffer → length work′ ≡ length work
+      → Kept config address (length work) buffer flash (a .room) (a .whole) low high p h i g
+      → ReadTold (length buffer) i (readShows (readWorld config address (length buffer) (length work) p h i b t g now work′ flash))
+  unfolding nextOf case_waiting_ended_
+  told-at low high phase.Waiting true i b t g now work′ fits long k = rw (shows-head config address (length buffer) (length work) i b t g now work′ flash fits long (a .room)) (k .0)
+  told-at low high phase.Waiting false i b t g now work′ fits long k = rw (shows-read config address (length buffer) (length work) i b t g now work′ flash fits long (a .room)) (k .0)
+  told-at low high (phase.Ended answer) h i b t g now work′ fits long k = k
+
+  stopped-some : (es : List Event) → 0 < length buffer → ReadPromised address buffer flash (readRun es start)
+  stopped-some es some =
+      let w = within address (length buffer) (a .window) some in
+      let r = reading some (w .0) (w .1) es in
+      rw (r .is)
+      (record {
+        kept = refl;
+        front = r .front;
+        told = told-at (w .0) (w .1) (r .at) (r .head) (r .i) (r .b) (r .t) (r .gauge) (r .buffer) (r .work)
+            (buffer-long config address (length work) buffer flash (a .room) (a .whole) (w .0) (w .1) (r .i) (r .buffer) (r .front)) (r .long) (r .kept);
+      })
+
+  stopped-empty : (es : List Event) → length buffer ≡ 0 → ReadPromised address buffer flash (readRun es start)
+  unfolding over nextOf case_waiting_ended_
+  stopped-empty es none = rw (read-empty none es) (record { kept = refl; front = refl; told = all-got refl (omega arith) })
+
+  -- STOP A READ ANYWHERE
+  pub stopped : (es : List Event) → ReadPromised address buffer flash (readRun es start)
+  stopped es = by (eqb (length buffer) 0) refl
+    where
+      by : (t : Bool) → eqb (length buffer) 0 ≡ t → ReadPromised address buffer flash (readRun es start)
+      by true t = stopped-empty es (eqb-true _ _ t)
+      by false t = let none : length buffer ≡ 0 → ⊥ = eqb-false _ _ t in stopped-some es (omega arith)
