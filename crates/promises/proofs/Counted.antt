@@ -16,6 +16,12 @@ use Rattle.promises.specs.Writes.{began, shows, run}
 use Rattle.promises.specs.Demand3.{Answered, all-acked, some-acked, none-acked, Told, countOf, Accepted}
 use Rattle.promises.proofs.Stopped.{stopped}
 
+-- figures
+pub counts : (countOf (answer.PartialDataFlashWrite 64) ≡ 64) × (countOf (answer.I2c 5) ≡ 0) × (countOf answer.Timeout ≡ 0)
+unfolding if_then_else_
+counts = (refl, refl, refl)
+
+-- each answer but 0 counts what was acknowledged
 error-counts : (n i : ℕ) (a : Answer) → (numberOf a ≡ 0 → ⊥) → Answered 32 n i a → countOf a ≡ i * 32
 unfolding if_then_else_
 error-counts n i a error (all-acked z h) = absurd (error z)
@@ -29,8 +35,3 @@ pub counted : (config : Config) (address : ℕ) (payload work flash : List ℕ) 
     → countOf a ≡ run payload es (began config address payload work flash) .acked * 32
 counted config address payload work flash c es a shown error =
     error-counts (length payload) _ a error (subst (Told 32 (length payload) _) shown (stopped config address payload work flash c es .told))
-
--- and its figures
-pub counts : (countOf (answer.PartialDataFlashWrite 64) ≡ 64) × (countOf (answer.I2c 5) ≡ 0) × (countOf answer.Timeout ≡ 0)
-unfolding if_then_else_
-counts = (refl, refl, refl)

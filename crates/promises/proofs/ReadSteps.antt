@@ -32,7 +32,7 @@ use Rattle.reading.specs.Reading.{dueAsk, shownHead, workHead, shownOf, workSho
 use Rattle.reading.specs.declared.call.ReadCall.{ReadCall}
 use Rattle.reading.specs.declared.call.ReadTask.{ReadTask}
 use Rattle.r5.specs.Plans.{readDataflash}
-use Rattle.model_gauge.specs.Gauge.{stored, storedForm, pointed, pointedForm, takes, takesForm, replyOf, repliedOf}
+use Rattle.model_gauge.specs.Gauge.{stored, storedForm, pointed, pointedForm, takes, takesForm, repliesTo, replyOf, repliedOf}
 use Rattle.model_gauge.specs.declared.gauge.Gauge.{Gauge}
 use Rattle.courses.specs.Pick.{case_write_read_none_}
 use Rattle.courses.specs.ReadRun.{takenOf, reportedOf}
@@ -139,8 +139,9 @@ module _ (config : Config) (address size n : ℕ) where
     pub made-read : (e : Event) (beside : List ℕ)
         → readMade e beside (readWorld phase.Waiting false i b t g buffer work flash)
         ≡ heard e broughtAt beside work (after e g (repliedOf 0x44 countAt g)) flash (ackedAfter e i) (readWorld phase.Waiting false i b t g buffer work flash)
-    unfolding readMade asked
-    made-read e beside = sym (at-read _ _ _ _ _ _ _ _ refl shows-read (rw lays-none))
+    unfolding readMade asked repliesTo if_then_else_
+    made-read e beside =
+        sym (at-read _ _ _ _ _ _ _ _ refl shows-read (rw (lays-none, le-leb countAt 36 (ask-small (config .«pec_read») (size - i * 32)))))
 
     -- ---- what the call hears
 

@@ -11,3 +11,4 @@ pub mod Courses
 pub mod Reads
 pub mod CourseRows
 pub mod Reading
+pub mod WorkedReads

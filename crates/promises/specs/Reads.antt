@@ -4,13 +4,14 @@ use Prim.Native.Nat.{ℕ}
 use mathlib.Core.Path.{_≡_}
 use mathlib.Core.List.{List, []}
 use lib.ListN.{length, take}
+use Rattle.protocol.specs.Pick.{if_then_else_}
 use Rattle.protocol.specs.Bytes.{over}
 use Rattle.protocol.specs.declared.common.Config.{Config}
 use Rattle.engine.specs.declared.bus.Transfer.{Transfer}
 use Rattle.reading.specs.Reading.{startOf, nextOf, workAfter, bufferAfter}
 use Rattle.reading.specs.declared.call.ReadCall.{ReadCall}
 use Rattle.r5.specs.Plans.{readDataflash}
-use Rattle.model_gauge.specs.Gauge.{pointed, replyOf, repliedOf}
+use Rattle.model_gauge.specs.Gauge.{pointed, repliesTo, replyOf, repliedOf}
 use Rattle.model_gauge.specs.declared.gauge.Gauge.{Gauge}
 use Rattle.courses.specs.Pick.{case_write_read_none_}
 use Rattle.courses.specs.ReadRun.{reportedOf}
@@ -53,10 +54,14 @@ unfoldable pub headSent : Event → (beside work : List ℕ) → ℕ → ReadWor
 headSent e beside work n w =
     heard e [] beside work (after e (w .gauge) (pointed (take n work) (w .gauge))) (flashAfter e (take n work) (w .flash)) (w .got) w
 
--- a read goes to the gauge, and brings its reply, cut to the number asked
+-- what a read brings: the gauge's reply, cut to the number asked, where it replies to such a read
+abbrev pub broughtBy : (command count : ℕ) → Gauge → List ℕ → List ℕ
+broughtBy command count gauge flash = if repliesTo command count then take count (replyOf gauge flash) else []
+
+-- a read goes to the gauge
 unfoldable pub asked : Event → (beside work : List ℕ) → (command count : ℕ) → ReadWorld → ReadWorld
 asked e beside work command count w =
-    heard e (take count (replyOf (w .gauge) (w .flash))) beside work (after e (w .gauge) (repliedOf command count (w .gauge))) (w .flash) (ackedAfter e (w .got)) w
+    heard e (broughtBy command count (w .gauge) (w .flash)) beside work (after e (w .gauge) (repliedOf command count (w .gauge))) (w .flash) (ackedAfter e (w .got)) w
 
 -- the same with another work buffer
 abbrev pub lending : List ℕ → ReadWorld → ReadWorld
