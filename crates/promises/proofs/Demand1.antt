@@ -11,6 +11,8 @@ use Rattle.answers.proofs.Hands.{hands-out}
 use Rattle.answers.proofs.Unique.{unique}
 use Rattle.answers.proofs.Unlooked.{unlooked-w, unlooked-r}
 use Rattle.answers.proofs.Within.{stays, within}
+use Rattle.original.proofs.Fronts.{fronts}
+use Rattle.original.proofs.Fronts.{fronts}
 use Rattle.promises.specs.Demand1.{Demand1}
 use Rattle.promises.proofs.CourseRows.{course-rows}
 
@@ -29,6 +31,7 @@ demand1 = record {
   costs-w = cost-w;
   costs-r = cost-r;
   delivers = delivers;
+  fronts = fronts;
   shown-w = shows-w;
   shown-r = shows-r;
   stays = stays;

@@ -2,7 +2,7 @@
 -- The rows are those of `answers` (Starts, Writes, Reads), by the paper's number and detail. That there is an answer at all is that the calls are functions
 -- with no `requires`.
 -- Assumes nothing.
-use Prim.Native.Nat.{ℕ}
+use Prim.Native.Nat.{ℕ, _≤_}
 use mathlib.Core.Path.{_≡_}
 use mathlib.Core.List.{List}
 use mathlib.Core.Logic.{_↔_}
@@ -15,6 +15,9 @@ use Rattle.writing.specs.Writing as writing
 use Rattle.writing.specs.declared.call.WriteCall.{WriteCall}
 use Rattle.reading.specs.Reading as reading
 use Rattle.reading.specs.declared.call.ReadCall.{ReadCall}
+use Rattle.original.specs.Bus.{BusOutcome}
+use Rattle.original.specs.Fed.{Lending, Lends}
+use Rattle.original.specs.Fronts.{Fronts}
 use Rattle.answers.specs.Rows.{Numbers, Says, Starts, Failure, saidW, saidR, Writes, Reads, SortW, SortR}
 use Rattle.answers.specs.Steps.{Shown, HandsOut, CostW, CostR, Delivers}
 use Rattle.answers.specs.Calls.{Admitted, Limits}
@@ -47,6 +50,9 @@ pub record Demand1 : Type 0 where
   pub costs-r : (call : ReadCall) (o : Outcome) (bytes : List ℕ) (n w : ℕ) → CostR call o bytes (reading.reportOf call o bytes n w)
   -- what a report leaves in the caller's buffer
   pub delivers : (call : ReadCall) (buffer : List ℕ) (o : Outcome) (bytes : List ℕ) (w : ℕ) → Delivers call o bytes buffer (reading.bufferAfter call o bytes buffer w)
+  -- wherever a reading call stops, ended well, failed or cut, the front of the buffer is the data of the replies that were believed, and the rest is as it was
+  pub fronts : (config : Config) → config .«max_bus_retries» ≤ 65535 → (w : ℕ) → 39 ≤ w → (lent : ℕ → Lending) → Lends w lent → (outcomes : List BusOutcome)
+      → Fronts config w lent outcomes
   -- what is shown, and when the work buffer is spared
   pub shown-w : (call : WriteCall) (payload work : List ℕ)
       → Shown (call .phase) (call .task .lent) (length payload) (length work) work (writing.workAfter call payload work) (writing.nextOf call payload (length work))

@@ -14,19 +14,17 @@ use lib.ListN.{length, drop, replicate}
 use lib.Dec.{eqb}
 use Rattle.protocol.specs.Pick.{if_then_else_}
 use Rattle.protocol.specs.Answer.{numberOf, detailOf}
-use Rattle.protocol.specs.Frame.{sealed}
 use Rattle.protocol.specs.Window.{inWindow}
 use Rattle.protocol.specs.declared.common.Config.{Config}
 use Rattle.protocol.specs.declared.error.Answer.{Answer}
 use Rattle.protocol.specs.declared.error.Answer.the-variants as answer
 use Rattle.engine.specs.declared.bus.Transfer.{Transfer}
 use Rattle.engine.specs.declared.bus.Transfer.the-variants as transfer
-use Rattle.writing.specs.Frames.{blockBytes}
 use Rattle.courses.specs.declared.course.End.{End}
 use Rattle.courses.specs.declared.course.End.the-variants as end
 use Rattle.original.specs.Bus.{begun}
 use Rattle.original.specs.OriginalR5 as rust
-use Rattle.promises.specs.Flash.{placeOf, store, Overlaid, Stands}
+use Rattle.promises.specs.Flash.{placeOf, store, blockFrame, Overlaid, Stands}
 use Rattle.promises.specs.Events.{Event, acknowledged}
 use Rattle.promises.specs.Host.{Doing, events, Allowed}
 use Rattle.promises.specs.OverOriginal.{outcomesIn, transfersOf, laidOver, stopOf}
@@ -110,12 +108,11 @@ pub record Demand3 : Type 0 where
   -- stop anywhere and know every byte, and what the count says
   pub stopped : (config : Config) (address : ℕ) (payload work flash : List ℕ) → Accepted address payload work flash → (es : List Event)
       → Promised address payload flash (run payload es (began config address payload work flash))
-  -- wherever a write is shown, the bytes handed out are the frame of the block that is due: 44, count + 2, the block's address low byte first, its
-  -- data, the PEC where it is on
+  -- wherever a write is shown, the bytes handed out are the frame of the block that is due
   pub frames : (config : Config) (address : ℕ) (payload work flash : List ℕ) → Accepted address payload work flash → (es : List Event) (n : ℕ)
       → shows payload (run payload es (began config address payload work flash)) ≡ transfer.Write n
       → handed payload n (run payload es (began config address payload work flash))
-      ≡ sealed (config .«pec_write») (blockBytes address (run payload es (began config address payload work flash) .acked) payload)
+      ≡ blockFrame (config .«pec_write») address (run payload es (began config address payload work flash) .acked) payload
   -- demand 2's transfers: for the outcomes of these events the flash is what becomes of the transfers that the Rust makes, and the machine stands where
   -- the Rust's call does, cut or with its answer
   pub over-original : (config : Config) (address : ℕ) (payload work flash : List ℕ) → config .«max_bus_retries» ≤ 65535 → Accepted address payload work flash

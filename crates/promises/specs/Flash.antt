@@ -1,10 +1,13 @@
 -- A flash with bytes stored over it, for blocks of any length k: as an overlay, and byte by byte for each address.
 -- Assumes nothing.
-use Prim.Native.Nat.{ℕ, suc, _+_, _*_, _-_, _≤_, _<_, min}
+use Prim.Native.Nat.{ℕ, suc, _+_, _*_, _-_, _/_, _%_, _≤_, _<_, min}
 use mathlib.Core.Path.{_≡_}
+use mathlib.Core.Bool.{Bool}
 use mathlib.Core.Logic.{_⊎_}
-use mathlib.Core.List.{List, _++_}
+use mathlib.Core.List.{List, [], _∷_, _++_}
 use lib.ListN.{length, take, drop, getD}
+use Rattle.smbus_pec.specs.Pec.{pecOf}
+use Rattle.protocol.specs.Pick.{if_then_else_}
 
 -- where an address lies in the flash: the byte of 4000 hex is first. The demand has a place of its own and does not borrow the model's (`offsetOf`)
 abbrev pub placeOf : ℕ → ℕ
@@ -21,6 +24,14 @@ store flash at bytes = take at flash ++ bytes ++ drop (at + length bytes) flash
 -- block i of a payload, the last perhaps short
 abbrev pub blockOf : ℕ → ℕ → List ℕ → List ℕ
 blockOf k i payload = take k (drop (i * k) payload)
+
+-- its frame, at its own address: 44, the count of what follows, the address low byte first, its bytes; with PEC, that of 16 and all of it (01, Frames)
+abbrev pub blockFrame : Bool → ℕ → ℕ → List ℕ → List ℕ
+blockFrame pec address i payload =
+    let block : List ℕ = blockOf 32 i payload in
+    let at : ℕ = address + i * 32 in
+    let frame : List ℕ = 0x44 ∷ (length block + 2) ∷ at % 256 ∷ at / 256 % 256 ∷ block in
+    if pec then frame ++ (pecOf 0 (0x16 ∷ frame) ∷ []) else frame
 
 -- the flash with the first i blocks of a payload over it, or all of them where there are fewer
 abbrev pub upto : ℕ → ℕ → List ℕ → List ℕ → ℕ → List ℕ
