@@ -90,6 +90,10 @@ module _ (layout : Layout) (buffer : List ℕ) where
   unfolding allBrought
   waits before done t r g f w = record { added = t ∷ []; grown = g; front = rw append-nil f; whole = rw append-nil w }
 
+  -- what equals a call comes to what it comes to
+  pub as-well : (before : List ℕ) (done : List Made) (outcomes : List BusOutcome) (x y : Read) → x ≡ y → Comes layout buffer before done outcomes y → Comes layout buffer before done outcomes x
+  as-well before done outcomes x y e c = rw e c
+
   -- one way or the other
   pub either : (f : Read → Read) (before : List ℕ) (done : List Made) (outcomes : List BusOutcome) (t : Bool) (x y : Read)
       → Comes layout buffer before done outcomes (f x) → Comes layout buffer before done outcomes (f y) → Comes layout buffer before done outcomes (f (if t then x else y))

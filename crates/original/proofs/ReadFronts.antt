@@ -4,6 +4,7 @@ use Prim.Native.Nat.{ℕ, _+_, _-_, _%_, _≤_, _<_, min}
 use mathlib.Core.Path.{_≡_, refl, sym, ap, _∙_}
 use mathlib.Core.List.{List, [], _∷_, _++_}
 use mathlib.Core.Bool.{Bool, true, false, not, _&&_}
+use native.Mathlib.Nat.{le-of-lt}
 use native.Mathlib.Omega.{arith}
 use lib.ListN.{length, take, drop, getD, length-append, length-take, length-drop}
 use lib.Seq.{take-nil, take-all, take-take}
@@ -20,7 +21,7 @@ use Rattle.original.specs.OriginalInterface.{readLoop, macWriteTurn, mac
 use Rattle.original.specs.Fronts.{plain, mac, dataIn, brought, transfersOf, leftOf}
 use Rattle.original.proofs.ReadTurns.{length-delivered}
 use Rattle.original.proofs.FlashRead.{loop, count, bad, placed, loop-done, address-waits, address-turn, read-waits, read-turn}
-use Rattle.original.proofs.Brought.{drop-take, over-more, data-in, counted, Comes, stopped, waits, either, stepped, unmoved, filled}
+use Rattle.original.proofs.Brought.{drop-take, over-more, data-in, counted, Comes, stopped, waits, as-well, either, stepped, unmoved, filled}
 
 -- nothing is brought yet: the buffer is as it was
 pub untouched : (buffer : List ℕ) → buffer ≡ over (take (length buffer) []) buffer
@@ -126,11 +127,27 @@ unfolding if_then_else_
 block-length start true left reply e = rw (length-take, length-drop) (omega arith)
 block-length start false left reply e = rw (length-take, length-drop) (omega arith)
 
--- it fills what is left, or is a whole block
-block-fits : (pec : Bool) (left : ℕ) → (min 32 left ≡ min left (most pec left)) × (min 32 left ≤ most pec left) × (most pec left < left → most pec left ≡ 32)
+-- it is stored as far as there is room
+block-room : (pec : Bool) (left : ℕ) → min 32 left ≡ min left (most pec left)
 unfolding if_then_else_
-block-fits true left = (omega arith, omega arith, λ h. refl)
-block-fits false left = (omega arith, omega arith, λ h. omega arith)
+block-room true left = omega arith
+block-room false left = omega arith
+
+block-least : (pec : Bool) (left : ℕ) → min 32 left ≤ most pec left
+unfolding if_then_else_
+block-least true left = omega arith
+block-least false left = omega arith
+
+-- so much is there then: all, or whole blocks
+reached : (pec : Bool) (b n left : ℕ) → left ≡ n - b → b < n → b + min 32 left ≡ min (b + most pec left) n
+unfolding if_then_else_
+reached true b n left e h = omega arith
+reached false b n left e h = omega arith
+
+whole-then : (pec : Bool) (b n left : ℕ) → left ≡ n - b → b % 32 ≡ 0 → b + most pec left < n → (b + most pec left) % 32 ≡ 0
+unfolding if_then_else_
+whole-then true b n left e w h = omega arith
+whole-then false b n left e w h = omega arith
 
 -- the loop over data flash, whose window ends before FFFF
 module _ (start : ℕ) (pec : Bool) (buffer : List ℕ) (far : start + length buffer ≤ 0x6000) where
@@ -173,10 +190,10 @@ module _ (start : ℕ) (pec : Bool) (buffer : List ℕ) (far : start + length bu
   stored : (before reply : List ℕ) (left : ℕ) → left ≡ length buffer - length before → length before < length buffer → length reply ≡ count start pec left
       → placed start (length before) (min 32 left) reply (over before buffer) ≡ over (take (length buffer) (before ++ take (most pec left) (drop 3 reply))) buffer
   stored before reply left e h l =
-      let fits : (min 32 left ≡ min left (most pec left)) × (min 32 left ≤ most pec left) × (most pec left < left → most pec left ≡ 32) = block-fits pec left in
-      let k : min 32 left ≡ min (length buffer - length before) (length (take (most pec left) (drop 3 reply))) = fits .0 ∙ rw (block-length start pec left reply l, ← e) in
-      ap (λ (d : List ℕ). take (length before) (over before buffer) ++ d ++ drop (length before + min 32 left) (over before buffer)) (sym (take-take (min 32 left) (most pec left) (drop 3 reply) (fits .1)))
-      ∙ over-more before (take (most pec left) (drop 3 reply)) buffer (min 32 left) (omega arith) k
+      let k : min 32 left ≡ min (length buffer - length before) (length (take (most pec left) (drop 3 reply))) = block-room pec left ∙ rw (block-length start pec left reply l, ← e) in
+      ap (λ (d : List ℕ). take (length before) (over before buffer) ++ d ++ drop (length before + min 32 left) (over before buffer))
+      (sym (take-take (min 32 left) (most pec left) (drop 3 reply) (block-least pec left)))
+      ∙ over-more before (take (most pec left) (drop 3 reply)) buffer (min 32 left) (le-of-lt h) k
 
   -- a reply is weighed
   flash-reply : (outcomes : List BusOutcome) → Going outcomes → (retries : ℕ) (before : List ℕ) (log : Log) (bytes : List ℕ) (left : ℕ) → left ≡ length buffer - length before
@@ -191,47 +208,47 @@ module _ (start : ℕ) (pec : Bool) (buffer : List ℕ) (far : start + length bu
       (block start pec left (delivered (count start pec left) bytes) (length-delivered _ bytes) ∙ rw t)
       (flash-fault outcomes ih retries answer.Pec before (made (read 0x44 (count start pec left)) log) h w)
   flash-reply outcomes ih retries before log bytes left e h w false t =
-      let reply : List ℕ = delivered (count start pec left) bytes in
       let l : length (delivered (count start pec left) bytes) ≡ count start pec left = length-delivered (count start pec left) bytes in
-      let d : dataIn (mac pec) (delivered (count start pec left) bytes) ≡ take (most pec left) (drop 3 (delivered (count start pec left) bytes)) = block start pec left reply l ∙ rw t in
-      let all : length (before ++ take (most pec left) (drop 3 (delivered (count start pec left) bytes))) ≡ length before + most pec left = length-append before _ ∙ ap (λ (n : ℕ). length before + n) (block-length start pec left reply l) in
-      let fits : (min 32 left ≡ min left (most pec left)) × (min 32 left ≤ most pec left) × (most pec left < left → most pec left ≡ 32) = block-fits pec left in
+      let d : dataIn (mac pec) (delivered (count start pec left) bytes) ≡ take (most pec left) (drop 3 (delivered (count start pec left) bytes))
+      = block start pec left (delivered (count start pec left) bytes) l ∙ rw t in
+      let all : length (before ++ take (most pec left) (drop 3 (delivered (count start pec left) bytes))) ≡ length before + most pec left
+      = length-append before _ ∙ ap (λ (n : ℕ). length before + n) (block-length start pec left (delivered (count start pec left) bytes) l) in
       stepped (mac pec) buffer before (log .transfers) (read 0x44 (count start pec left)) (Acknowledged bytes) outcomes _
-      (rw (d, stored before reply left e h l)
-      (next-block outcomes ih retries (length before + min 32 left) (before ++ take (most pec left) (drop 3 reply)) (made (read 0x44 (count start pec left)) log)
-      (rw all (omega (arith, fits .0))) (rw all (λ j. (let whole : most pec left ≡ 32 = fits .2 (omega arith) in omega arith))) _ refl))
+      (rw (d, stored before (delivered (count start pec left) bytes) left e h l)
+      (next-block outcomes ih retries (length before + min 32 left) (before ++ take (most pec left) (drop 3 (delivered (count start pec left) bytes))) (made (read 0x44 (count start pec left)) log)
+      (rw all (reached pec (length before) (length buffer) left e h)) (rw all (whole-then pec (length before) (length buffer) left e w)) _ refl))
 
   pub flash-comes : (outcomes : List BusOutcome) → Going outcomes
   unfolding busOp_err_ok_ transfersOf leftOf brought
   flash-comes [] true retries before log h w =
       let l : length (over before buffer) ≡ length buffer = as-long before h in
-      rw (address-waits start retries (over before buffer) (length before) log (omega arith) pec (omega arith))
+      as-well (mac pec) buffer before (log .transfers) [] _ _ (address-waits start retries (over before buffer) (length before) log (omega arith) pec (omega arith))
       (waits (mac pec) buffer before (log .transfers) _ _ refl (in-place before h) (λ j. w))
   flash-comes [] false retries before log h w =
       let l : length (over before buffer) ≡ length buffer = as-long before h in
-      rw (read-waits start retries (over before buffer) (length before) log (omega arith) pec)
+      as-well (mac pec) buffer before (log .transfers) [] _ _ (read-waits start retries (over before buffer) (length before) log (omega arith) pec)
       (waits (mac pec) buffer before (log .transfers) _ _ refl (in-place before h) (λ j. w))
   flash-comes (Acknowledged bytes ∷ outcomes) true retries before log h w =
       let l : length (over before buffer) ≡ length buffer = as-long before h in
-      rw (address-turn start retries (over before buffer) (length before) log (omega arith) pec (Acknowledged bytes) outcomes (omega arith))
+      as-well (mac pec) buffer before (log .transfers) (Acknowledged bytes ∷ outcomes) _ _ (address-turn start retries (over before buffer) (length before) log (omega arith) pec (Acknowledged bytes) outcomes (omega arith))
       (unmoved (mac pec) buffer before (log .transfers) _ (Acknowledged bytes) outcomes _ refl (flash-comes outcomes false retries before _ h w))
   flash-comes (Acknowledged bytes ∷ outcomes) false retries before log h w =
       let l : length (over before buffer) ≡ length buffer = as-long before h in
-      rw (read-turn start retries (over before buffer) (length before) log (omega arith) pec (Acknowledged bytes) outcomes)
+      as-well (mac pec) buffer before (log .transfers) (Acknowledged bytes ∷ outcomes) _ _ (read-turn start retries (over before buffer) (length before) log (omega arith) pec (Acknowledged bytes) outcomes)
       (flash-reply outcomes (flash-comes outcomes) retries before log bytes _ (rw l) h w _ refl)
   flash-comes (BusError code ∷ outcomes) true retries before log h w =
       let l : length (over before buffer) ≡ length buffer = as-long before h in
-      rw (address-turn start retries (over before buffer) (length before) log (omega arith) pec (BusError code) outcomes (omega arith))
+      as-well (mac pec) buffer before (log .transfers) (BusError code ∷ outcomes) _ _ (address-turn start retries (over before buffer) (length before) log (omega arith) pec (BusError code) outcomes (omega arith))
       (unmoved (mac pec) buffer before (log .transfers) _ (BusError code) outcomes _ refl (flash-fault outcomes (flash-comes outcomes) retries (answer.I2c code) before _ h w))
   flash-comes (BusError code ∷ outcomes) false retries before log h w =
       let l : length (over before buffer) ≡ length buffer = as-long before h in
-      rw (read-turn start retries (over before buffer) (length before) log (omega arith) pec (BusError code) outcomes)
+      as-well (mac pec) buffer before (log .transfers) (BusError code ∷ outcomes) _ _ (read-turn start retries (over before buffer) (length before) log (omega arith) pec (BusError code) outcomes)
       (unmoved (mac pec) buffer before (log .transfers) _ (BusError code) outcomes _ refl (flash-fault outcomes (flash-comes outcomes) retries (answer.I2c code) before _ h w))
   flash-comes (Timeout ∷ outcomes) true retries before log h w =
       let l : length (over before buffer) ≡ length buffer = as-long before h in
-      rw (address-turn start retries (over before buffer) (length before) log (omega arith) pec Timeout outcomes (omega arith))
+      as-well (mac pec) buffer before (log .transfers) (Timeout ∷ outcomes) _ _ (address-turn start retries (over before buffer) (length before) log (omega arith) pec Timeout outcomes (omega arith))
       (unmoved (mac pec) buffer before (log .transfers) _ Timeout outcomes _ refl (flash-fault outcomes (flash-comes outcomes) retries answer.Timeout before _ h w))
   flash-comes (Timeout ∷ outcomes) false retries before log h w =
       let l : length (over before buffer) ≡ length buffer = as-long before h in
-      rw (read-turn start retries (over before buffer) (length before) log (omega arith) pec Timeout outcomes)
+      as-well (mac pec) buffer before (log .transfers) (Timeout ∷ outcomes) _ _ (read-turn start retries (over before buffer) (length before) log (omega arith) pec Timeout outcomes)
       (unmoved (mac pec) buffer before (log .transfers) _ Timeout outcomes _ refl (flash-fault outcomes (flash-comes outcomes) retries answer.Timeout before _ h w))
