@@ -7,13 +7,14 @@ use courses::course::End;
 use courses::write_run::WriteRun;
 use courses::write_run::Writer;
 use engine::budget;
+use fixture::course;
+use fixture::flash;
 use libc::STDOUT_FILENO;
 use model_gauge::gauge::FLASH_BYTES;
 use model_gauge::gauge::Gauge;
 use protocol::bytes;
 use protocol::common::Config;
 use protocol::error::Answer;
-ghost use Prim.Native.Nat.{_≤_};
 
 const ADDRESS: u16 = 0x5000;
 
@@ -28,7 +29,7 @@ const HEARD: [u8; 7] = [0, 0, 0, 0, 0, 0, 0];
 
 fn main() {
     let mut old = [0u8; 8192];
-    fill(&mut old);
+    flash::fill(&mut old);
     let mut clean = [0u8; 8192];
     lay(&old, 70, &mut clean);
     for retries in 0..3u16 {
@@ -123,13 +124,6 @@ impl Counts {
             self.clean = budget::more(self.clean);
         }
         self
-    }
-}
-
-// A flash as it was before the write: no two neighbouring bytes are the same.
-fn fill(flash: &mut [u8]) {
-    for i in 0..flash.len() {
-        flash[i] = (i % 251) as u8;
     }
 }
 
@@ -247,40 +241,13 @@ fn run(config: Config, course: &[u8], old: &[u8], clean: &[u8], counts: Counts) 
     counted.ended(end).compared(equal)
 }
 
-// The course of a number: its digits in base 3, lowest first.
-fn course_of(number: u32) -> [u8; 7] {
-    let mut course = [0u8; 7];
-    let mut rest = number;
-    for i in 0..7usize {
-        course[i] = (rest % 3) as u8;
-        rest = rest / 3;
-    }
-    course
-}
-
-// How many courses there are of a length up to seven.
-fn courses_of(length: usize) -> u32
-    ensures { λ r. ⌜ r ≤ 2187 ⌝ }
-{
-    match length {
-        0 => 1,
-        1 => 3,
-        2 => 9,
-        3 => 27,
-        4 => 81,
-        5 => 243,
-        6 => 729,
-        _ => 2187,
-    }
-}
-
 // Every course of one length.
 fn each(config: Config, length: usize, old: &[u8], clean: &[u8], counts: Counts) -> Counts {
-    let courses = courses_of(length);
+    let courses = course::count(length);
     let mut counted = counts;
     for number in 0..courses {
-        let course = course_of(number);
-        counted = run(config, bytes::front(&course, length), old, clean, counted);
+        let digits = course::of(number);
+        counted = run(config, bytes::front(&digits, length), old, clean, counted);
     }
     counted
 }

@@ -12,14 +12,14 @@ Inv-loop config length old clean courses counted₀ number₀ counted number = (
 abbrev μ-loop : tie.MeasureT-loop
 μ-loop config length old clean courses counted₀ number₀ counted number = courses - number
 
-courses-of-requires : tie.Need-courses-of-requires Inv-loop μ-loop
-courses-of-requires c κs = search needs
+count-requires : tie.Need-count-requires Inv-loop μ-loop
+count-requires c κs = search needs
 
 loop-holds : tie.Need-loop-holds Inv-loop μ-loop
 loop-holds c = search needs
 
-course-of-requires : tie.Need-course-of-requires Inv-loop μ-loop
-course-of-requires c κs = search needs
+of-requires : tie.Need-of-requires Inv-loop μ-loop
+of-requires c κs = search needs
 
 slice-aggregate-front : tie.Need-slice-aggregate-front Inv-loop μ-loop
 slice-aggregate-front c = search needs
@@ -48,9 +48,9 @@ each-spec =
     (tie.spec
     Inv-loop
     μ-loop
-    courses-of-requires
+    count-requires
     loop-holds
-    course-of-requires
+    of-requires
     slice-aggregate-front
     front-requires
     run-requires
