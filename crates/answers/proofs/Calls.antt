@@ -3,15 +3,20 @@
 use mathlib.Core.Path.{refl}
 use Rattle.protocol.specs.Pick.{if_then_else_}
 use Rattle.protocol.specs.declared.common.Config.{Config}
+use Rattle.engine.specs.Budget.{nothing}
 use Rattle.writing.specs.Writing as writing
 use Rattle.reading.specs.Reading as reading
 use Rattle.interface.specs.Plans.{plainLimit, writeWithRetries, writeRegister, readRegister, dispatchCommand, readBuffer, writeBuffer}
 use Rattle.r5.specs.Plans.{macRead, macWrite, sendAccessKey, writeMfgInfoC, readMfgInfoC, writeMfgInfo, readMfgInfo, readDataflash, writeDataflash}
 use Rattle.answers.specs.Calls.{Admitted, Limits}
+use Rattle.answers.proofs.Laws.{bare-head}
 
 pub starts-as : Admitted
-unfolding writing.startOf reading.startOf
-starts-as = record { writing = λ plan n w. refl; reading = λ plan n w. refl }
+unfolding writing.startOf reading.startOf nothing
+starts-as = record {
+  writing = λ plan n w. record { phase = refl; task = refl; sent = refl; budget = refl; waits = refl };
+  reading = λ plan n w. record { phase = refl; task = refl; heading = bare-head (plan .head); received = refl; budget = refl; waits = refl };
+}
 
 pub limits : (config : Config) → Limits config
 unfolding plainLimit writeWithRetries writeRegister readRegister dispatchCommand readBuffer writeBuffer macRead macWrite sendAccessKey writeMfgInfoC readMfgInfoC writeMfgInfo readMfgInfo readDataflash writeDataflash writing.planOf reading.plainPlan reading.macPlan if_then_else_

@@ -3,7 +3,7 @@
 use Prim.Native.Nat.{ℕ, _+_, _-_, _*_}
 use mathlib.Core.Path.{_≡_, refl, sym, subst, _∙_}
 use mathlib.Core.Bool.{Bool, true, false, false≢true}
-use mathlib.Core.Logic.{_⊎_, _↔_, inl, inr}
+use mathlib.Core.Logic.{_⊎_, inl, inr}
 use mathlib.Core.List.{List, _++_}
 use native.Mathlib.Omega.{arith}
 use lib.Dec.{leb, eqb}
@@ -31,7 +31,6 @@ use Rattle.reading.specs.Pick.{case_refused_fault_headed_block_}
 use Rattle.reading.specs.Parts as parts
 use Rattle.reading.specs.Reading as reading
 use Rattle.reading.specs.declared.parts.Head.{Head}
-use Rattle.reading.specs.declared.parts.Head.the-variants as head
 use Rattle.reading.specs.declared.call.ReadCall.{ReadCall}
 use Rattle.reading.specs.declared.call.Verdict.{Verdict}
 use Rattle.reading.specs.declared.call.Verdict.the-variants as verdict
@@ -39,6 +38,7 @@ use Rattle.reading.specs.declared.call.ReadReported.{ReadReported}
 use Rattle.reading.specs.declared.call.ReadReported.the-variants as read
 use Rattle.answers.specs.Rows.{Failure, Damaged, made}
 use Rattle.answers.specs.Steps.{MissedW, PaidW, CostW, MissedR, HeardR, PaidR, CostR, Delivers}
+use Rattle.answers.proofs.Laws.{bare-head}
 use Rattle.answers.proofs.Kept.{stored-length}
 
 -- a failed attempt: a retry is taken from the budget, or none is left
@@ -71,7 +71,7 @@ module _ (call : WriteCall) where
   unfolding MissesW writing.failOf writing.retryOf writing.endOf waited
   misses-w why =
       either MissesW (call .budget) (writing.retryOf call) (writing.endOf call why) (λ b less. (refl, (inl (refl, less, refl), refl)))
-      (λ none. (refl, (inr (over-waits, none, refl), refl)))
+      (λ none. (refl, (inr (over-waits, none, none, refl), refl)))
 
   settles : (o : Outcome) → (writing.settleOf call o .task ≡ call .task) × PaidW call o (writing.settleOf call o)
   unfolding MissesW writing.settleOf writing.advanceOf case_acknowledged_error_timeout_
@@ -95,14 +95,6 @@ module _ (call : WriteCall) where
 
 -- ---- a reading call
 
--- a head is due where there is one
-bare-head : (h : Head) → (parts.hasHead h ≡ false) ↔ (h ≡ head.Bare)
-unfolding parts.hasHead
-bare-head head.Bare = (λ e. refl, λ e. refl)
-bare-head (head.Command address) = (λ e. absurd (false≢true (sym e)), λ e. let z : _≡_ {A = ℕ} 0 1 = cc in absurd (omega arith))
-bare-head (head.Mac command) = (λ e. absurd (false≢true (sym e)), λ e. let z : _≡_ {A = ℕ} 0 1 = cc in absurd (omega arith))
-bare-head (head.DataFlash start) = (λ e. absurd (false≢true (sym e)), λ e. let z : _≡_ {A = ℕ} 0 1 = cc in absurd (omega arith))
-
 module _ (call : ReadCall) where
   MissesR : ReadCall → Type 0
   MissesR next = (next .task ≡ call .task) × MissedR call next
@@ -112,7 +104,7 @@ module _ (call : ReadCall) where
   misses-r why =
       either MissesR (call .budget) (reading.retryOf call) (reading.endOf call why)
       (λ b less. (refl, (inl (refl, less, refl), (λ e. bare-head (call .task .plan .head)), refl)))
-      (λ none. (refl, (inr (over-waits, none, refl), (λ e. absurd (over-waits e)), refl)))
+      (λ none. (refl, (inr (over-waits, none, none, refl), (λ e. absurd (over-waits e)), refl)))
 
   -- what a verdict that is no refusal says of outcome and reply
   abbrev Comes : Outcome → List ℕ → Verdict → Type 0

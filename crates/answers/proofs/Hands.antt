@@ -1,18 +1,18 @@
 -- What a call hands out to be sent, and what that leaves in the work buffer; and that it shows 8 exactly where it waits and the lent lengths differ.
 -- Assumes nothing.
-use Prim.Native.Nat.{ℕ, _+_, _≤_}
+use Prim.Native.Nat.{ℕ, _≤_}
 use mathlib.Core.Path.{_≡_, refl, sym, ap, subst, _∙_}
 use mathlib.Core.Bool.{Bool, true, false}
 use mathlib.Core.List.{List}
 use native.Mathlib.Omega.{arith}
 use lib.Dec.{ltb}
-use lib.ListN.{length, take, length-append}
+use lib.ListN.{length, take}
 use lib.Seq.{take-length}
 use borrow.Author.Tests.{ltb-true}
 use Rattle.protocol.specs.Pick.{if_then_else_}
 use Rattle.protocol.specs.Bytes.{over, sendOf}
 use Rattle.protocol.specs.Frame.{sealed, laidOf, workLaid}
-use Rattle.protocol.proofs.Laws.{length-over, take-over, drop-over}
+use Rattle.protocol.proofs.Laws.{length-over, take-over, drop-over, length-sealed}
 use Rattle.protocol.specs.declared.common.Config.{Config}
 use Rattle.protocol.specs.declared.error.Answer.{Answer}
 use Rattle.protocol.specs.declared.error.Answer.the-variants as answer
@@ -40,11 +40,6 @@ use Rattle.answers.proofs.Laws.{fits-other}
 use Rattle.answers.proofs.Runs as runs
 use Rattle.answers.proofs.Kept as kept
 use Rattle.answers.proofs.Within.{within}
-
-length-sealed : (pec : Bool) (f : List ℕ) → length (sealed pec f) ≤ length f + 1
-unfolding sealed if_then_else_
-length-sealed true f = rw length-append (omega arith)
-length-sealed false f = omega arith
 
 -- a frame that was laid is the front of the work buffer
 over-handed : (s payload work : List ℕ) → length s ≤ length work → Handed true payload work (over s work) (length s) (take (length s) (over s work))
@@ -88,6 +83,17 @@ module _ (call : WriteCall) (payload work : List ℕ) where
       by phase.Waiting q true f false o =
           let size : length payload ≡ n = cc (rw (o, f, q) at e) in
           rw (o, f, q) (subst (λ (m : ℕ). Handed false payload work work m (take m payload)) size (ap length (take-length payload), take-length payload, refl))
+
+-- of a frame that is built any front of the work buffer, otherwise of the caller's bytes
+any-front : (call : WriteCall) (payload : List ℕ) (built : Bool) → writing.ownBytes call ≡ if_then_else_ built false true
+    → (work : List ℕ) (k : ℕ) → writing.partOf call payload work k ≡ if_then_else_ built (take k work) (take k payload)
+unfolding writing.partOf sendOf if_then_else_
+any-front call payload true o work k = rw o
+any-front call payload false o work k = rw o
+
+head-front : (payload work : List ℕ) (k : ℕ) → take k work ≡ if_then_else_ true (take k work) (take k payload)
+unfolding if_then_else_
+head-front payload work k = refl
 
 -- which calls build their frames, by name
 own-by : (config : Config) (plan : WritePlan) (name : WritesBy config plan)
@@ -135,6 +141,7 @@ pub hands-w : (config : Config) → config .«max_bus_retries» ≤ 65535 → (p
     → (payload work : List ℕ) → HandsW (builds config plan name) (record { length = n; work = w }) (feedW (writing.startOf plan n w) es) payload work
 hands-w config r plan name n w es payload work = record {
   refuses = (λ e. (refused-write call payload work e, differs e), λ (e, other). other-write call payload work e (fits-other (call .task .lent) _ _ (λ same. other (subst At lent same))));
+  fronts = any-front call payload (builds config plan name) (task-own plan n w call task ∙ own-by config plan name);
   hands = hands-write call payload work (builds config plan name) (task-own plan n w call task ∙ own-by config plan name);
 }
   where
@@ -204,6 +211,7 @@ pub hands-r : (config : Config) → config .«max_bus_retries» ≤ 65535 → (s
     → HandsR (record { length = length start; work = w }) (feedR (record { call = reading.startOf plan (length start) w; buffer = start }) es .call) buffer work
 hands-r config r start plan name w es buffer work = record {
   refuses = (λ e. (refused-read call (length buffer) (length work) e, differs e), λ (e, other). other-read call (length buffer) (length work) e (fits-other (call .task .lent) _ _ (λ same. other (subst At lent same))));
+  fronts = head-front buffer;
   hands = hands-head call buffer work;
 }
   where

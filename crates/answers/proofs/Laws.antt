@@ -3,6 +3,7 @@
 use Prim.Native.Nat.{ℕ}
 use mathlib.Core.Path.{_≡_, refl, sym, subst, _∙_}
 use mathlib.Core.Bool.{Bool, true, false, _&&_, false≢true}
+use mathlib.Core.Logic.{_↔_}
 use native.Mathlib.Omega.{arith}
 use lib.Dec.{eqb}
 use borrow.Author.Tests.{eqb-true, eq-eqb}
@@ -12,6 +13,9 @@ use Rattle.engine.specs.Bus.{fitsOf}
 use Rattle.engine.specs.declared.bus.Lent.{Lent}
 use Rattle.engine.specs.declared.bus.Phase.{Phase}
 use Rattle.engine.specs.declared.bus.Phase.the-variants as phase
+use Rattle.reading.specs.Parts as parts
+use Rattle.reading.specs.declared.parts.Head.{Head}
+use Rattle.reading.specs.declared.parts.Head.the-variants as head
 use Rattle.answers.specs.Rows.{Says, Same}
 
 -- ---- a table, as when an answer of a number and a detail is given
@@ -58,3 +62,11 @@ fits-other lent n w h = by (fitsOf lent n w) refl
     by : (t : Bool) → fitsOf lent n w ≡ t → fitsOf lent n w ≡ false
     by true e = absurd (h (fits-same lent n w e))
     by false e = e
+
+-- a head is due where there is one
+pub bare-head : (h : Head) → (parts.hasHead h ≡ false) ↔ (h ≡ head.Bare)
+unfolding parts.hasHead
+bare-head head.Bare = (λ e. refl, λ e. refl)
+bare-head (head.Command address) = (λ e. absurd (false≢true (sym e)), λ e. let z : _≡_ {A = ℕ} 0 1 = cc in absurd (omega arith))
+bare-head (head.Mac command) = (λ e. absurd (false≢true (sym e)), λ e. let z : _≡_ {A = ℕ} 0 1 = cc in absurd (omega arith))
+bare-head (head.DataFlash start) = (λ e. absurd (false≢true (sym e)), λ e. let z : _≡_ {A = ℕ} 0 1 = cc in absurd (omega arith))

@@ -11,5 +11,6 @@ pub mod Fits
 pub mod Within
 pub mod Costs
 pub mod Unlooked
+pub mod Again
 pub mod Hands
 pub mod Unique

@@ -57,4 +57,6 @@ numbers = record {
   code = (refl, refl);
   committed = (refl, refl);
   none = (refl, refl);
+  wrong-reply = refl;
+  nothing-outstanding = refl;
 }

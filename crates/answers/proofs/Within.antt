@@ -191,7 +191,7 @@ writes-within config r plan name payload w es = by (writing.startOf plan (length
         let q = runs.over-stays es begun a e in
         subst (WritesWithin plan payload w) (sym q) (idle-write plan payload w a begun refl e)
     by phase.Waiting e =
-        let open-fits = admitted-fits (plan .limit) (length payload) w (sym (starts-as .writing plan (length payload) w) ∙ e) in
+        let open-fits = admitted-fits (plan .limit) (length payload) w (sym (starts-as .writing plan (length payload) w .phase) ∙ e) in
         let s = sane config payload plan name (open-fits .1) in
         let few = retries-write config plan name in
         let sound = runs.sound plan (length payload) w (omega arith) (λ h. s .some) (s .few) es in
@@ -336,7 +336,7 @@ reads-within config r buffer plan name w es = by (reading.startOf plan (length b
         let q = kept.over-stays es begun a e in
         subst (ReadsWithin plan buffer w) (sym q) (idle-read plan buffer w a begun refl e)
     by phase.Waiting e =
-        let open-fits = admitted-fits (plan .limit) (length buffer) w (sym (starts-as .reading plan (length buffer) w) ∙ e) in
+        let open-fits = admitted-fits (plan .limit) (length buffer) w (sym (starts-as .reading plan (length buffer) w .phase) ∙ e) in
         let s = sane-read config (length buffer) plan name (open-fits .1) in
         let same = retries-read config (length buffer) plan name in
         let enough : plan .retries ≤ 65535 = omega arith in

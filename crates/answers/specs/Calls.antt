@@ -3,20 +3,39 @@
 use Prim.Native.Nat.{ℕ}
 use mathlib.Core.Path.{_≡_}
 use mathlib.Core.Bool.{true, false}
+use mathlib.Core.Logic.{_↔_}
 use Rattle.protocol.specs.declared.common.Config.{Config}
 use Rattle.engine.specs.Limit.{admitted}
 use Rattle.engine.specs.declared.limit.Limit.the-variants as limit
 use Rattle.writing.specs.Writing as writing
 use Rattle.writing.specs.declared.call.WritePlan.{WritePlan}
+use Rattle.writing.specs.declared.call.WriteCall.{WriteCall}
 use Rattle.reading.specs.Reading as reading
+use Rattle.reading.specs.declared.parts.Head.the-variants as head
 use Rattle.reading.specs.declared.call.ReadPlan.{ReadPlan}
+use Rattle.reading.specs.declared.call.ReadCall.{ReadCall}
 use Rattle.interface.specs.Plans.{writeWithRetries, writeRegister, readRegister, dispatchCommand, readBuffer, writeBuffer}
 use Rattle.r5.specs.Plans.{readSecurityKeys, writeSecurityKeys, readAuthenticationKey, writeAuthenticationKey, readChargingVoltageOverride, writeChargingVoltageOverride, readRegisterUnchecked, writeRegisterUnchecked, sendAccessKey, unsealFg, writeMfgInfoC, readMfgInfoC, writeMfgInfo, readMfgInfo, readDataflash, writeDataflash}
 
--- a call starts as its limit says
+pub record BegunW (plan : WritePlan) (n w : ℕ) (call : WriteCall) : Type 0 where
+  pub phase : call .phase ≡ admitted (plan .limit) n w
+  pub task : call .task ≡ record { plan = plan; lent = record { length = n; work = w } }
+  pub sent : call .sent ≡ 0
+  pub budget : call .budget .left ≡ plan .retries
+  pub waits : call .tally .waits ≡ 0
+
+pub record BegunR (plan : ReadPlan) (n w : ℕ) (call : ReadCall) : Type 0 where
+  pub phase : call .phase ≡ admitted (plan .limit) n w
+  pub task : call .task ≡ record { plan = plan; lent = record { length = n; work = w } }
+  pub heading : (call .heading ≡ false) ↔ (plan .head ≡ head.Bare)
+  pub received : call .received ≡ 0
+  pub budget : call .budget .left ≡ plan .retries
+  pub waits : call .tally .waits ≡ 0
+
+-- a call starts as its limit says, for what it was started for, with nothing sent, received or counted; its first frame or its head is due, if it has one
 pub record Admitted : Type 0 where
-  pub writing : (plan : WritePlan) (n w : ℕ) → writing.startOf plan n w .phase ≡ admitted (plan .limit) n w
-  pub reading : (plan : ReadPlan) (n w : ℕ) → reading.startOf plan n w .phase ≡ admitted (plan .limit) n w
+  pub writing : (plan : WritePlan) (n w : ℕ) → BegunW plan n w (writing.startOf plan n w)
+  pub reading : (plan : ReadPlan) (n w : ℕ) → BegunR plan n w (reading.startOf plan n w)
 
 -- the limit of each call, by its name
 pub record Limits (config : Config) : Type 0 where

@@ -49,6 +49,9 @@ pub record Numbers : Type 0 where
   pub code : (numberOf (answer.I2c 5) ≡ 1) × (detailOf (answer.I2c 5) ≡ 5)
   pub committed : (numberOf (answer.PartialDataFlashWrite 64) ≡ 6) × (detailOf (answer.PartialDataFlashWrite 64) ≡ 64)
   pub none : (numberOf answer.Timeout ≡ 2) × (detailOf answer.Timeout ≡ 0)
+  -- the names of the rows that no other statement names
+  pub wrong-reply : numberOf answer.WrongReply ≡ 9
+  pub nothing-outstanding : numberOf answer.NothingOutstanding ≡ 10
 
 -- a phase says the answer of number k with detail d; one that waits says none
 abbrev pub Says : ℕ → ℕ → Phase → Type 0

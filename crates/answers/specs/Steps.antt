@@ -6,6 +6,7 @@ use mathlib.Core.Bool.{Bool, true, false}
 use mathlib.Core.List.{List}
 use mathlib.Core.Logic.{_⊎_, _↔_}
 use lib.ListN.{length, take, drop}
+use Rattle.protocol.specs.Pick.{if_then_else_}
 use Rattle.protocol.specs.Answer.{numberOf}
 use Rattle.protocol.specs.declared.common.Config.{Config}
 use Rattle.protocol.specs.declared.error.Answer.the-variants as answer
@@ -43,6 +44,15 @@ Shown p lent n w before after (transfer.Refused a) = (p ≡ phase.Waiting) × (n
 Shown p lent n w before after (transfer.Write count) = (p ≡ phase.Waiting) × Same lent n w × (drop count after ≡ drop count before)
 Shown p lent n w before after (transfer.Read command count) = (p ≡ phase.Waiting) × Same lent n w × (after ≡ before)
 
+-- asked again, with the work buffer as the first time left it, a call shows the same and leaves the same there
+pub record Again : Type 0 where
+  pub writing : (call : WriteCall) (payload work : List ℕ)
+      → (writing.nextOf call payload (length (writing.workAfter call payload work)) ≡ writing.nextOf call payload (length work))
+      × (writing.workAfter call payload (writing.workAfter call payload work) ≡ writing.workAfter call payload work)
+  pub reading : (call : ReadCall) (n : ℕ) (work : List ℕ)
+      → (reading.nextOf call n (length (reading.workAfter call n work)) ≡ reading.nextOf call n (length work))
+      × (reading.workAfter call n (reading.workAfter call n work) ≡ reading.workAfter call n work)
+
 -- ---- what is handed out to be sent, by the call's name
 
 -- every frame is built in the work buffer, but that of a plain write with `pec_write` off, which the caller built
@@ -67,22 +77,22 @@ Handed true payload before after n part = (length part ≡ n) × (part ≡ take 
 Handed false payload before after n part = (length part ≡ n) × (part ≡ payload) × (after ≡ before)
 
 -- of a call that stands at p and was started at these lengths
-pub record Hands (built : Bool) (p : Phase) (lent : Lent) (payload before after : List ℕ) (part : ℕ → List ℕ) (shown : Transfer) : Type 0 where
+pub record Hands (built : Bool) (p : Phase) (lent : Lent) (payload before after : List ℕ) (part : List ℕ → ℕ → List ℕ) (shown : Transfer) : Type 0 where
   -- a waiting call shows 8 exactly where the lent lengths differ
   pub refuses : (shown ≡ transfer.Refused answer.WrongBuffer) ↔ ((p ≡ phase.Waiting) × (Same lent (length payload) (length before) → ⊥))
+  -- whatever number is asked for, the front of the work buffer is handed out, or of the caller's bytes
+  pub fronts : (work : List ℕ) (k : ℕ) → part work k ≡ if built then take k work else take k payload
   -- what it shows as a write is handed out
-  pub hands : (n : ℕ) → shown ≡ transfer.Write n → Handed built payload before after n (part n)
+  pub hands : (n : ℕ) → shown ≡ transfer.Write n → Handed built payload before after n (part after n)
 
 abbrev pub HandsW : Bool → Lent → WriteCall → List ℕ → List ℕ → Type 0
 HandsW built lent call payload work =
-    Hands built (call .phase) lent payload work (writing.workAfter call payload work) (writing.partOf call payload (writing.workAfter call payload work))
-    (writing.nextOf call payload (length work))
+    Hands built (call .phase) lent payload work (writing.workAfter call payload work) (writing.partOf call payload) (writing.nextOf call payload (length work))
 
 -- a head is built; of the buffer only the length is looked at
 abbrev pub HandsR : Lent → ReadCall → List ℕ → List ℕ → Type 0
 HandsR lent call buffer work =
-    Hands true (call .phase) lent buffer work (reading.workAfter call (length buffer) work) (λ n. take n (reading.workAfter call (length buffer) work))
-    (reading.nextOf call (length buffer) (length work))
+    Hands true (call .phase) lent buffer work (reading.workAfter call (length buffer) work) (λ work n. take n work) (reading.nextOf call (length buffer) (length work))
 
 -- each call, started at any lengths and however it is fed, whatever is lent then
 pub record HandsOut : Type 0 where
@@ -98,7 +108,7 @@ pub record HandsOut : Type 0 where
 abbrev pub FailedOnce : Budget → Tally → Phase → Budget → Tally → Type 0
 FailedOnce left waits p left′ waits′ =
     ((p ≡ phase.Waiting) × (left′ .left + 1 ≡ left .left) × (waits′ .waits ≡ moreOf (waits .waits)))
-    ⊎ ((p ≡ phase.Waiting → ⊥) × (left .left ≡ 0) × (waits′ .waits ≡ waits .waits))
+    ⊎ ((p ≡ phase.Waiting → ⊥) × (left .left ≡ 0) × (left′ .left ≡ 0) × (waits′ .waits ≡ waits .waits))
 
 -- of a write, after a failed attempt the same frame is due
 abbrev pub MissedW : WriteCall → WriteCall → Type 0

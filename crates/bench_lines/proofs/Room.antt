@@ -1,24 +1,20 @@
 -- Every line of the bench has room in 16,401 bytes, so that it is printed whole.
 -- Assumes nothing.
-use Prim.Native.Nat.{ℕ, _+_, _-_, _*_, _≤_}
-use mathlib.Core.Path.{_≡_, refl, sym, ap, subst}
+use Prim.Native.Nat.{ℕ, _+_, _*_, _≤_}
+use mathlib.Core.Path.{_≡_, refl, sym, subst}
 use mathlib.Core.Bool.{Bool, true, false}
 use mathlib.Core.List.{List, [], _∷_}
 use native.Mathlib.Omega.{arith}
-use lib.ListN.{length, take, drop, replicate, length-append, length-take, length-drop, length-replicate}
-use lib.Dec.{ltb, leb, eqb}
-use borrow.Author.Tests.{ltb-true, le-leb}
+use lib.ListN.{length, take, drop, replicate, length-take, length-drop, length-replicate}
+use lib.Dec.{eqb}
+use borrow.Author.Tests.{le-leb}
 use Rattle.protocol.specs.Pick.{if_then_else_}
-use Rattle.protocol.specs.Bytes.{over, sendOf}
-use Rattle.protocol.specs.Frame.{pairOf, sealed, workLaid}
-use Rattle.protocol.proofs.Laws.{length-over, take-over}
+use Rattle.protocol.specs.Bytes.{sendOf}
+use Rattle.protocol.specs.Frame.{pairOf}
+use Rattle.protocol.proofs.Laws.{take-over}
 use Rattle.protocol.specs.declared.error.Answer.{Answer}
 use Rattle.protocol.specs.declared.error.Answer.the-variants as answer
-use Rattle.engine.specs.Bus.{fitsOf}
-use Rattle.engine.specs.Pick.{case_waiting_ended_}
 use Rattle.engine.specs.declared.bus.Outcome.{Outcome}
-use Rattle.engine.specs.declared.bus.Phase.{Phase}
-use Rattle.engine.specs.declared.bus.Phase.the-variants as phase
 use Rattle.engine.specs.declared.bus.Transfer.{Transfer}
 use Rattle.engine.specs.declared.bus.Transfer.the-variants as transfer
 use Rattle.writing.specs.Writing as writing
@@ -29,6 +25,8 @@ use Rattle.reading.specs.Reading as reading
 use Rattle.reading.specs.declared.call.ReadCall.{ReadCall}
 use Rattle.reading.specs.declared.call.ReadReported.{ReadReported}
 use Rattle.reading.specs.declared.call.ReadReported.the-variants as got
+use Rattle.writing.proofs.Shown.{write-work}
+use Rattle.reading.proofs.Shown.{read-work}
 use Rattle.requests.specs.Outcome.{outcomeLine}
 use Rattle.requests.specs.Request.{requestLine}
 use Rattle.requests.specs.declared.outcome.Told.{Told}
@@ -70,41 +68,6 @@ short-tell (transfer.Write n) frame waits buffer f b = omega arith
 short-tell (transfer.Read command n) frame waits buffer f b = omega arith
 short-tell (transfer.Refused a) frame waits buffer f b = short-end a waits buffer b
 short-tell (transfer.Ended a) frame waits buffer f b = short-end a waits buffer b
-
--- a PEC is one byte
-length-sealed : (pec : Bool) (f : List ℕ) → length (sealed pec f) ≤ length f + 1
-unfolding sealed if_then_else_
-length-sealed true f = rw length-append (omega arith)
-length-sealed false f = omega arith
-
--- a frame that is laid keeps the work buffer's length
-length-laid : (pec : Bool) (f work : List ℕ) → length (workLaid pec f work) ≡ length work
-unfolding workLaid if_then_else_
-length-laid pec f work = by (ltb (length f) (length work)) refl
-  where
-    by : (t : Bool) → ltb (length f) (length work) ≡ t → length (if t then over (sealed pec f) work else work) ≡ length work
-    by true e = length-over (sealed pec f) work (omega (arith, ltb-true (length f) (length work) e, length-sealed pec f))
-    by false e = refl
-
-write-work : (call : WriteCall) (payload work : List ℕ) → length (writing.workAfter call payload work) ≡ length work
-unfolding writing.workAfter writing.workShown case_waiting_ended_ if_then_else_
-write-work call payload work = by (call .phase) (fitsOf (call .task .lent) (length payload) (length work)) (writing.ownBytes call)
-  where
-    by : (p : Phase) (f o : Bool) → length (case_waiting_ended_ p (if f then (if o then work else writing.workShown call payload work) else work) (λ a. work)) ≡ length work
-    by phase.Waiting true true = refl
-    by phase.Waiting true false = length-laid (call .task .plan .pec) (writing.dueBytes call payload) work
-    by phase.Waiting false o = refl
-    by (phase.Ended a) f o = refl
-
-read-work : (call : ReadCall) (n : ℕ) (work : List ℕ) → length (reading.workAfter call n work) ≡ length work
-unfolding reading.workAfter reading.workShown reading.workHead case_waiting_ended_ if_then_else_
-read-work call n work = by (call .phase) (fitsOf (call .task .lent) n (length work)) (call .heading)
-  where
-    by : (p : Phase) (f h : Bool) → length (case_waiting_ended_ p (if f then (if h then reading.workHead call work else work) else work) (λ a. work)) ≡ length work
-    by phase.Waiting true true = length-laid (call .task .plan .«head_pec») _ work
-    by phase.Waiting true false = refl
-    by phase.Waiting false h = refl
-    by (phase.Ended a) f h = refl
 
 length-front : (n : ℕ) (s : List ℕ) → length s ≤ 8192 → length (take n s) ≤ 8192
 length-front n s h = rw length-take (omega arith)

@@ -12,7 +12,7 @@ use Rattle.protocol.specs.Pick.{if_then_else_}
 use Rattle.protocol.specs.Answer.{numberOf}
 use Rattle.protocol.specs.Frame.{sealed, laidOf, workLaid}
 use Rattle.protocol.specs.Reply.{countOf, checkedOf, heardOf}
-use Rattle.protocol.proofs.Laws.{take-over, length-over}
+use Rattle.protocol.proofs.Laws.{take-over, length-over, length-sealed}
 use Rattle.protocol.specs.declared.error.Answer.{Answer}
 use Rattle.protocol.specs.declared.error.Answer.the-variants as answer
 use Rattle.protocol.specs.declared.reply.Ask.{Ask}
@@ -30,7 +30,6 @@ use Rattle.reading.specs.declared.call.ReadCall.{ReadCall}
 use Rattle.reading.specs.declared.call.Verdict.the-variants as verdict
 use Rattle.original.specs.Bus.{BusOutcome, Acknowledged, BusError, Timeout, delivered, Made, write, read, begun, Ok, Err, Waiting, _leaving_, busOp_err_ok_}
 use Rattle.original.specs.Fed.{Lending, Lends, told, brings, reply, answered, shows_sending_transfer_answer_, heard_taken_refused_, fedRead}
-use Rattle.original.proofs.WriteTurns.{sealed-short}
 
 -- one that has ended says its answer
 pub at-end : (call : ReadCall) (buffer : List ℕ) (lent : ℕ → Lending) (done : List Made) (a : Answer) → call .phase ≡ phase.Ended a
@@ -81,7 +80,7 @@ module _ (plan : ReadPlan) (n w : ℕ) where
       → length (reading.workAfter (at true i left waits) (length buffer) work) ≡ w
   unfolding reading.workAfter reading.workShown reading.workHead case_waiting_ended_ if_then_else_ workLaid
   kept-head i left waits buffer work b e h =
-      let short : length (sealed (plan .«head_pec») (parts.headBytes (plan .head) i)) ≤ length work = omega (arith, sealed-short (plan .«head_pec») (parts.headBytes (plan .head) i)) in
+      let short : length (sealed (plan .«head_pec») (parts.headBytes (plan .head) i)) ≤ length work = omega (arith, length-sealed (plan .«head_pec») (parts.headBytes (plan .head) i)) in
       rw (b, e, fits n w refl refl, lt-ltb _ _ h, length-over) e
 
   pub kept-read : (i left waits : ℕ) (buffer work : List ℕ) → length work ≡ w → length (reading.workAfter (at false i left waits) (length buffer) work) ≡ w

@@ -5,7 +5,7 @@ use mathlib.Core.Path.{_≡_, refl, _∙_}
 use mathlib.Core.List.{List, [], _∷_, _++_}
 use mathlib.Core.Bool.{Bool, true, false}
 use native.Mathlib.Omega.{arith}
-use lib.ListN.{length, length-append}
+use lib.ListN.{length}
 use lib.Seq.{take-length}
 use lib.Dec.{eqb}
 use borrow.Author.Tests.{lt-ltb, eq-eqb, le-leb, lt-leb, eqb-false}
@@ -13,7 +13,7 @@ use Rattle.protocol.specs.Pick.{if_then_else_}
 use Rattle.protocol.specs.Answer.{numberOf}
 use Rattle.protocol.specs.Bytes.{sendOf}
 use Rattle.protocol.specs.Frame.{sealed, laidOf, workLaid}
-use Rattle.protocol.proofs.Laws.{take-over, length-over}
+use Rattle.protocol.proofs.Laws.{take-over, length-over, length-sealed}
 use Rattle.protocol.specs.declared.error.Answer.{Answer}
 use Rattle.protocol.specs.declared.error.Answer.the-variants as answer
 use Rattle.engine.specs.Pick.{case_waiting_ended_, case_acknowledged_error_timeout_, case_retry_spent_}
@@ -29,12 +29,6 @@ use Rattle.writing.specs.declared.call.WriteCall.{WriteCall}
 use Rattle.original.specs.Bus.{BusOutcome, Acknowledged, BusError, Timeout, Made, write, Log, begun, delayed, Came, Ok, Err, busOp_err_ok_, settle}
 use Rattle.original.specs.Fed.{Lending, Lends, told, brings, reply, answered, shows_sending_transfer_answer_, wrote_taken_refused_, fedWrite}
 use Rattle.original.specs.OriginalInterface.{writeWithRetriesInternal}
-
--- a PEC is one byte
-pub sealed-short : (pec : Bool) (f : List ℕ) → length (sealed pec f) ≤ suc (length f)
-unfolding sealed if_then_else_
-sealed-short true f = simp length-append (omega arith)
-sealed-short false f = omega arith
 
 -- one that has ended says its answer
 at-end : (call : WriteCall) (payload : List ℕ) (lent : ℕ → Lending) (done : List Made) (a : Answer) → call .phase ≡ phase.Ended a
@@ -91,7 +85,7 @@ module _ (plan : WritePlan) (payload : List ℕ) (w : ℕ) where
   unfolding writing.workAfter writing.ownBytes writing.workShown writing.dueBytes case_waiting_ended_ if_then_else_ workLaid
   kept i left waits work e h true o = rw (e, fits, o) e
   kept i left waits work e h false o =
-      let short : length (sealed (plan .pec) (bytesAt (plan .frames) i payload)) ≤ length work = omega (arith, h o, sealed-short (plan .pec) (bytesAt (plan .frames) i payload)) in
+      let short : length (sealed (plan .pec) (bytesAt (plan .frames) i payload)) ≤ length work = omega (arith, h o, length-sealed (plan .pec) (bytesAt (plan .frames) i payload)) in
       rw (e, fits, lt-ltb _ _ (h o), o, length-over) e
 
   -- a report is taken

@@ -6,6 +6,7 @@ use mathlib.Core.Path.{_≡_}
 use mathlib.Core.Bool.{true, false}
 use mathlib.Core.List.{List, []}
 use lib.ListN.{length}
+use Rattle.protocol.specs.Window.{inWindow}
 use Rattle.protocol.specs.Voltage.{overrideBytes, overrideOf}
 use Rattle.protocol.specs.declared.common.Config.{Config}
 use Rattle.protocol.specs.declared.error.Answer.the-variants as answer
@@ -20,6 +21,7 @@ use Rattle.original.specs.OriginalR5 as rust-r5
 -- every call, for these settings, a work buffer of w bytes at each step, what is lent and these outcomes
 pub record Equal (config : Config) (w : ℕ) (lent : ℕ → Lending) (outcomes : List BusOutcome) : Type 0 where
   -- interface.rs
+  pub check-df-range : (start len : ℕ) → inWindow start len ≡ rust.checkDfRange start len
   pub plain-write : (bytes : List ℕ) → rust.writePanics (config .«pec_write») bytes ≡ false
       → writes (machine.writeWithRetries config) bytes w lent outcomes ≡ rust.writeWithRetries config bytes (config .«pec_write») begun outcomes
   pub plain-write-refused : (bytes : List ℕ) → rust.writePanics (config .«pec_write») bytes ≡ true

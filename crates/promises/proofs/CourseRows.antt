@@ -11,9 +11,6 @@ use lib.ListN.{length}
 use borrow.Author.Tests.{ltb-true, eq-eqb, eqb-true, eqb-false}
 use Rattle.protocol.specs.Pick.{if_then_else_}
 use Rattle.protocol.specs.Answer.{numberOf}
-use Rattle.protocol.specs.Bytes.{over}
-use Rattle.protocol.specs.Frame.{sealed, workLaid}
-use Rattle.protocol.proofs.Laws.{length-over}
 use Rattle.protocol.specs.declared.error.Answer.{Answer}
 use Rattle.protocol.specs.declared.error.Answer.the-variants as answer
 use Rattle.engine.specs.Pick.{case_waiting_ended_}
@@ -29,7 +26,6 @@ use Rattle.writing.specs.declared.call.WriteTask.{WriteTask}
 use Rattle.writing.specs.declared.call.WriteCall.{WriteCall}
 use Rattle.writing.specs.declared.call.WriteReported.{WriteReported}
 use Rattle.writing.specs.declared.call.WriteReported.the-variants as wrote
-use Rattle.reading.specs.Parts as parts
 use Rattle.reading.specs.Reading as reading
 use Rattle.reading.specs.declared.call.ReadTask.{ReadTask}
 use Rattle.reading.specs.declared.call.ReadCall.{ReadCall}
@@ -47,7 +43,8 @@ use Rattle.courses.specs.declared.write_run.Writer.{Writer}
 use Rattle.courses.proofs.Figures.{not-sound, figures}
 use Rattle.courses.specs.declared.course.End.{End}
 use Rattle.courses.specs.declared.course.End.the-variants as end
-use Rattle.original.proofs.WriteTurns.{sealed-short}
+use Rattle.writing.proofs.Shown.{write-work}
+use Rattle.reading.proofs.Shown.{read-work}
 use Rattle.answers.specs.Rows.{OneOf, Among, Same, SortW, SortR}
 use Rattle.answers.specs.Runs.{callW, feedW, callR, feedR}
 use Rattle.answers.proofs.Laws.{fits-same, same-fits, other-fits}
@@ -173,36 +170,6 @@ end-own : (own : List ℕ) (p : Phase) (lent : Lent) (n w : ℕ) → Among own p
 unfolding endOf case_waiting_ended_ if_then_else_
 end-own own phase.Waiting lent n w among same = rw (same-fits lent n w same) tt
 end-own own (phase.Ended a) lent n w among same = among
-
--- ---- the work buffer's length stays
-
-length-laid : (pec : Bool) (f work : List ℕ) → length (workLaid pec f work) ≡ length work
-unfolding workLaid if_then_else_
-length-laid pec f work = by (ltb (length f) (length work)) refl
-  where
-    by : (t : Bool) → ltb (length f) (length work) ≡ t → length (if t then over (sealed pec f) work else work) ≡ length work
-    by true e = length-over (sealed pec f) work (omega (arith, ltb-true (length f) (length work) e, sealed-short pec f))
-    by false e = refl
-
-write-work : (call : WriteCall) (payload work : List ℕ) → length (writing.workAfter call payload work) ≡ length work
-unfolding writing.workAfter writing.workShown case_waiting_ended_ if_then_else_
-write-work call payload work = by (call .phase) (fitsOf (call .task .lent) (length payload) (length work)) (writing.ownBytes call)
-  where
-    by : (p : Phase) (f o : Bool) → length (case_waiting_ended_ p (if f then (if o then work else writing.workShown call payload work) else work) (λ a. work)) ≡ length work
-    by phase.Waiting true true = refl
-    by phase.Waiting true false = length-laid (call .task .plan .pec) (writing.dueBytes call payload) work
-    by phase.Waiting false o = refl
-    by (phase.Ended a) f o = refl
-
-read-work : (call : ReadCall) (n : ℕ) (work : List ℕ) → length (reading.workAfter call n work) ≡ length work
-unfolding reading.workAfter reading.workShown reading.workHead case_waiting_ended_ if_then_else_
-read-work call n work = by (call .phase) (fitsOf (call .task .lent) n (length work)) (call .heading)
-  where
-    by : (p : Phase) (f h : Bool) → length (case_waiting_ended_ p (if f then (if h then reading.workHead call work else work) else work) (λ a. work)) ≡ length work
-    by phase.Waiting true true = length-laid (call .task .plan .«head_pec») (parts.headBytes (call .task .plan .head) (call .received)) work
-    by phase.Waiting true false = refl
-    by phase.Waiting false h = refl
-    by (phase.Ended a) f h = refl
 
 -- ---- a writing run
 

@@ -7,6 +7,7 @@ use Rattle.answers.proofs.Reading.{reads}
 use Rattle.answers.proofs.Sorts.{sort-w, sort-r, shows-w, shows-r}
 use Rattle.answers.proofs.Calls.{starts-as, limits}
 use Rattle.answers.proofs.Costs.{cost-w, cost-r, delivers}
+use Rattle.answers.proofs.Again.{again}
 use Rattle.answers.proofs.Hands.{hands-out}
 use Rattle.answers.proofs.Unique.{unique}
 use Rattle.answers.proofs.Unlooked.{unlooked-w, unlooked-r}
@@ -34,6 +35,7 @@ demand1 = record {
   fronts = fronts;
   shown-w = shows-w;
   shown-r = shows-r;
+  shown-again = again;
   stays = stays;
   hands-out = hands-out;
   within = within;

@@ -19,7 +19,7 @@ use Rattle.original.specs.Bus.{BusOutcome}
 use Rattle.original.specs.Fed.{Lending, Lends}
 use Rattle.original.specs.Fronts.{Fronts}
 use Rattle.answers.specs.Rows.{Numbers, Says, Starts, Failure, saidW, saidR, Writes, Reads, SortW, SortR}
-use Rattle.answers.specs.Steps.{Shown, HandsOut, CostW, CostR, Delivers}
+use Rattle.answers.specs.Steps.{Shown, Again, HandsOut, CostW, CostR, Delivers}
 use Rattle.answers.specs.Calls.{Admitted, Limits}
 use Rattle.answers.specs.Runs.{Stays}
 use Rattle.answers.specs.Unique.{Unique}
@@ -58,6 +58,8 @@ pub record Demand1 : Type 0 where
       → Shown (call .phase) (call .task .lent) (length payload) (length work) work (writing.workAfter call payload work) (writing.nextOf call payload (length work))
   pub shown-r : (call : ReadCall) (n : ℕ) (work : List ℕ)
       → Shown (call .phase) (call .task .lent) n (length work) work (reading.workAfter call n work) (reading.nextOf call n (length work))
+  -- the same if asked again
+  pub shown-again : Again
   -- an answer stands: no report changes a call that has ended or was refused, nor the buffer
   pub stays : Stays
   -- each call by name, however it is fed: what it hands out to be sent, and when it shows 8

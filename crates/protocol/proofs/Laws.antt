@@ -7,12 +7,14 @@ use mathlib.Core.Bool.{Bool, true, false}
 use native.Mathlib.Nat.{add-sub-of-le, le-of-lt, not-suc-le-zero, le-of-suc-le-suc, zero-min, min-zero, suc-min-suc}
 use native.Mathlib.Numerals.{add-one}
 use native.Mathlib.Omega.{arith}
-use lib.ListN.{length, take, drop, getD, set, length-append, length-take, length-drop, take-append-drop}
+use lib.ListN.{length, take, drop, getD, set, length-append, length-drop, take-append-drop}
 use lib.Seq.{length-take-le, set-split, append-snoc, take-append-seam, drop-append-add, drop-drop, take-all, drop-length, take-nil, take-length}
+use lib.Dec.{ltb}
+use borrow.Author.Tests.{ltb-true}
 use Rattle.smbus_pec.specs.Pec.{bitStep, bitSteps, byteStep, pecOf}
 use Rattle.protocol.specs.Pick.{if_then_else_}
 use Rattle.protocol.specs.Bytes.{over}
-use Rattle.protocol.specs.Frame.{sealed}
+use Rattle.protocol.specs.Frame.{sealed, workLaid}
 use Rattle.protocol.specs.Reply.{leadOf}
 use Rattle.protocol.specs.declared.reply.Ask.{Ask}
 
@@ -128,6 +130,21 @@ built pec lead pair body w w1 w2 w3 w4 n1 n2 n3 r p1 p2 p3 p4 =
     let m3 : n3 ≡ length (lead ++ pair ++ body) = simp length-append (omega (arith, p3 .0, simp length-append at m2)) in
     let e3 : w3 ≡ over (lead ++ pair ++ body) w = p3 .1 ∙ rw e2 (laid-more (lead ++ pair) body w n2 m2) in
     (p4 .0 ∙ rw (e3, m3, take-over), p4 .1 ∙ rw e3 (sealed-laid pec (lead ++ pair ++ body) w n3 m3))
+
+-- a PEC is one byte
+pub length-sealed : (pec : Bool) (f : List ℕ) → length (sealed pec f) ≤ length f + 1
+unfolding sealed if_then_else_
+length-sealed true f = rw length-append (omega arith)
+length-sealed false f = omega arith
+
+-- a frame that is laid keeps the work buffer's length
+pub length-laid : (pec : Bool) (f work : List ℕ) → length (workLaid pec f work) ≡ length work
+unfolding workLaid if_then_else_
+length-laid pec f work = by (ltb (length f) (length work)) refl
+  where
+    by : (t : Bool) → ltb (length f) (length work) ≡ t → length (if t then over (sealed pec f) work else work) ≡ length work
+    by true e = length-over (sealed pec f) work (omega (arith, ltb-true (length f) (length work) e, length-sealed pec f))
+    by false e = refl
 
 -- at most three bytes stand before the data of a reply
 pub lead-small : (ask : Ask) → leadOf ask ≤ 3
