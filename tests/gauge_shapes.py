@@ -4,6 +4,7 @@ from model_gauge import Digest, Gauge, pec
 
 POINTERS = (0x4000, 0x5FE0, 0x5FFF, 0x6000)
 EVENTS = (0, 1, 2)
+END = 64
 
 OLD = bytes(i % 251 for i in range(8192))
 
@@ -28,7 +29,7 @@ def shaped(command, count, address, turned):
 
 def frames(command, count):
     row, strays = Row(), 0
-    for address in (0x3FFF, 0x4000, 0x5FE0, 0x5FFF, 0x6000):
+    for address in (0x3FFF, 0x4000, 0x4015, 0x5FE0, 0x5FFF, 0x6000):
         for turned in (0, 1):
             frame = shaped(command, count, address, turned)
             for length in range(count + 1, count + 6):
@@ -36,8 +37,8 @@ def frames(command, count):
                     for pointer in POINTERS:
                         gauge = Gauge(bytearray(OLD), pointer)
                         row.add(gauge.write(event, frame[:length]), gauge.pointer)
-                        row.digest.add(*gauge.flash[:40], *gauge.flash[8152:])
-                        strays += gauge.flash[40:8152] != OLD[40:8152]
+                        row.digest.add(*gauge.flash[:END], *gauge.flash[-END:])
+                        strays += gauge.flash[END:-END] != OLD[END:-END]
     print(f"frames {command:02x} count {count}: {row} strays {strays}")
 
 def reads(command, pointer):

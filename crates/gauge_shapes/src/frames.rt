@@ -9,7 +9,7 @@ use model_gauge::gauge::Gauge;
 use protocol::bytes;
 
 // How much of each end of the flash the blocks lie in.
-const END: usize = 40;
+const END: usize = 64;
 
 // A frame goes to the gauge, by one event and with the pointer at one address; its flash is first as it was.
 fn send(event: Event, frame: &[u8], pointer: u16, old: &[u8], seen: Seen) -> Seen {
@@ -99,11 +99,12 @@ fn closed(command: u8, count: u8, address: u16, old: &[u8], seen: Seen) -> Seen 
     lengths(&wrong, count, old, lengths(&right, count, old, seen))
 }
 
-// At both ends of the window, and its line.
+// At both ends of the window, and at 4015, where the PEC of 44, a count of 1 and the low byte is the high byte; and its line.
 fn row(command: u8, count: u8, old: &[u8]) {
     let before = closed(command, count, 0x3FFF, old, Seen::new());
     let first = closed(command, count, 0x4000, old, before);
-    let block = closed(command, count, 0x5FE0, old, first);
+    let inside = closed(command, count, 0x4015, old, first);
+    let block = closed(command, count, 0x5FE0, old, inside);
     let last = closed(command, count, 0x5FFF, old, block);
     let seen = closed(command, count, 0x6000, old, last);
     seen::digits(b"frames ", command as u16, 2);
