@@ -1,14 +1,13 @@
 -- The gauge replies to a read of 44 of up to 36 bytes; the rest is what it does not take.
 -- Assumes nothing.
 use Prim.Native.Nat.{ℕ, _+_, _≤_, _<_, min}
-use mathlib.Core.Path.{_≡_, refl}
+use mathlib.Core.Path.{_≡_}
 use mathlib.Core.Bool.{true, false}
 use borrow.Author.Tests.{le-leb, lt-leb, ne-eqb}
 use Rattle.protocol.specs.Pick.{if_then_else_}
 use Rattle.engine.specs.declared.bus.Outcome.the-variants as outcome
 use Rattle.model_gauge.specs.Gauge.{actedOf, heardOf, repliesTo, movedOf, repliedOf, readAfter, readOutcome}
 use Rattle.model_gauge.specs.Replies.{Replies}
-use Rattle.model_gauge.specs.Untaken.{Untaken}
 use Rattle.model_gauge.specs.declared.gauge.Event.{Event}
 use Rattle.model_gauge.specs.declared.gauge.Event.the-variants as event
 use Rattle.model_gauge.specs.declared.gauge.Gauge.{Gauge}
