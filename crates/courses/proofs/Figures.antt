@@ -1,12 +1,12 @@
 -- A run that is refused changes nothing, and a call that has ended or is lent other lengths shows no transfer.
 -- Assumes nothing.
-use Prim.Native.Nat.{ℕ, _<_}
+use Prim.Native.Nat.{ℕ, _≤_, _<_}
 use mathlib.Core.Path.{_≡_, refl}
 use mathlib.Core.Bool.{Bool, true, false, _&&_}
 use mathlib.Core.List.{List, [], _∷_, _++_}
 use lib.ListN.{length}
 use lib.Dec.{ltb, eqb}
-use borrow.Author.Tests.{eq-eqb, ne-eqb, lt-ltb, eqb-true}
+use borrow.Author.Tests.{eq-eqb, ne-eqb, lt-ltb, le-ltb, eqb-true}
 use Rattle.protocol.specs.Pick.{if_then_else_}
 use Rattle.protocol.specs.declared.error.Answer.{Answer}
 use Rattle.protocol.specs.declared.error.Answer.the-variants as answer
@@ -38,6 +38,10 @@ pub not-sound : (front back : List ℕ) (byte : ℕ) → 2 < byte → soundOf (f
 unfolding soundOf if_then_else_
 not-sound [] back byte h = rw (lt-ltb 2 byte h)
 not-sound (x ∷ front) back byte h = either (ltb 2 x) (soundOf (front ++ byte ∷ back)) (not-sound front back byte h)
+
+sound-more : (byte : ℕ) (course : List ℕ) → byte ≤ 2 → soundOf (byte ∷ course) ≡ soundOf course
+unfolding soundOf if_then_else_
+sound-more byte course h = rw (le-ltb 2 byte h)
 
 admit-flash : (n : ℕ) (course : List ℕ) → (n ≡ 8192 → ⊥) → admitOf n course ≡ admitted.Refused answer.WrongBuffer
 unfolding admitOf if_then_else_
@@ -126,9 +130,12 @@ module _ (buffer work flash : List ℕ) (reader : Reader) where
   read-other course h s waits other = read-idle (λ e. rw (waits, other)) course answer.WrongBuffer h s (rw (waits, other))
 
 pub figures : Figures
-unfolding eventOf eventsOf if_then_else_
+unfolding eventOf eventsOf soundOf if_then_else_
 figures = record {
-  events = refl;
+  events-none = refl;
+  events = λ course. (refl, refl, refl);
+  sound-none = refl;
+  sound = λ byte course. (sound-more byte course, not-sound [] course byte);
   write-flash = λ payload course work flash writer h. writes-refused payload work flash writer course answer.WrongBuffer (admit-flash (length flash) course h);
   read-flash = λ course buffer work flash reader h. reads-refused buffer work flash reader course answer.WrongBuffer (admit-flash (length flash) course h);
   write-course = λ payload front back work flash byte writer h k.

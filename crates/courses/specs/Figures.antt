@@ -1,8 +1,8 @@
 -- What the bytes of a course say, and what a run leaves that does not start or shows no transfer. (01, The model gauge)
 -- Assumes nothing.
-use Prim.Native.Nat.{ℕ, _<_}
+use Prim.Native.Nat.{ℕ, _≤_, _<_}
 use mathlib.Core.Path.{_≡_}
-use mathlib.Core.Bool.{true}
+use mathlib.Core.Bool.{true, false}
 use mathlib.Core.List.{List, [], _∷_, _++_}
 use lib.ListN.{length}
 use Rattle.protocol.specs.declared.error.Answer.{Answer}
@@ -25,8 +25,13 @@ abbrev pub read-nothing : Answer → Reader → List ℕ → List ℕ → List �
 read-nothing a reader buffer work flash = reads.left (record { reader = reader; end = end.Answered a }) buffer work flash
 
 pub record Figures : Type 0 where
-  -- heard, lost before, lost after
-  pub events : eventsOf (0 ∷ 1 ∷ 2 ∷ []) ≡ event.Heard ∷ event.LostBefore ∷ event.LostAfter ∷ []
+  -- one byte for each transfer: 0 heard, 1 lost before the gauge acts, 2 lost after
+  pub events-none : eventsOf [] ≡ []
+  pub events : (course : List ℕ)
+      → (eventsOf (0 ∷ course) ≡ event.Heard ∷ eventsOf course) × (eventsOf (1 ∷ course) ≡ event.LostBefore ∷ eventsOf course) × (eventsOf (2 ∷ course) ≡ event.LostAfter ∷ eventsOf course)
+  -- a course is sound exactly where no byte is over 2
+  pub sound-none : soundOf [] ≡ true
+  pub sound : (byte : ℕ) (course : List ℕ) → (byte ≤ 2 → soundOf (byte ∷ course) ≡ soundOf course) × (2 < byte → soundOf (byte ∷ course) ≡ false)
   -- a flash of another length than 8,192 gives 8, whatever the call and the course
   pub write-flash : (payload course work flash : List ℕ) (writer : Writer) → (length flash ≡ 8192 → ⊥)
       → writes.runOf payload course (writes.world writer work flash) ≡ wrote-nothing answer.WrongBuffer writer work flash
