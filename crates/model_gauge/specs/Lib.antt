@@ -5,3 +5,4 @@ pub mod Untaken
 pub mod Lost
 pub mod Replies
 pub mod Forms
+pub mod Taken
