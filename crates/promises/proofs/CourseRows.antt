@@ -295,7 +295,7 @@ unfolding reads.takenOf
 read-among call before after (read.Refused a same) s among = subst (λ (c : ReadCall). Among read-own (c .phase)) (sym (s .1)) among
 read-among call before after (read.Taken next) s among = s .1
 
-read-taken : (r : ReadReported) → reads.takenOf r ≡ callR r
+pub read-taken : (r : ReadReported) → reads.takenOf r ≡ callR r
 unfolding reads.takenOf
 read-taken (read.Refused a same) = refl
 read-taken (read.Taken next) = refl

@@ -7,7 +7,7 @@ use mathlib.Core.List.{List, [], _∷_, _++_}
 use native.Mathlib.Omega.{arith}
 use lib.Dec.{eqb, ltb}
 use lib.ListN.{length, drop, length-take, length-drop, replicate}
-use borrow.Author.Tests.{eq-eqb, eqb-true, eqb-false}
+use borrow.Author.Tests.{eq-eqb, ne-eqb, eqb-true, eqb-false}
 use Rattle.protocol.specs.Pick.{if_then_else_}
 use Rattle.protocol.specs.Window.{inWindow}
 use Rattle.protocol.specs.declared.common.Config.{Config}
@@ -29,7 +29,7 @@ use Rattle.model_gauge.specs.declared.gauge.Event.the-variants as model
 use Rattle.model_gauge.specs.declared.gauge.Gauge.{Gauge}
 use Rattle.courses.specs.Pick.{case_write_read_none_, case_refused_admitted_}
 use Rattle.courses.specs.Course.{eventOf, eventsOf, soundOf, admitOf, endOf}
-use Rattle.courses.specs.WriteRun.{World as ModelWorld, Left, takenOf, reportedOf, sentOf, sentFlash, stepOf, driveOf, endedOf, leftOf, runOf}
+use Rattle.courses.specs.WriteRun.{World as ModelWorld, Left, left, takenOf, reportedOf, sentOf, sentFlash, stepOf, driveOf, endedOf, leftOf, runOf}
 use Rattle.courses.specs.declared.course.End.{End}
 use Rattle.courses.proofs.Cases.{at-write}
 use Rattle.promises.specs.Flash.{placeOf, blockOf, Overlaid}
@@ -37,12 +37,34 @@ use Rattle.promises.specs.Events as written
 use Rattle.promises.specs.Events.{each}
 use Rattle.promises.specs.Writes.{World, began, shows, step, run}
 use Rattle.promises.specs.Demand3.{clean, Told, endIn, Tells, EndedWell, ended-well, Accepted}
-use Rattle.promises.specs.Courses.{eventIn, eventsIn, beside, ran, ranIn, left-over, Leaves, Runs, started, ran-on, GoOnCourses, OnCourses}
+use Rattle.promises.specs.Courses.{eventAt, eventsAt, beside, ran, ranIn, stoppedAt, left-over, Leaves, Runs, started, ran-on, GoOnCourses, OnCourses}
 use Rattle.promises.proofs.Window.{within}
 use Rattle.promises.proofs.Frames.{takes-block, block-points}
 use Rattle.promises.proofs.Machine.{worldAt, frameOf, shows-block, shows-ended, lays, hands-out, laid-long, is-taken, nothing-lent, made-sent, made-ended}
 use Rattle.promises.proofs.Stopped.{ToldAt, Going, going-step, going, run-empty, stopped}
 use Rattle.promises.proofs.Resumed.{LeftBy, goes, unbroken as whole-write}
+
+-- a transfer that is heard is acknowledged; one that is lost is a timeout, with nothing done or with the full work done
+abbrev pub eventIn : ModelEvent → written.Event
+eventIn model.Heard = written.acknowledged
+eventIn model.LostBefore = written.failed written.timedOut
+eventIn model.LostAfter = written.unheard written.timedOut
+
+abbrev pub eventsIn : List ModelEvent → List written.Event
+eventsIn [] = []
+eventsIn (e ∷ es) = eventIn e ∷ eventsIn es
+
+-- which is what the bytes of a course say
+event-at : (byte : ℕ) → eventIn (eventOf byte) ≡ eventAt byte
+unfolding eventOf if_then_else_
+event-at zero = refl
+event-at (suc zero) = refl
+event-at (suc (suc n)) = rw (ne-eqb (suc (suc n)) 0 (λ e. omega arith), ne-eqb (suc (suc n)) 1 (λ e. omega arith))
+
+pub events-at : (course : List ℕ) → eventsIn (eventsOf course) ≡ eventsAt course
+unfolding eventsOf
+events-at [] = refl
+events-at (byte ∷ course) = rw (event-at byte, events-at course)
 
 -- what the gauge does to the flash is what the demand supposes
 same-flash : (e : ModelEvent) (frame flash : List ℕ) → flashAfter e frame flash ≡ written.flashAfter (eventIn e) frame flash
@@ -166,34 +188,35 @@ module _ (config : Config) (address : ℕ) (payload work flash : List ℕ) (a : 
           (going config address payload work flash a some′ (w .0) (w .1) [])
 
   pub run-same : (course : List ℕ) → soundOf course ≡ true
-      → ran config address payload work flash gauge course ≡ leftOf (length payload) (beside gauge (ranIn config address payload work flash course))
+      → ran config address payload work flash gauge course ≡ stoppedAt payload gauge (ranIn config address payload work flash course)
+  unfolding leftOf endedOf
   run-same course sound =
       admitted-run payload (beside gauge (began config address payload work flash)) course (began-whole config address payload work flash a) sound
-      ∙ ap (leftOf (length payload)) (drive-same (eventsOf course))
-
-  pub run-ends : (course : List ℕ) → soundOf course ≡ true
-      → ran config address payload work flash gauge course .run .end ≡ endIn (shows payload (ranIn config address payload work flash course))
-  run-ends course sound = ap (λ (l : Left). l .run .end) (run-same course sound) ∙ by (eqb (length payload) 0) refl
+      ∙ ap (leftOf (length payload)) (drive-same (eventsOf course) ∙ ap (λ (es : List written.Event). beside gauge (run payload es (began config address payload work flash))) (events-at course))
+      ∙ ap (λ (e : End). left (record { writer = beside gauge (ranIn config address payload work flash course) .writer; end = e }) (ranIn config address payload work flash course .work) (ranIn config address payload work flash course .flash)) (by (eqb (length payload) 0) refl)
     where
       by : (t : Bool) → eqb (length payload) 0 ≡ t
           → leftOf (length payload) (beside gauge (ranIn config address payload work flash course)) .run .end
           ≡ endIn (shows payload (ranIn config address payload work flash course))
       by true t =
-          rw (run-empty config address payload work flash a (eqb-true _ _ t) (eventsIn (eventsOf course)))
+          rw (run-empty config address payload work flash a (eqb-true _ _ t) (eventsAt course))
           (ended-at config address payload (length work) gauge (a .room) 0 _ _ work flash (phase.Ended answer.Done) refl)
       by false t =
           let some : length payload ≡ 0 → ⊥ = eqb-false _ _ t in
           let some′ : 0 < length payload = omega arith in
           let w = within address (length payload) (a .window) some′ in
           ended-going config address payload flash (length work) (a .room) (a .whole) (w .0) (w .1) gauge _
-          (going config address payload work flash a some′ (w .0) (w .1) (eventsIn (eventsOf course)))
+          (going config address payload work flash a some′ (w .0) (w .1) (eventsAt course))
+
+  pub run-ends : (course : List ℕ) → soundOf course ≡ true
+      → ran config address payload work flash gauge course .run .end ≡ endIn (shows payload (ranIn config address payload work flash course))
+  run-ends course sound = ap (λ (l : Left). l .run .end) (run-same course sound)
 
   -- what the run leaves
   pub run-leaves : (course : List ℕ) → soundOf course ≡ true
       → Leaves address payload flash (ranIn config address payload work flash course .acked) (ran config address payload work flash gauge course)
-  unfolding leftOf
   run-leaves course sound =
-      let s = stopped config address payload work flash a (eventsIn (eventsOf course)) in
+      let s = stopped config address payload work flash a (eventsAt course) in
       let f : ran config address payload work flash gauge course .flash ≡ ranIn config address payload work flash course .flash =
       ap (λ (l : Left). l .flash) (run-same course sound) in
       record {
@@ -272,8 +295,7 @@ heard-sound zero = refl
 heard-sound (suc n) = heard-sound n
 
 -- it is acknowledged
-pub heard-in : (n : ℕ) → eventsIn (eventsOf (replicate n 0)) ≡ replicate n written.acknowledged
-unfolding eventsOf eventOf if_then_else_
+pub heard-in : (n : ℕ) → eventsAt (replicate n 0) ≡ replicate n written.acknowledged
 heard-in zero = refl
 heard-in (suc n) = ap (λ (es : List written.Event). written.acknowledged ∷ es) (heard-in n)
 
@@ -295,7 +317,6 @@ pub on-courses : OnCourses
 on-courses =
     record {
       same = λ config address payload work flash a gauge course sound. run-same config address payload work flash a gauge course sound;
-      ends = λ config address payload work flash a gauge course sound. run-ends config address payload work flash a gauge course sound;
       promised = λ config address payload work flash a gauge course sound. run-leaves config address payload work flash a gauge course sound;
       runs-on = λ config address payload work flash a gauge course further p q. runs-on config address payload work flash a gauge course further p q;
       goes-on = λ address payload flash after win whole g. goes GoOnCourses on-courses-leaves win whole g;

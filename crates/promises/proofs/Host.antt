@@ -24,7 +24,7 @@ use Rattle.engine.specs.declared.bus.Phase.{Phase}
 use Rattle.engine.specs.declared.bus.Phase.the-variants as phase
 use Rattle.engine.specs.declared.bus.Transfer.the-variants as transfer
 use Rattle.writing.specs.Writing.{repliedOf, reportOf}
-use Rattle.courses.specs.WriteRun.{takenOf}
+use Rattle.answers.specs.Runs.{callW}
 use Rattle.promises.specs.Events.{each}
 use Rattle.promises.specs.Host.{Doing, transfers, reports, events, Misplaced, has-ended, wrong-buffer, wrong-reply, Allowed}
 use Rattle.promises.specs.Writes.{World, began, holding, shows, step, run, does, May, hosted, Alike}
@@ -44,24 +44,24 @@ module _ (config : Config) (address : ℕ) (payload : List ℕ) (n : ℕ) (room 
   module _ (i : ℕ) (b : Budget) (t : Tally) where
     -- a report of other lengths is refused
     not-fitting : (o : Outcome) (r lent work : ℕ) → (lent ≡ length payload → ⊥) ⊎ (work ≡ n → ⊥)
-        → takenOf (reportOf (callAt config address payload n phase.Waiting i b t) o r lent work) ≡ callAt config address payload n phase.Waiting i b t
-    unfolding takenOf reportOf case_waiting_ended_ if_then_else_
+        → callW (reportOf (callAt config address payload n phase.Waiting i b t) o r lent work) ≡ callAt config address payload n phase.Waiting i b t
+    unfolding reportOf case_waiting_ended_ if_then_else_
     not-fitting o r lent work other = rw (not-fits (length payload) n lent work other)
 
     -- an acknowledgement with a reply is refused, at whatever lengths
     not-asked : (r lent work : ℕ) → (r ≡ 0 → ⊥)
-        → takenOf (reportOf (callAt config address payload n phase.Waiting i b t) outcome.Acknowledged r lent work) ≡ callAt config address payload n phase.Waiting i b t
-    unfolding takenOf reportOf repliedOf case_waiting_ended_ case_acknowledged_error_timeout_ if_then_else_
+        → callW (reportOf (callAt config address payload n phase.Waiting i b t) outcome.Acknowledged r lent work) ≡ callAt config address payload n phase.Waiting i b t
+    unfolding reportOf repliedOf case_waiting_ended_ case_acknowledged_error_timeout_ if_then_else_
     not-asked r lent work some = by (fitsOf (record { length = length payload; work = n }) lent work) refl
       where
         by : (z : Bool) → fitsOf (record { length = length payload; work = n }) lent work ≡ z
-            → takenOf (reportOf (callAt config address payload n phase.Waiting i b t) outcome.Acknowledged r lent work) ≡ callAt config address payload n phase.Waiting i b t
+            → callW (reportOf (callAt config address payload n phase.Waiting i b t) outcome.Acknowledged r lent work) ≡ callAt config address payload n phase.Waiting i b t
         by true z = rw (z, ne-eqb r 0 some)
         by false z = rw z
 
     misplaced : (o : Outcome) (r lent work : ℕ) (now : List ℕ) → length now ≡ n
         → Misplaced (shows payload (worldAt config address payload n phase.Waiting i b t now [])) (length payload) n o r lent work
-        → takenOf (reportOf (callAt config address payload n phase.Waiting i b t) o r lent work) ≡ callAt config address payload n phase.Waiting i b t
+        → callW (reportOf (callAt config address payload n phase.Waiting i b t) o r lent work) ≡ callAt config address payload n phase.Waiting i b t
     misplaced o r lent work now long (has-ended a e) =
         let none : answers (transfer.Write (length (frameOf config address payload n i))) ≡ answers (transfer.Ended a) = ap answers (sym (shows-block config address payload n i b t now long room) ∙ e) in
         absurd (omega arith)
@@ -74,7 +74,7 @@ module _ (config : Config) (address : ℕ) (payload : List ℕ) (n : ℕ) (room 
   does-at : (d : Doing) (m : List ℕ) (p : Phase) (i : ℕ) (b : Budget) (t : Tally) (work flash : List ℕ) → length m ≡ n → length work ≡ n
       → May payload n d (worldAt config address payload n p i b t m flash)
       → Like n (does payload d (worldAt config address payload n p i b t m flash)) (run payload (events (d ∷ [])) (worldAt config address payload n p i b t work flash))
-  unfolding does each takenOf reportOf case_waiting_ended_
+  unfolding does each reportOf case_waiting_ended_
   does-at (transfers e work′ beside) m phase.Waiting i b t work flash long long′ may = (
     over (frameOf config address payload n i) work′,
     laid-long config address payload n i b t work′ may room,

@@ -32,7 +32,6 @@ use Rattle.writing.specs.declared.call.WriteTask.{WriteTask}
 use Rattle.r5.specs.Plans.{writeDataflash}
 use Rattle.courses.specs.Pick.{case_write_read_none_}
 use Rattle.writing.specs.declared.call.WriteReported.the-variants as reported
-use Rattle.courses.specs.WriteRun.{takenOf}
 use Rattle.courses.proofs.Cases.{at-write}
 use Rattle.promises.specs.Events.{Cause, busError, timedOut, Event, acknowledged, failed, unheard, causeOf, outcomeOf, lentOf, flashAfter, ackedAfter}
 use Rattle.promises.specs.Writes.{World, sent, made, step}
@@ -117,7 +116,7 @@ module _ (config : Config) (address : ℕ) (payload : List ℕ) (n : ℕ) where
     pub made-sent : (e : Event) (beside flash : List ℕ)
         → made payload e beside (worldAt phase.Waiting i b t work flash)
         ≡ record { call = settleOf (callAt phase.Waiting i b t) (outcomeOf e); work = over (frameOf i) work; flash = flashAfter e (frameOf i) flash; acked = ackedAfter e i }
-    unfolding made sent takenOf
+    unfolding made sent
     made-sent e beside flash =
         sym (at-write _ _ _ _ _ _ _ refl shows-block (rw lays sent-is))
       where

@@ -29,15 +29,17 @@ use Rattle.model_gauge.specs.declared.gauge.Event.the-variants as model
 use Rattle.model_gauge.specs.declared.gauge.Gauge.{Gauge}
 use Rattle.courses.specs.Pick.{case_write_read_none_, case_refused_admitted_}
 use Rattle.courses.specs.Course.{eventsOf, soundOf, admitOf, endOf}
-use Rattle.courses.specs.ReadRun.{World, Left, world, sentOf, sentBuffer, askedOf, askedBuffer, stepOf, driveOf, endedOf, leftOf, runOf}
+use Rattle.courses.specs.ReadRun.{World, Left, world, left, reportedOf, sentOf, sentBuffer, askedOf, askedBuffer, stepOf, driveOf, endedOf, leftOf, runOf}
+use Rattle.courses.specs.declared.course.End.{End}
 use Rattle.courses.proofs.Cases.{at-write, at-read}
-use Rattle.promises.specs.Events.{after, flashAfter, ackedAfter, each}
+use Rattle.promises.specs.Events.{Event, after, flashAfter, ackedAfter, each}
 use Rattle.promises.specs.Demand3.{endIn, Accepted}
-use Rattle.promises.specs.Courses.{eventIn, eventsIn}
+use Rattle.promises.specs.Courses.{eventsAt}
 use Rattle.promises.specs.Reads.{ReadWorld, readBegan, heard, readShows, readStep, readRun}
-use Rattle.promises.specs.Reading.{inModel, readRan, readRanIn, read-over}
+use Rattle.promises.specs.Reading.{inModel, readRan, readRanIn, readStoppedAt, read-over}
 use Rattle.promises.proofs.Window.{within}
-use Rattle.promises.proofs.Courses.{events-both, sound-both}
+use Rattle.promises.proofs.Courses.{eventIn, eventsIn, events-at, events-both, sound-both}
+use Rattle.promises.proofs.CourseRows.{read-taken}
 use Rattle.promises.proofs.ReadSteps.{reads-head, ask-small, readWorld, headOf, shows-head, lays-head, head-long, made-head, shows-read, lays-none, countAt, broughtAt, made-read, heard-same, made-over}
 use Rattle.promises.proofs.Reading.{Kept, Reading, buffer-long, reading-step}
 use Rattle.promises.proofs.ReadStopped.{start, read-empty, reading, stopped}
@@ -63,11 +65,11 @@ module _ (config : Config) (address size n : ℕ) where
     head-same : 0x4000 ≤ address + i * 32 → address + i * 32 < 0x6000 → (e : ModelEvent)
         → world (sentOf e head size n (inModel (here true) .reader)) (sentBuffer e head n (inModel (here true) .reader) buffer) (over head work) (gauge.flashAfter e head flash)
         ≡ inModel (heard (eventIn e) [] [] (over head work) (after (eventIn e) g (pointed head g)) (flashAfter (eventIn e) head flash) i (here true))
-    unfolding sentOf sentBuffer gauge.flashAfter gaugeAfter actedOf gauge.outcomeOf heardOf heard if_then_else_
+    unfolding sentOf reportedOf sentBuffer gauge.flashAfter gaugeAfter actedOf gauge.outcomeOf heardOf heard if_then_else_
     head-same low high model.Heard =
-        rw (reads-head (config .«pec_read») (address + i * 32) low high, head-long config address size n i b t g buffer work flash fits long room, fits)
-    head-same low high model.LostBefore = rw (head-long config address size n i b t g buffer work flash fits long room, fits)
-    head-same low high model.LostAfter = rw (head-long config address size n i b t g buffer work flash fits long room, fits)
+        rw (reads-head (config .«pec_read») (address + i * 32) low high, head-long config address size n i b t g buffer work flash fits long room, fits, read-taken)
+    head-same low high model.LostBefore = rw (head-long config address size n i b t g buffer work flash fits long room, fits, read-taken)
+    head-same low high model.LostAfter = rw (head-long config address size n i b t g buffer work flash fits long room, fits, read-taken)
 
     model-head : 0x4000 ≤ address + i * 32 → address + i * 32 < 0x6000 → (e : ModelEvent) → stepOf e (inModel (here true)) ≡ inModel (readStep (eventIn e) (here true))
     model-head low high e =
@@ -91,10 +93,10 @@ module _ (config : Config) (address size n : ℕ) where
     read-same : (e : ModelEvent)
         → world (askedOf e 0x44 count size n flash (inModel (here false) .reader)) (askedBuffer e 0x44 count n flash (inModel (here false) .reader) buffer) work flash
         ≡ inModel (heard (eventIn e) brought brought work (after (eventIn e) g (repliedOf 0x44 count g)) flash (ackedAfter (eventIn e) i) (here false))
-    unfolding askedOf askedBuffer readAfter actedOf readOutcome heardOf repliesTo heard if_then_else_
-    read-same model.Heard = rw (le-leb count 36 (ask-small (config .«pec_read») (size - i * 32)), long, fits)
-    read-same model.LostBefore = rw (long, fits)
-    read-same model.LostAfter = rw (long, fits)
+    unfolding askedOf reportedOf askedBuffer readAfter actedOf readOutcome heardOf repliesTo heard if_then_else_
+    read-same model.Heard = rw (le-leb count 36 (ask-small (config .«pec_read») (size - i * 32)), long, fits, read-taken)
+    read-same model.LostBefore = rw (long, fits, read-taken)
+    read-same model.LostAfter = rw (long, fits, read-taken)
 
     model-read : (e : ModelEvent) → stepOf e (inModel (here false)) ≡ inModel (readStep (eventIn e) (here false))
     unfolding heard
@@ -171,11 +173,6 @@ module _ (config : Config) (address : ℕ) (buffer work flash : List ℕ) (a : A
   unfolding readBegan
   first-whole = a .whole
 
-  -- A RUN OVER A COURSE IS THE RUN OVER ITS EVENTS
-  pub same : (course : List ℕ) → soundOf course ≡ true
-      → readRan config address buffer work flash gauge course ≡ leftOf (inModel (readRanIn config address buffer work flash gauge course))
-  same course sound = admitted-run (inModel first) course first-whole sound ∙ ap leftOf (drive-same (eventsOf course))
-
   -- ---- how a run ends
 
   ended-at : (p : Phase) (h : Bool) (i : ℕ) (b : Budget) (t : Tally) (g : Gauge) (now work′ : List ℕ) → length now ≡ length buffer → length work′ ≡ length work
@@ -192,22 +189,31 @@ module _ (config : Config) (address : ℕ) (buffer work flash : List ℕ) (a : A
   abbrev EndsSo : ReadWorld → Type 0
   EndsSo w = leftOf (inModel w) .run .end ≡ endIn (readShows w)
 
-  pub ends : (course : List ℕ) → soundOf course ≡ true
-      → readRan config address buffer work flash gauge course .run .end ≡ endIn (readShows (readRanIn config address buffer work flash gauge course))
-  ends course sound = ap (λ (l : Left). l .run .end) (same course sound) ∙ by (eqb (length buffer) 0) refl
+  -- A RUN OVER A COURSE IS THE RUN OVER ITS EVENTS
+  pub same : (course : List ℕ) → soundOf course ≡ true
+      → readRan config address buffer work flash gauge course ≡ readStoppedAt (readRanIn config address buffer work flash gauge course)
+  unfolding leftOf endedOf
+  same course sound =
+      admitted-run (inModel first) course first-whole sound
+      ∙ ap leftOf (drive-same (eventsOf course) ∙ ap (λ (es : List Event). inModel (readRun es first)) (events-at course))
+      ∙ ap (λ (e : End). left (record { reader = inModel (readRanIn config address buffer work flash gauge course) .reader; end = e }) (readRanIn config address buffer work flash gauge course .buffer) (readRanIn config address buffer work flash gauge course .work) (readRanIn config address buffer work flash gauge course .flash)) (by (eqb (length buffer) 0) refl)
     where
       by : (t : Bool) → eqb (length buffer) 0 ≡ t → EndsSo (readRanIn config address buffer work flash gauge course)
       by true t =
-          rw (read-empty config address buffer work flash a gauge (eqb-true _ _ t) (eventsIn (eventsOf course)))
+          rw (read-empty config address buffer work flash a gauge (eqb-true _ _ t) (eventsAt course))
           (ended-at (phase.Ended answer.Done) true 0 _ nothing gauge buffer work refl refl)
       by false t =
           let empty : length buffer ≡ 0 → ⊥ = eqb-false _ _ t in
           let some : 0 < length buffer = omega arith in
           let w = within address (length buffer) (a .window) some in
-          let r = reading config address buffer work flash a gauge some (w .0) (w .1) (eventsIn (eventsOf course)) in
+          let r = reading config address buffer work flash a gauge some (w .0) (w .1) (eventsAt course) in
           rw (r .is)
           (ended-at (r .at) (r .head) (r .i) (r .b) (r .t) (r .gauge) (r .buffer) (r .work)
           (buffer-long config address (length work) buffer flash (a .room) (a .whole) (w .0) (w .1) (r .i) (r .buffer) (r .front)) (r .long))
+
+  pub ends : (course : List ℕ) → soundOf course ≡ true
+      → readRan config address buffer work flash gauge course .run .end ≡ endIn (readShows (readRanIn config address buffer work flash gauge course))
+  ends course sound = ap (λ (l : Left). l .run .end) (same course sound)
 
   -- ---- running on
 

@@ -32,7 +32,7 @@ use Rattle.reading.specs.declared.call.Verdict.the-variants as verdict
 use Rattle.r5.specs.Plans.{readDataflash}
 use Rattle.model_gauge.specs.Gauge.{pointed, repliedOf}
 use Rattle.model_gauge.specs.declared.gauge.Gauge.{Gauge}
-use Rattle.courses.specs.ReadRun.{takenOf, reportedOf}
+use Rattle.answers.specs.Runs.{callR}
 use Rattle.promises.specs.Events.{after, flashAfter, ackedAfter, each}
 use Rattle.promises.specs.Host.{Doing, transfers, reports, events, Misplaced, has-ended, wrong-buffer, wrong-reply, Allowed}
 use Rattle.promises.specs.Reads.{ReadWorld, readBegan, lending, readShows, readStep, readRun, readDoes, ReadMay, readHosted, ReadAlike}
@@ -49,8 +49,8 @@ Like n v w = (m : List ℕ) × (length m ≡ n) × (v ≡ lending m w)
 
 -- a verdict that refuses leaves call and buffer as they were
 module _ (call : ReadCall) (o : Outcome) (bytes buffer : List ℕ) (w : ℕ) (a : Answer) (z : judgeOf call o bytes (length buffer) w ≡ verdict.Refused a) where
-  keeps-call : reportedOf call o bytes (length buffer) w ≡ call
-  unfolding reportedOf takenOf reportOf case_refused_fault_headed_block_
+  keeps-call : callR (reportOf call o bytes (length buffer) w) ≡ call
+  unfolding reportOf case_refused_fault_headed_block_
   keeps-call = rw z
 
   keeps-buffer : bufferAfter call o bytes buffer w ≡ buffer

@@ -35,7 +35,7 @@ use Rattle.r5.specs.Plans.{readDataflash}
 use Rattle.model_gauge.specs.Gauge.{stored, storedForm, pointed, pointedForm, takes, takesForm, repliesTo, replyOf, repliedOf}
 use Rattle.model_gauge.specs.declared.gauge.Gauge.{Gauge}
 use Rattle.courses.specs.Pick.{case_write_read_none_}
-use Rattle.courses.specs.ReadRun.{takenOf, reportedOf}
+use Rattle.answers.specs.Runs.{callR}
 use Rattle.courses.proofs.Cases.{at-write, at-read}
 use Rattle.promises.specs.Flash.{blockOf}
 use Rattle.promises.specs.Events.{Cause, busError, timedOut, Event, acknowledged, failed, unheard, causeOf, outcomeOf as heardBy, lentOf, after, flashAfter, ackedAfter}
@@ -145,8 +145,8 @@ module _ (config : Config) (address size n : ℕ) where
 
     -- ---- what the call hears
 
-    reported-failed : (c : Cause) (h : Bool) (bytes : List ℕ) → reportedOf (readAt phase.Waiting h i b t) (causeOf c) bytes size n ≡ failOf (readAt phase.Waiting h i b t) (whyOf c)
-    unfolding reportedOf takenOf reportOf judgeOf outcomeOf case_waiting_ended_ case_acknowledged_error_timeout_ case_refused_fault_headed_block_ fitsOf if_then_else_
+    reported-failed : (c : Cause) (h : Bool) (bytes : List ℕ) → callR (reportOf (readAt phase.Waiting h i b t) (causeOf c) bytes size n) ≡ failOf (readAt phase.Waiting h i b t) (whyOf c)
+    unfolding reportOf judgeOf outcomeOf case_waiting_ended_ case_acknowledged_error_timeout_ case_refused_fault_headed_block_ fitsOf if_then_else_
     reported-failed (busError code) h bytes = rw (eq-eqb size size refl, eq-eqb n n refl)
     reported-failed timedOut h bytes = rw (eq-eqb size size refl, eq-eqb n n refl)
 
@@ -177,8 +177,8 @@ module _ (config : Config) (address size n : ℕ) where
         heard-failed (unheard c) c refl h brought beside laid′ l′ g′ flash′ k
         ∙ ap (lending laid′) (sym (heard-failed (unheard c) c refl h brought [] laid l g′ flash′ k))
 
-    pub head-heard : reportedOf (readAt phase.Waiting true i b t) outcome.Acknowledged [] size n ≡ readAt (phaseAfter (blocksOf size) i) false i b t
-    unfolding reportedOf takenOf reportOf judgeOf outcomeOf acknowledgedOf heardHead headedOf parts.countOf readDataflash case_waiting_ended_ case_acknowledged_error_timeout_ case_refused_fault_headed_block_ fitsOf if_then_else_
+    pub head-heard : callR (reportOf (readAt phase.Waiting true i b t) outcome.Acknowledged [] size n) ≡ readAt (phaseAfter (blocksOf size) i) false i b t
+    unfolding reportOf judgeOf outcomeOf acknowledgedOf heardHead headedOf parts.countOf readDataflash case_waiting_ended_ case_acknowledged_error_timeout_ case_refused_fault_headed_block_ fitsOf if_then_else_
     head-heard = rw (eq-eqb size size refl, eq-eqb n n refl)
 
     pub head-heard-buffer : bufferAfter (readAt phase.Waiting true i b t) outcome.Acknowledged [] buffer n ≡ buffer
@@ -186,8 +186,8 @@ module _ (config : Config) (address size n : ℕ) where
     head-heard-buffer = rw (eq-eqb (length buffer) size fits, eq-eqb n n refl)
 
     module _ (bytes : List ℕ) (good : heardOf (blockAsk (size - i * 32) (config .«pec_read»)) bytes ≡ reply.Good) where
-      pub received : i < 4294967295 → reportedOf (readAt phase.Waiting false i b t) outcome.Acknowledged bytes size n ≡ readAt (phaseAfter (blocksOf size) (suc i)) false (suc i) b t
-      unfolding reportedOf takenOf reportOf judgeOf outcomeOf acknowledgedOf heardBlock verdictOf dueAsk askOf advanceOf parts.countOf readDataflash case_waiting_ended_ case_acknowledged_error_timeout_ case_refused_fault_headed_block_ fitsOf if_then_else_
+      pub received : i < 4294967295 → callR (reportOf (readAt phase.Waiting false i b t) outcome.Acknowledged bytes size n) ≡ readAt (phaseAfter (blocksOf size) (suc i)) false (suc i) b t
+      unfolding reportOf judgeOf outcomeOf acknowledgedOf heardBlock verdictOf dueAsk askOf advanceOf parts.countOf readDataflash case_waiting_ended_ case_acknowledged_error_timeout_ case_refused_fault_headed_block_ fitsOf if_then_else_
       received h =
           let more : min (i + 1) 4294967295 ≡ suc i = omega arith in
           rw (eq-eqb size size refl, eq-eqb n n refl, good, more)

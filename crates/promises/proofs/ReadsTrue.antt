@@ -28,13 +28,13 @@ use Rattle.engine.specs.declared.bus.Transfer.the-variants as transfer
 use Rattle.reading.specs.Reading.{nextOf}
 use Rattle.reading.specs.declared.call.ReadCall.{ReadCall}
 use Rattle.model_gauge.specs.declared.gauge.Gauge.{Gauge}
-use Rattle.courses.specs.Course.{eventsOf, soundOf}
-use Rattle.courses.specs.ReadRun.{Left, leftOf}
+use Rattle.courses.specs.Course.{soundOf}
+use Rattle.courses.specs.ReadRun.{Left}
 use Rattle.promises.specs.Flash.{placeOf, store}
 use Rattle.promises.specs.Events.{acknowledged, each}
 use Rattle.promises.specs.Reads.{ReadWorld, readShows, readRun}
 use Rattle.promises.specs.Demand3.{endIn, EndedWell, clean, Accepted}
-use Rattle.promises.specs.Courses.{eventsIn, ran}
+use Rattle.promises.specs.Courses.{eventsAt, ran}
 use Rattle.promises.specs.Reading.{flashBytes, ReadAnswered, all-got, gave-up, ReadTold, readRan, readRanIn, ReadsTrue}
 use Rattle.promises.proofs.Window.{within}
 use Rattle.promises.proofs.Courses.{run-leaves, heard-sound, heard-in, unbroken}
@@ -84,10 +84,9 @@ module _ (config : Config) (address : ℕ) (buffer work flash : List ℕ) (a : A
       → (readRan config address buffer work flash gauge course .flash ≡ flash)
       × (EndedWell (readRan config address buffer work flash gauge course .run .end)
       → readRan config address buffer work flash gauge course .buffer ≡ flashBytes address (length buffer) flash)
-  unfolding leftOf
   reads course sound =
       let w : ReadWorld = readRanIn config address buffer work flash gauge course in
-      let s = stopped config address buffer work flash a gauge (eventsIn (eventsOf course)) in
+      let s = stopped config address buffer work flash a gauge (eventsAt course) in
       let is = same config address buffer work flash a gauge course sound in (
         ap (λ (l : Left). l .flash) is ∙ s .kept,
         λ well.
@@ -196,7 +195,6 @@ reads-true =
       any-host = λ config address buffer work flash a gauge doings allowed. any-host config address buffer work flash a gauge doings allowed;
       same = λ config address buffer work flash a gauge course sound. same config address buffer work flash a gauge course sound;
       reads = λ config address buffer work flash a gauge course sound. reads config address buffer work flash a gauge course sound;
-      ends = λ config address buffer work flash a gauge course sound. ends config address buffer work flash a gauge course sound;
       runs-on = λ config address buffer work flash a gauge course further p q. runs-on config address buffer work flash a gauge course further p q;
       reads-back = reads-back;
     }

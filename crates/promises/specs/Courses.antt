@@ -1,17 +1,15 @@
 -- Demand 3 on the model's courses: each byte of a course is one of the events that the demand speaks of, so every run over every course keeps it.
 -- Assumes nothing.
-use Prim.Native.Nat.{ℕ, _*_, _≤_}
+use Prim.Native.Nat.{ℕ, zero, suc, _*_, _≤_}
 use mathlib.Core.Path.{_≡_}
 use mathlib.Core.Bool.{true}
 use mathlib.Core.List.{List, [], _∷_, _++_}
 use lib.ListN.{length, replicate}
 use Rattle.protocol.specs.Window.{inWindow}
 use Rattle.protocol.specs.declared.common.Config.{Config}
-use Rattle.model_gauge.specs.declared.gauge.Event.the-variants as model
-use Rattle.model_gauge.specs.declared.gauge.Event.{Event as ModelEvent}
 use Rattle.model_gauge.specs.declared.gauge.Gauge.{Gauge}
-use Rattle.courses.specs.Course.{eventsOf, soundOf}
-use Rattle.courses.specs.WriteRun.{World as ModelWorld, Left, world, leftOf, runOf}
+use Rattle.courses.specs.Course.{soundOf}
+use Rattle.courses.specs.WriteRun.{World as ModelWorld, Left, world, left, runOf}
 use Rattle.courses.specs.declared.course.End.{End}
 use Rattle.promises.specs.Flash.{placeOf, Overlaid, Stands}
 use Rattle.promises.specs.Events.{Event, acknowledged, failed, unheard, timedOut}
@@ -20,16 +18,17 @@ use Rattle.promises.specs.Demand3.{clean, endIn, Tells, EndedWell, Goes,
 
 -- ---- a run over a course
 
--- a transfer that is heard is acknowledged; one that is lost is a timeout, with nothing done or with the full work done
-abbrev pub eventIn : ModelEvent → Event
-eventIn model.Heard = acknowledged
-eventIn model.LostBefore = failed timedOut
-eventIn model.LostAfter = unheard timedOut
+-- what a byte of a course says of a transfer: 0, it is heard and acknowledged; 1, it is lost with nothing done; 2, it is lost with its full work done.
+-- What is lost is a timeout; a run over any other byte is refused
+abbrev pub eventAt : ℕ → Event
+eventAt zero = acknowledged
+eventAt (suc zero) = failed timedOut
+eventAt (suc (suc n)) = unheard timedOut
 
--- one after the other
-abbrev pub eventsIn : List ModelEvent → List Event
-eventsIn [] = []
-eventsIn (e ∷ es) = eventIn e ∷ eventsIn es
+-- a byte for each transfer
+abbrev pub eventsAt : List ℕ → List Event
+eventsAt [] = []
+eventsAt (byte ∷ course) = eventAt byte ∷ eventsAt course
 
 -- the call, its work buffer and the flash, beside a gauge
 abbrev pub beside : Gauge → World → ModelWorld
@@ -41,7 +40,12 @@ ran config address payload work flash gauge course = runOf payload course (besid
 
 -- the same write over the same events, as the demand has it
 abbrev pub ranIn : Config → ℕ → List ℕ → List ℕ → List ℕ → List ℕ → World
-ranIn config address payload work flash course = run payload (eventsIn (eventsOf course)) (began config address payload work flash)
+ranIn config address payload work flash course = run payload (eventsAt course) (began config address payload work flash)
+
+-- what a run leaves that stops there: the call, its work buffer and the flash, beside a gauge; it is cut where the machine shows a transfer, and else has
+-- the answer that it shows
+abbrev pub stoppedAt : List ℕ → Gauge → World → Left
+stoppedAt payload gauge w = left (record { writer = record { call = w .call; gauge = gauge }; end = endIn (shows payload w) }) (w .work) (w .flash)
 
 -- what a run left, to be run on
 abbrev pub left-over : Left → ModelWorld
@@ -76,14 +80,10 @@ pub record GoOnCourses (address : ℕ) (payload flash : List ℕ) (e : End) (now
 
 -- DEMAND 3 ON COURSES
 pub record OnCourses : Type 0 where
-  -- a run leaves the call, the work buffer and the flash of the run over the course's events, and the gauge's pointer where it was
+  -- a run leaves the call, the work buffer, the flash and the end of the run over the course's events, and the gauge's pointer where it was
   pub same : (config : Config) (address : ℕ) (payload work flash : List ℕ) → Accepted address payload work flash
       → (gauge : Gauge) (course : List ℕ) → soundOf course ≡ true
-      → ran config address payload work flash gauge course ≡ leftOf (length payload) (beside gauge (ranIn config address payload work flash course))
-  -- and ends as the machine then shows
-  pub ends : (config : Config) (address : ℕ) (payload work flash : List ℕ) → Accepted address payload work flash
-      → (gauge : Gauge) (course : List ℕ) → soundOf course ≡ true
-      → ran config address payload work flash gauge course .run .end ≡ endIn (shows payload (ranIn config address payload work flash course))
+      → ran config address payload work flash gauge course ≡ stoppedAt payload gauge (ranIn config address payload work flash course)
   -- stop anywhere and know every byte, and what the end says
   pub promised : (config : Config) (address : ℕ) (payload work flash : List ℕ) → Accepted address payload work flash
       → (gauge : Gauge) (course : List ℕ) → soundOf course ≡ true

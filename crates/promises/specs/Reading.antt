@@ -14,14 +14,14 @@ use Rattle.protocol.specs.declared.error.Answer.{Answer}
 use Rattle.engine.specs.declared.bus.Transfer.{Transfer}
 use Rattle.engine.specs.declared.bus.Transfer.the-variants as transfer
 use Rattle.model_gauge.specs.declared.gauge.Gauge.{Gauge}
-use Rattle.courses.specs.Course.{eventsOf, soundOf}
-use Rattle.courses.specs.ReadRun.{World, Left, world, leftOf, runOf}
+use Rattle.courses.specs.Course.{soundOf}
+use Rattle.courses.specs.ReadRun.{World, Left, world, left, runOf}
 use Rattle.promises.specs.Flash.{placeOf}
 use Rattle.promises.specs.Events.{Event}
 use Rattle.promises.specs.Host.{Doing, events, Allowed}
 use Rattle.promises.specs.Reads.{ReadWorld, readBegan, readShows, readRun, readDoes, ReadMay, readHosted, ReadAlike}
 use Rattle.promises.specs.Demand3.{endIn, EndedWell, Accepted}
-use Rattle.promises.specs.Courses.{eventsIn, ran}
+use Rattle.promises.specs.Courses.{eventsAt, ran}
 
 -- the n bytes of the flash from an address on
 abbrev pub flashBytes : ℕ → ℕ → List ℕ → List ℕ
@@ -62,7 +62,12 @@ readRan config address buffer work flash gauge course = runOf course (inModel (r
 
 -- the same read over the same events
 abbrev pub readRanIn : Config → ℕ → List ℕ → List ℕ → List ℕ → Gauge → List ℕ → ReadWorld
-readRanIn config address buffer work flash gauge course = readRun (eventsIn (eventsOf course)) (readBegan gauge config address buffer work flash)
+readRanIn config address buffer work flash gauge course = readRun (eventsAt course) (readBegan gauge config address buffer work flash)
+
+-- what a run leaves that stops there: the call and the gauge, the buffer, the work buffer and the flash; it is cut where the machine shows a transfer, and
+-- else has the answer that it shows
+abbrev pub readStoppedAt : ReadWorld → Left
+readStoppedAt w = left (record { reader = record { call = w .call; gauge = w .gauge }; end = endIn (readShows w) }) (w .buffer) (w .work) (w .flash)
 
 -- what a run left, to be run on
 abbrev pub read-over : Left → World
@@ -76,20 +81,16 @@ pub record ReadsTrue : Type 0 where
   pub any-host : (config : Config) (address : ℕ) (buffer work flash : List ℕ) → Accepted address buffer work flash → (gauge : Gauge)
       → (doings : List Doing) → Allowed readDoes (ReadMay (length buffer) (length work)) doings (readBegan gauge config address buffer work flash)
       → ReadAlike (readHosted doings (readBegan gauge config address buffer work flash)) (readRun (events doings) (readBegan gauge config address buffer work flash))
-  -- on a course: a run leaves what the run over the course's events leaves
+  -- on a course: a run leaves what the run over the course's events leaves, and ends as the machine then shows
   pub same : (config : Config) (address : ℕ) (buffer work flash : List ℕ) → Accepted address buffer work flash
       → (gauge : Gauge) (course : List ℕ) → soundOf course ≡ true
-      → readRan config address buffer work flash gauge course ≡ leftOf (inModel (readRanIn config address buffer work flash gauge course))
+      → readRan config address buffer work flash gauge course ≡ readStoppedAt (readRanIn config address buffer work flash gauge course)
   -- no read changes the flash, and one that ends well returns its bytes
   pub reads : (config : Config) (address : ℕ) (buffer work flash : List ℕ) → Accepted address buffer work flash
       → (gauge : Gauge) (course : List ℕ) → soundOf course ≡ true
       → (readRan config address buffer work flash gauge course .flash ≡ flash)
       × (EndedWell (readRan config address buffer work flash gauge course .run .end)
       → readRan config address buffer work flash gauge course .buffer ≡ flashBytes address (length buffer) flash)
-  -- a run is cut where the call then shows a transfer, and else has the answer that it shows
-  pub ends : (config : Config) (address : ℕ) (buffer work flash : List ℕ) → Accepted address buffer work flash
-      → (gauge : Gauge) (course : List ℕ) → soundOf course ≡ true
-      → readRan config address buffer work flash gauge course .run .end ≡ endIn (readShows (readRanIn config address buffer work flash gauge course))
   -- a read that was cut and is run on over a further course is the read run over both
   pub runs-on : (config : Config) (address : ℕ) (buffer work flash : List ℕ) → Accepted address buffer work flash
       → (gauge : Gauge) (course further : List ℕ) → soundOf course ≡ true → soundOf further ≡ true

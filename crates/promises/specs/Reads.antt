@@ -8,13 +8,13 @@ use Rattle.protocol.specs.Pick.{if_then_else_}
 use Rattle.protocol.specs.Bytes.{over}
 use Rattle.protocol.specs.declared.common.Config.{Config}
 use Rattle.engine.specs.declared.bus.Transfer.{Transfer}
-use Rattle.reading.specs.Reading.{startOf, nextOf, workAfter, bufferAfter}
+use Rattle.reading.specs.Reading.{startOf, nextOf, workAfter, reportOf, bufferAfter}
 use Rattle.reading.specs.declared.call.ReadCall.{ReadCall}
 use Rattle.r5.specs.Plans.{readDataflash}
 use Rattle.model_gauge.specs.Gauge.{pointed, repliesTo, replyOf, repliedOf}
 use Rattle.model_gauge.specs.declared.gauge.Gauge.{Gauge}
 use Rattle.courses.specs.Pick.{case_write_read_none_}
-use Rattle.courses.specs.ReadRun.{reportedOf}
+use Rattle.answers.specs.Runs.{callR}
 use Rattle.promises.specs.Events.{Event, outcomeOf, lentOf, after, flashAfter, ackedAfter, each}
 use Rattle.promises.specs.Host.{Doing, transfers, reports, Misplaced}
 
@@ -41,7 +41,7 @@ readBegan gauge config address buffer work flash = record {
 -- the call hears of a transfer what an acknowledged one brought, or whatever lies there beside a failure; and the gauge and the flash are as it left them
 unfoldable pub heard : Event → (brought beside work : List ℕ) → Gauge → (flash : List ℕ) → (got : ℕ) → ReadWorld → ReadWorld
 heard e brought beside work gauge flash got w = record {
-  call = reportedOf (w .call) (outcomeOf e) (lentOf e brought beside) (length (w .buffer)) (length work);
+  call = callR (reportOf (w .call) (outcomeOf e) (lentOf e brought beside) (length (w .buffer)) (length work));
   gauge = gauge;
   buffer = bufferAfter (w .call) (outcomeOf e) (lentOf e brought beside) (w .buffer) (length work);
   work = work;
@@ -96,7 +96,7 @@ readRun es w = each readStep es w
 unfoldable pub readDoes : Doing → ReadWorld → ReadWorld
 readDoes (transfers e work beside) w = readMade e beside (lending work w)
 readDoes (reports o reply lent work) w = record {
-  call = reportedOf (w .call) o reply (length (take lent (w .buffer))) work;
+  call = callR (reportOf (w .call) o reply (length (take lent (w .buffer))) work);
   gauge = w .gauge;
   buffer = over (bufferAfter (w .call) o reply (take lent (w .buffer)) work) (w .buffer);
   work = w .work;

@@ -10,7 +10,7 @@ use Rattle.writing.specs.Writing.{startOf, nextOf, workAfter, partOf, reportOf}
 use Rattle.writing.specs.declared.call.WriteCall.{WriteCall}
 use Rattle.r5.specs.Plans.{writeDataflash}
 use Rattle.courses.specs.Pick.{case_write_read_none_}
-use Rattle.courses.specs.WriteRun.{takenOf}
+use Rattle.answers.specs.Runs.{callW}
 use Rattle.promises.specs.Events.{Event, outcomeOf, lentOf, flashAfter, ackedAfter, each}
 use Rattle.promises.specs.Host.{Doing, transfers, reports, Misplaced}
 
@@ -29,7 +29,7 @@ began config address payload work flash =
 -- the n bytes that the machine hands out go to the gauge, and it hears what came of them; a write brings no bytes
 unfoldable pub sent : List ℕ → Event → (beside work : List ℕ) → ℕ → World → World
 sent payload e beside work n w = record {
-  call = takenOf (reportOf (w .call) (outcomeOf e) (length (lentOf e [] beside)) (length payload) (length work));
+  call = callW (reportOf (w .call) (outcomeOf e) (length (lentOf e [] beside)) (length payload) (length work));
   work = work;
   flash = flashAfter e (partOf (w .call) payload work n) (w .flash);
   acked = ackedAfter e (w .acked);
@@ -69,7 +69,7 @@ run payload es w = each (step payload) es w
 unfoldable pub does : List ℕ → Doing → World → World
 does payload (transfers e work beside) w = made payload e beside (holding work w)
 does payload (reports o reply lent work) w =
-    record { call = takenOf (reportOf (w .call) o (length reply) lent work); work = w .work; flash = w .flash; acked = w .acked }
+    record { call = callW (reportOf (w .call) o (length reply) lent work); work = w .work; flash = w .flash; acked = w .acked }
 
 -- what it may do with a call that was lent a work buffer of n bytes at the start
 abbrev pub May : List ℕ → ℕ → Doing → World → Type 0
