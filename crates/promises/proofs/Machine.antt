@@ -30,10 +30,9 @@ use Rattle.writing.specs.Writing.{planOf, ownBytes, dueBytes, shownOf, workShow
 use Rattle.writing.specs.declared.call.WriteCall.{WriteCall}
 use Rattle.writing.specs.declared.call.WriteTask.{WriteTask}
 use Rattle.r5.specs.Plans.{writeDataflash}
-use Rattle.courses.specs.Pick.{case_write_read_none_}
 use Rattle.writing.specs.declared.call.WriteReported.the-variants as reported
-use Rattle.courses.proofs.Cases.{at-write}
 use Rattle.promises.specs.Events.{Cause, busError, timedOut, Event, acknowledged, failed, unheard, causeOf, outcomeOf, lentOf, flashAfter, ackedAfter}
+use Rattle.promises.specs.Host.{makes}
 use Rattle.promises.specs.Writes.{World, sent, made, step}
 
 -- a failed transfer, with the answer that it would end the call with
@@ -116,9 +115,9 @@ module _ (config : Config) (address : ℕ) (payload : List ℕ) (n : ℕ) where
     pub made-sent : (e : Event) (beside flash : List ℕ)
         → made payload e beside (worldAt phase.Waiting i b t work flash)
         ≡ record { call = settleOf (callAt phase.Waiting i b t) (outcomeOf e); work = over (frameOf i) work; flash = flashAfter e (frameOf i) flash; acked = ackedAfter e i }
-    unfolding made sent
+    unfolding made sent makes
     made-sent e beside flash =
-        sym (at-write _ _ _ _ _ _ _ refl shows-block (rw lays sent-is))
+        rw (shows-block, lays) (sym sent-is)
       where
         sent-is : record { call = settleOf (callAt phase.Waiting i b t) (outcomeOf e); work = over (frameOf i) work; flash = flashAfter e (frameOf i) flash; acked = ackedAfter e i }
             ≡ sent payload e beside (over (frameOf i) work) (length (frameOf i)) (worldAt phase.Waiting i b t work flash)
@@ -157,5 +156,5 @@ module _ (config : Config) (address : ℕ) (payload : List ℕ) (n : ℕ) where
   -- and stays as it is
   pub made-ended : (e : Event) (beside : List ℕ) (a : Answer) (i : ℕ) (b : Budget) (t : Tally) (work flash : List ℕ)
       → made payload e beside (worldAt (phase.Ended a) i b t work flash) ≡ worldAt (phase.Ended a) i b t work flash
-  unfolding made nextOf workAfter case_waiting_ended_ case_write_read_none_
+  unfolding made nextOf workAfter case_waiting_ended_ makes
   made-ended e beside a i b t work flash = refl

@@ -34,11 +34,10 @@ use Rattle.reading.specs.declared.call.ReadTask.{ReadTask}
 use Rattle.r5.specs.Plans.{readDataflash}
 use Rattle.model_gauge.specs.Gauge.{stored, storedForm, pointed, pointedForm, takes, takesForm, repliesTo, replyOf, repliedOf}
 use Rattle.model_gauge.specs.declared.gauge.Gauge.{Gauge}
-use Rattle.courses.specs.Pick.{case_write_read_none_}
 use Rattle.answers.specs.Runs.{callR}
-use Rattle.courses.proofs.Cases.{at-write, at-read}
 use Rattle.promises.specs.Flash.{blockOf}
 use Rattle.promises.specs.Events.{Cause, busError, timedOut, Event, acknowledged, failed, unheard, causeOf, outcomeOf as heardBy, lentOf, after, flashAfter, ackedAfter}
+use Rattle.promises.specs.Host.{makes}
 use Rattle.promises.specs.Reads.{ReadWorld, heard, headSent, asked, lending, readMade}
 use Rattle.promises.proofs.Window.{inside}
 use Rattle.promises.proofs.Frames.{reads-address}
@@ -116,8 +115,8 @@ module _ (config : Config) (address size n : ℕ) where
     pub made-head : (e : Event) (beside : List ℕ)
         → readMade e beside (readWorld phase.Waiting true i b t g buffer work flash)
         ≡ heard e [] beside (over (headOf i) work) (after e g (pointed (headOf i) g)) (flashAfter e (headOf i) flash) i (readWorld phase.Waiting true i b t g buffer work flash)
-    unfolding readMade headSent
-    made-head e beside = sym (at-write _ _ _ _ _ _ _ refl shows-head (rw (lays-head, take-over)))
+    unfolding readMade makes headSent
+    made-head e beside = rw (shows-head, lays-head, take-over)
 
     -- ---- a read is due
 
@@ -139,9 +138,9 @@ module _ (config : Config) (address size n : ℕ) where
     pub made-read : (e : Event) (beside : List ℕ)
         → readMade e beside (readWorld phase.Waiting false i b t g buffer work flash)
         ≡ heard e broughtAt beside work (after e g (repliedOf 0x44 countAt g)) flash (ackedAfter e i) (readWorld phase.Waiting false i b t g buffer work flash)
-    unfolding readMade asked repliesTo if_then_else_
+    unfolding readMade makes asked repliesTo if_then_else_
     made-read e beside =
-        sym (at-read _ _ _ _ _ _ _ _ refl shows-read (rw (lays-none, le-leb countAt 36 (ask-small (config .«pec_read») (size - i * 32)))))
+        rw (shows-read, lays-none, le-leb countAt 36 (ask-small (config .«pec_read») (size - i * 32)))
 
     -- ---- what the call hears
 
@@ -200,7 +199,7 @@ module _ (config : Config) (address size n : ℕ) where
 -- an ended call stays as it is
 pub made-over : (config : Config) (address size n : ℕ) (e : Event) (beside : List ℕ) (a : Answer) (h : Bool) (i : ℕ) (b : Budget) (t : Tally) (g : Gauge) (buffer work flash : List ℕ)
     → readMade e beside (readWorld config address size n (phase.Ended a) h i b t g buffer work flash) ≡ readWorld config address size n (phase.Ended a) h i b t g buffer work flash
-unfolding readMade nextOf workAfter case_waiting_ended_ case_write_read_none_
+unfolding readMade nextOf workAfter case_waiting_ended_ makes
 made-over config address size n e beside a h i b t g buffer work flash = refl
 
 -- a block into the buffer, after the i blocks that are there

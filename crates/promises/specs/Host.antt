@@ -23,6 +23,13 @@ events [] = []
 events (transfers e work beside ∷ ds) = e ∷ events ds
 events (reports o reply lent work ∷ ds) = events ds
 
+-- one thing for a write of n bytes that is shown, one for a read, one where no transfer is
+unfoldable pub makes : {A : Type 0} → (ℕ → A) → (ℕ → ℕ → A) → A → Transfer → A
+makes write read none (transfer.Write n) = write n
+makes write read none (transfer.Read command count) = read command count
+makes write read none (transfer.Refused a) = none
+makes write read none (transfer.Ended a) = none
+
 -- how many bytes a transfer asks for
 abbrev pub asks : Transfer → ℕ
 asks (transfer.Write n) = 0

@@ -13,10 +13,9 @@ use Rattle.reading.specs.declared.call.ReadCall.{ReadCall}
 use Rattle.r5.specs.Plans.{readDataflash}
 use Rattle.model_gauge.specs.Gauge.{pointed, repliesTo, replyOf, repliedOf}
 use Rattle.model_gauge.specs.declared.gauge.Gauge.{Gauge}
-use Rattle.courses.specs.Pick.{case_write_read_none_}
 use Rattle.answers.specs.Runs.{callR}
 use Rattle.promises.specs.Events.{Event, outcomeOf, lentOf, after, flashAfter, ackedAfter, each}
-use Rattle.promises.specs.Host.{Doing, transfers, reports, Misplaced}
+use Rattle.promises.specs.Host.{makes, Doing, transfers, reports, Misplaced}
 
 -- the call, the gauge, the caller's buffer and the work buffer; the flash; how many reads were acknowledged
 pub record ReadWorld : Type 0 where
@@ -77,10 +76,8 @@ readLaid w = workAfter (w .call) (length (w .buffer)) (w .work)
 -- one transfer, as the machine shows it. Where it shows none, nothing goes out and nothing is heard
 unfoldable pub readMade : Event → (beside : List ℕ) → ReadWorld → ReadWorld
 readMade e beside w =
-    case readShows w
-    write (λ n. headSent e beside (readLaid w) n w)
-    read (λ command count. asked e beside (readLaid w) command count w)
-    none lending (readLaid w) w
+    let laid : List ℕ = readLaid w in
+    makes (λ n. headSent e beside laid n w) (λ command count. asked e beside laid command count w) (lending laid w) (readShows w)
 
 -- with nothing lent beside it
 abbrev pub readStep : Event → ReadWorld → ReadWorld

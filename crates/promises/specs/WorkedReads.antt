@@ -22,8 +22,8 @@ use Rattle.reading.specs.Reading.{startOf, dueAsk, shownHead, workHead, shownOf
 use Rattle.r5.specs.Plans.{readDataflash}
 use Rattle.model_gauge.specs.Frame.{wholeOf, formOf, readFrame}
 use Rattle.model_gauge.specs.Gauge.{stored, storedForm, pointed, pointedForm, repliesTo, blockAt, replyFront, replyOf, movedOf, repliedOf}
-use Rattle.courses.specs.Pick.{case_write_read_none_}
 use Rattle.promises.specs.Events.{busError, timedOut, Event, acknowledged, failed, unheard, each}
+use Rattle.promises.specs.Host.{makes}
 use Rattle.promises.specs.Reads.{ReadWorld, readBegan, heard, headSent, asked, readShows, readMade, readRun}
 
 -- a read of 33 bytes at 4000 hex, without a PEC, into a buffer of A5; the flash has a block of 1 there and then 2, and the pointer stands elsewhere
@@ -44,5 +44,5 @@ pub worked-reads :
     × (readShows (workedRead ((acknowledged) ∷ (acknowledged) ∷ unheard timedOut ∷ failed timedOut ∷ [])) ≡ transfer.Ended answer.Timeout)
     × (workedRead ((acknowledged) ∷ (acknowledged) ∷ unheard timedOut ∷ failed timedOut ∷ []) .buffer ≡ replicate 32 1 ++ (0xA5 ∷ []))
     × (workedRead ((acknowledged) ∷ unheard timedOut ∷ (acknowledged) ∷ (acknowledged) ∷ (acknowledged) ∷ []) .buffer ≡ replicate 32 1 ++ (2 ∷ []))
-unfolding readBegan startOf admitted measured windowed inWindow readDataflash hasHead each readMade headSent asked heard nextOf workAfter shownOf workShown shownHead workHead headBytes macBytes pairOf laidOf workLaid writeOf sealed over fitsOf dueAsk askOf blockAsk macAsk countOf aroundOf leadOf heardOf dataOf reportOf bufferAfter judgeOf outcomeOf acknowledgedOf heardHead heardBlock verdictOf headedOf advanceOf storedOf storedAt blockIn mostOf parts.countOf failOf failedOf retryOf endOf phaseAfter waited nothing stored storedForm pointed pointedForm readFrame formOf wholeOf repliesTo repliedOf movedOf replyOf replyFront blockAt case_waiting_ended_ case_acknowledged_error_timeout_ case_retry_spent_ case_refused_fault_headed_block_ case_write_read_none_ if_then_else_
+unfolding readBegan startOf admitted measured windowed inWindow readDataflash hasHead each readMade headSent asked heard nextOf workAfter shownOf workShown shownHead workHead headBytes macBytes pairOf laidOf workLaid writeOf sealed over fitsOf dueAsk askOf blockAsk macAsk countOf aroundOf leadOf heardOf dataOf reportOf bufferAfter judgeOf outcomeOf acknowledgedOf heardHead heardBlock verdictOf headedOf advanceOf storedOf storedAt blockIn mostOf parts.countOf failOf failedOf retryOf endOf phaseAfter waited nothing stored storedForm pointed pointedForm readFrame formOf wholeOf repliesTo repliedOf movedOf replyOf replyFront blockAt case_waiting_ended_ case_acknowledged_error_timeout_ case_retry_spent_ case_refused_fault_headed_block_ makes if_then_else_
 worked-reads = (refl, refl, refl, refl, refl, refl, refl, refl)

@@ -9,10 +9,9 @@ use Rattle.engine.specs.declared.bus.Transfer.{Transfer}
 use Rattle.writing.specs.Writing.{startOf, nextOf, workAfter, partOf, reportOf}
 use Rattle.writing.specs.declared.call.WriteCall.{WriteCall}
 use Rattle.r5.specs.Plans.{writeDataflash}
-use Rattle.courses.specs.Pick.{case_write_read_none_}
 use Rattle.answers.specs.Runs.{callW}
 use Rattle.promises.specs.Events.{Event, outcomeOf, lentOf, flashAfter, ackedAfter, each}
-use Rattle.promises.specs.Host.{Doing, transfers, reports, Misplaced}
+use Rattle.promises.specs.Host.{makes, Doing, transfers, reports, Misplaced}
 
 -- the call and its work buffer; the flash; how many blocks were acknowledged
 pub record World : Type 0 where
@@ -50,10 +49,8 @@ handed payload n w = partOf (w .call) payload (workAfter (w .call) payload (w .w
 -- one transfer, as the machine shows it. Where it shows no write, nothing goes out and nothing is heard
 unfoldable pub made : List ℕ → Event → (beside : List ℕ) → World → World
 made payload e beside w =
-    case shows payload w
-    write (λ n. sent payload e beside (workAfter (w .call) payload (w .work)) n w)
-    read (λ command count. holding (workAfter (w .call) payload (w .work)) w)
-    none holding (workAfter (w .call) payload (w .work)) w
+    let laid : List ℕ = workAfter (w .call) payload (w .work) in
+    makes (λ n. sent payload e beside laid n w) (λ command count. holding laid w) (holding laid w) (shows payload w)
 
 -- with nothing lent beside it
 abbrev pub step : List ℕ → Event → World → World
