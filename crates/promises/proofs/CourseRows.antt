@@ -94,6 +94,13 @@ bad-of (byte ∷ course) e = by (ltb 2 byte) refl (bad-of course)
 none-bad : (course : List ℕ) → soundOf course ≡ true → BadByte course → ⊥
 none-bad course e (front, byte, back, is, h) = false≢true (sym (not-sound front back byte h) ∙ sym (ap soundOf is) ∙ e)
 
+all-good : (course : List ℕ) → (BadByte course → ⊥) → soundOf course ≡ true
+all-good course good = by (soundOf course) refl
+  where
+    by : (t : Bool) → soundOf course ≡ t → soundOf course ≡ true
+    by true t = t
+    by false t = absurd (good (bad-of course t))
+
 -- ---- the two rows, from why a run was refused or that it was not
 
 module _ (f : ℕ) (course : List ℕ) (lent : Lent) (n w : ℕ) where
@@ -182,7 +189,7 @@ unfolding writes.takenOf
 wrote-among call (wrote.Refused a same) s among = subst (λ (c : WriteCall). Among wrote-own (c .phase)) (sym (s .1)) among
 wrote-among call (wrote.Taken next) s among = s .1
 
-wrote-taken : (r : WriteReported) → writes.takenOf r ≡ callW r
+pub wrote-taken : (r : WriteReported) → writes.takenOf r ≡ callW r
 unfolding writes.takenOf
 wrote-taken (wrote.Refused a same) = refl
 wrote-taken (wrote.Taken next) = refl
@@ -403,4 +410,4 @@ module _ (course buffer work flash : List ℕ) (reader : Reader) (waits : reader
   }
 
 pub course-rows : CourseRows
-course-rows = record { writing = write-rows; reading = read-rows }
+course-rows = record { sound = λ course. (none-bad course, all-good course); writing = write-rows; reading = read-rows }

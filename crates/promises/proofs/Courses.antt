@@ -150,7 +150,7 @@ module _ (config : Config) (address : ℕ) (payload old : List ℕ) (n : ℕ) (r
   ended-going w g = rw (g .is) (ended-at config address payload n gauge room (g .i) (g .b) (g .t) (g .work) (g .flash) (g .at) (g .long))
 
 -- a run that is admitted drives the call over its course
-admitted-run : (payload : List ℕ) (w : ModelWorld) (course : List ℕ) → length (w .flash) ≡ 8192 → soundOf course ≡ true
+pub admitted-run : (payload : List ℕ) (w : ModelWorld) (course : List ℕ) → length (w .flash) ≡ 8192 → soundOf course ≡ true
     → runOf payload course w ≡ leftOf (length payload) (driveOf payload (eventsOf course) w)
 unfolding runOf admitOf case_refused_admitted_ if_then_else_
 admitted-run payload w course whole sound = rw (eq-eqb (length (w .flash)) 8192 whole, sound)

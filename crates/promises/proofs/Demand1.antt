@@ -16,6 +16,7 @@ use Rattle.original.proofs.Fronts.{fronts}
 use Rattle.original.proofs.Fronts.{fronts}
 use Rattle.promises.specs.Demand1.{Demand1}
 use Rattle.promises.proofs.CourseRows.{course-rows}
+use Rattle.promises.proofs.RunLaws.{run-laws}
 
 pub demand1 : Demand1
 demand1 = record {
@@ -40,5 +41,6 @@ demand1 = record {
   hands-out = hands-out;
   within = within;
   courses = course-rows;
+  runs = run-laws;
   unique = unique;
 }

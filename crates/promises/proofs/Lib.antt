@@ -22,4 +22,5 @@ pub mod Reading
 pub mod ReadStopped
 pub mod ReadHost
 pub mod ReadCourses
+pub mod RunLaws
 pub mod ReadsTrue

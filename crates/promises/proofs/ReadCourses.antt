@@ -140,7 +140,7 @@ module _ (config : Config) (address n : ℕ) (old flash : List ℕ) (room : 39 �
       ap (driveOf es) (model-step e w r) ∙ model-run es (readStep (eventIn e) w) (reading-step config address n old flash room whole low high (eventIn e) w r)
 
 -- a run that is admitted drives the call over its course
-admitted-run : (w : World) (course : List ℕ) → length (w .flash) ≡ 8192 → soundOf course ≡ true → runOf course w ≡ leftOf (driveOf (eventsOf course) w)
+pub admitted-run : (w : World) (course : List ℕ) → length (w .flash) ≡ 8192 → soundOf course ≡ true → runOf course w ≡ leftOf (driveOf (eventsOf course) w)
 unfolding runOf admitOf case_refused_admitted_ if_then_else_
 admitted-run w course whole sound = rw (eq-eqb (length (w .flash)) 8192 whole, sound)
 

@@ -3,12 +3,14 @@
 -- Assumes nothing.
 use Prim.Native.Nat.{ℕ, _<_}
 use mathlib.Core.Path.{_≡_}
+use mathlib.Core.Bool.{true}
 use mathlib.Core.List.{List, [], _∷_, _++_}
 use mathlib.Core.Logic.{_⊎_, _↔_}
 use lib.ListN.{length}
 use Rattle.protocol.specs.Answer.{numberOf}
 use Rattle.engine.specs.declared.bus.Lent.{Lent}
 use Rattle.engine.specs.declared.bus.Phase.the-variants as phase
+use Rattle.courses.specs.Course.{soundOf}
 use Rattle.courses.specs.WriteRun as writes
 use Rattle.courses.specs.ReadRun as reads
 use Rattle.courses.specs.declared.course.End.{End}
@@ -51,6 +53,8 @@ pub record ReadRows (course buffer work flash : List ℕ) (reader : Reader) (lef
   pub kept : (Gives 8 (left .run .end) ⊎ Gives 11 (left .run .end)) → left ≡ reads.left (record { reader = reader; end = left .run .end }) buffer work flash
 
 pub record CourseRows : Type 0 where
+  -- a sound course, of which the other statements speak, is one with no bad byte
+  pub sound : (course : List ℕ) → (soundOf course ≡ true) ↔ (BadByte course → ⊥)
   pub writing : (payload course work flash : List ℕ) (writer : Writer) → writer .call .phase ≡ phase.Waiting
       → WriteRows payload course work flash writer (writes.runOf payload course (writes.world writer work flash))
   pub reading : (course buffer work flash : List ℕ) (reader : Reader) → reader .call .phase ≡ phase.Waiting

@@ -25,6 +25,7 @@ use Rattle.answers.specs.Runs.{Stays}
 use Rattle.answers.specs.Unique.{Unique}
 use Rattle.answers.specs.Within.{Within}
 use Rattle.promises.specs.CourseRows.{CourseRows}
+use Rattle.promises.specs.RunLaws.{RunLaws}
 
 pub record Demand1 : Type 0 where
   -- the answers' numbers and details
@@ -68,5 +69,7 @@ pub record Demand1 : Type 0 where
   pub within : Within
   -- rows 8 and 11 of a run over a course, by a call that waits
   pub courses : CourseRows
+  -- what a run over a course does for any call that waits, byte by byte
+  pub runs : RunLaws
   -- each contract has one answer
   pub unique : Unique

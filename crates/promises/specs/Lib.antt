@@ -10,5 +10,6 @@ pub mod Worked3
 pub mod Courses
 pub mod Reads
 pub mod CourseRows
+pub mod RunLaws
 pub mod Reading
 pub mod WorkedReads
