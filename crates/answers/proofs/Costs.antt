@@ -103,8 +103,8 @@ module _ (call : ReadCall) where
   unfolding MissesR reading.failOf reading.retryOf reading.endOf waited
   misses-r why =
       either MissesR (call .budget) (reading.retryOf call) (reading.endOf call why)
-      (λ b less. (refl, (inl (refl, less, refl), (λ e. bare-head (call .task .plan .head)), refl)))
-      (λ none. (refl, (inr (over-waits, none, none, refl), (λ e. absurd (over-waits e)), refl)))
+      (λ b less. (refl, (inl (refl, less, refl), (λ e. bare-head (call .task .plan .head)), (λ over. absurd (over refl)), refl)))
+      (λ none. (refl, (inr (over-waits, none, none, refl), (λ e. absurd (over-waits e)), (λ over. refl), refl)))
 
   -- what a verdict that is no refusal says of outcome and reply
   abbrev Comes : Outcome → List ℕ → Verdict → Type 0

@@ -54,8 +54,8 @@ numbers = record {
   told-apart = λ a b number detail. let again : answerAt (numberOf a) (detailOf a) ≡ answerAt (numberOf b) (detailOf b) = rw (number, detail) in sym (in-row a .0) ∙ again ∙ in-row b .0;
   detailed = λ a. in-row a .2;
   last = λ a. in-row a .1;
-  code = (refl, refl);
-  committed = (refl, refl);
+  code = λ n. (refl, refl);
+  committed = λ n. (refl, refl);
   none = (refl, refl);
   wrong-reply = refl;
   nothing-outstanding = refl;

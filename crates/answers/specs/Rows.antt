@@ -45,9 +45,9 @@ pub record Numbers : Type 0 where
   pub detailed : (a : Answer) → (detailOf a ≡ 0) ⊎ OneOf (1 ∷ 6 ∷ []) (numberOf a)
   -- 11 is the last row
   pub last : (a : Answer) → numberOf a ≤ 11
-  -- a bus error with code 5, 64 bytes committed, a timeout
-  pub code : (numberOf (answer.I2c 5) ≡ 1) × (detailOf (answer.I2c 5) ≡ 5)
-  pub committed : (numberOf (answer.PartialDataFlashWrite 64) ≡ 6) × (detailOf (answer.PartialDataFlashWrite 64) ≡ 64)
+  -- a bus error with its code, the bytes committed, a timeout
+  pub code : (n : ℕ) → (numberOf (answer.I2c n) ≡ 1) × (detailOf (answer.I2c n) ≡ n)
+  pub committed : (n : ℕ) → (numberOf (answer.PartialDataFlashWrite n) ≡ 6) × (detailOf (answer.PartialDataFlashWrite n) ≡ n)
   pub none : (numberOf answer.Timeout ≡ 2) × (detailOf answer.Timeout ≡ 0)
   -- the names of the rows that no other statement names
   pub wrong-reply : numberOf answer.WrongReply ≡ 9

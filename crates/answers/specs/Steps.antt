@@ -131,6 +131,7 @@ abbrev pub MissedR : ReadCall → ReadCall → Type 0
 MissedR call next =
     FailedOnce (call .budget) (call .tally) (next .phase) (next .budget) (next .tally)
     × (next .phase ≡ phase.Waiting → (next .heading ≡ false) ↔ (call .task .plan .head ≡ head.Bare))
+    × ((next .phase ≡ phase.Waiting → ⊥) → next .heading ≡ call .heading)
     × (next .received ≡ call .received)
 
 -- an acknowledged head or a believed reply leaves the budget of the whole call as it was, with no wait, and no head is due; a reply is one block more

@@ -2,3 +2,4 @@ pub mod Pick
 pub mod Budget
 pub mod Bus
 pub mod Limit
+pub mod Laws

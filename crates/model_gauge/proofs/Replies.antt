@@ -71,6 +71,6 @@ replied = record {
   asked = λ count gauge h. (acknowledged count h, moved count gauge h);
   too-many = λ e count gauge h. unreplied e 0x44 count gauge (no-more count h);
   other-command = λ e command count gauge h. unreplied e command count gauge (no-other command count h);
-  reply = λ gauge flash from to. reply-said gauge flash;
+  reply = reply-said;
   whole = reply-long;
 }

@@ -26,7 +26,7 @@ pub record Replies : Type 0 where
   pub other-command : (e : Event) (command count : ℕ) (gauge : Gauge) → (command ≡ 0x44 → ⊥)
       → (readOutcome event.Heard command count ≡ outcome.BusError 0) × (readAfter e command count gauge ≡ gauge)
   -- the reply at any pointer is what it says and the PEC, which covers 16, 44, 17 and that
-  pub reply : (gauge : Gauge) (flash : List ℕ) → 0x4000 ≤ gauge .pointer → gauge .pointer ≤ 0x6000
+  pub reply : (gauge : Gauge) (flash : List ℕ)
       → replyOf gauge flash ≡ said (gauge .pointer) flash ++ (pecOf 0 (0x16 ∷ 0x44 ∷ 0x17 ∷ said (gauge .pointer) flash) ∷ [])
   -- and has 36 bytes
   pub whole : (gauge : Gauge) (flash : List ℕ) → length (replyOf gauge flash) ≡ 36

@@ -14,8 +14,8 @@ use Rattle.model_gauge.specs.declared.gauge.Gauge.{Gauge}
 
 pub record Taken : Type 0 where
   -- a block write of 1 to 32 bytes, wholly inside the window, is acknowledged; its bytes are stored from its address on, the byte of 4000 hex being
-  -- the flash's first, the rest of the flash is as it was, and so is the gauge
-  pub block : (pec : Bool) (low high at : ℕ) (bytes flash : List ℕ) (gauge : Gauge) → at ≡ high * 256 + low → length flash ≡ 8192
+  -- the flash's first, where the flash is long enough (8,192 bytes always are); the rest of the flash is as it was, and so is the gauge
+  pub block : (pec : Bool) (low high at : ℕ) (bytes flash : List ℕ) (gauge : Gauge) → at ≡ high * 256 + low → at - 0x4000 + length bytes ≤ length flash
       → 1 ≤ length bytes → length bytes ≤ 32 → 0x4000 ≤ at → at + length bytes ≤ 0x6000
       → (outcomeOf event.Heard (counted pec low high bytes) ≡ outcome.Acknowledged)
       × (flashAfter event.Heard (counted pec low high bytes) flash ≡ take (at - 0x4000) flash ++ bytes ++ drop (at - 0x4000 + length bytes) flash)

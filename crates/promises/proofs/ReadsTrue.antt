@@ -162,10 +162,11 @@ clean-bytes address payload flash fits =
 
 reads-back : (config config′ : Config) (address : ℕ) (payload work flash buffer work′ : List ℕ) → Accepted address payload work flash
     → length buffer ≡ length payload → 39 ≤ length work′
-    → (gauge gauge′ : Gauge) (n m : ℕ) → blocksOf (length payload) ≤ n → blocksOf (length payload) < m
+    → (gauge gauge′ : Gauge) (n m : ℕ) → length payload ≤ n * 32 → length payload + 32 ≤ m * 32
     → EndedWell (readRan config′ address buffer work′ (ran config address payload work flash gauge (replicate n 0) .flash) gauge′ (replicate m 0) .run .end)
     × (readRan config′ address buffer work′ (ran config address payload work flash gauge (replicate n 0) .flash) gauge′ (replicate m 0) .buffer ≡ payload)
-reads-back config config′ address payload work flash buffer work′ a fits room gauge gauge′ n m blocks more =
+reads-back config config′ address payload work flash buffer work′ a fits room gauge gauge′ n m blocks spare =
+    let more : blocksOf (length payload) < m = omega arith in
     let now : List ℕ = ran config address payload work flash gauge (replicate n 0) .flash in
     let clean-now : now ≡ clean address payload flash = unbroken config address payload work flash a gauge n (omega arith) .1 in
     let c : Accepted address buffer work′ now =

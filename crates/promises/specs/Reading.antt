@@ -1,14 +1,14 @@
 -- Beside demand 3, for the reader: stop a data-flash read anywhere and know every byte of its buffer; what ended well has the flash's bytes; and what was
 -- written is read back. What is supposed of the gauge is what demand 3 supposes, and that it replies to a read as the model does.
 -- Assumes nothing.
-use Prim.Native.Nat.{ℕ, _*_, _≤_, _<_}
+use Prim.Native.Nat.{ℕ, _+_, _*_, _≤_, _<_}
 use mathlib.Core.Path.{_≡_}
 use mathlib.Core.Bool.{true}
 use mathlib.Core.Logic.{_⊎_}
 use mathlib.Core.List.{List, _++_}
 use lib.ListN.{length, take, drop, replicate}
 use Rattle.protocol.specs.Answer.{numberOf}
-use Rattle.protocol.specs.Bytes.{over, blocksOf}
+use Rattle.protocol.specs.Bytes.{over}
 use Rattle.protocol.specs.declared.common.Config.{Config}
 use Rattle.protocol.specs.declared.error.Answer.{Answer}
 use Rattle.engine.specs.declared.bus.Transfer.{Transfer}
@@ -98,6 +98,6 @@ pub record ReadsTrue : Type 0 where
   -- on courses of heard transfers, long enough, a write and then a read of the same range, each by settings of its own: the read ends well and has the payload
   pub reads-back : (config config′ : Config) (address : ℕ) (payload work flash buffer work′ : List ℕ) → Accepted address payload work flash
       → length buffer ≡ length payload → 39 ≤ length work′
-      → (gauge gauge′ : Gauge) (n m : ℕ) → blocksOf (length payload) ≤ n → blocksOf (length payload) < m
+      → (gauge gauge′ : Gauge) (n m : ℕ) → length payload ≤ n * 32 → length payload + 32 ≤ m * 32
       → EndedWell (readRan config′ address buffer work′ (ran config address payload work flash gauge (replicate n 0) .flash) gauge′ (replicate m 0) .run .end)
       × (readRan config′ address buffer work′ (ran config address payload work flash gauge (replicate n 0) .flash) gauge′ (replicate m 0) .buffer ≡ payload)

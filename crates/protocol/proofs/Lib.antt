@@ -2,3 +2,4 @@ pub mod Cases
 pub mod Laws
 pub mod Signed
 pub mod Back
+pub mod Shared

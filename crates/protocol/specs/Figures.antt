@@ -6,9 +6,8 @@ use mathlib.Core.List.{List, [], _∷_, map}
 use Prim.Native.Nat.{ℕ}
 use lib.Dec.{eqb}
 use Rattle.smbus_pec.specs.Pec.{bitStep, bitSteps, byteStep, pecOf}
-use Rattle.protocol.specs.Common.{defaultConfig, noPec}
+use Rattle.protocol.specs.Common.{defaultConfig}
 use Rattle.protocol.specs.Window.{inWindow}
-use Rattle.protocol.specs.declared.common.Config.{Config}
 
 pub data Figure : Type 0 where
   -- a byte string and its PEC
@@ -17,8 +16,6 @@ pub data Figure : Type 0 where
   window : ℕ → ℕ → Bool → Figure
   -- the settings that a driver starts with: retries, a PEC on what it writes, on what it reads (common.rs, Config)
   settings : ℕ → Bool → Bool → Figure
-  -- and those that `no_pec` makes of a PEC both ways
-  bare : ℕ → Bool → Bool → Figure
 
 abbrev pub figures : List Figure
 figures =
@@ -37,7 +34,6 @@ figures =
     ∷ window 0xFFFF 0 true
     ∷ window 0xFFFF 2 false
     ∷ settings 3 false false
-    ∷ bare 7 false false
     ∷ []
 
 abbrev same : Bool → Bool → Bool
@@ -45,16 +41,12 @@ same true b = b
 same false true = false
 same false false = true
 
--- settings of so many retries, with a PEC or none
-abbrev has : Config → ℕ → Bool → Bool → Bool
-has config retries write read = eqb (config .«max_bus_retries») retries && same (config .«pec_write») write && same (config .«pec_read») read
-
 -- the definitions give the figure
 abbrev pub right : Figure → Bool
 right (pec s p) = eqb (pecOf 0 s) p
 right (window start len passes) = same (inWindow start len) passes
-right (settings retries write read) = has defaultConfig retries write read
-right (bare retries write read) = has (noPec (record { «max_bus_retries» = retries; «pec_write» = true; «pec_read» = true })) retries write read
+right (settings retries write read) =
+    eqb (defaultConfig .«max_bus_retries») retries && same (defaultConfig .«pec_write») write && same (defaultConfig .«pec_read») read
 
 abbrev pub all : List Bool → Bool
 all [] = true

@@ -7,3 +7,4 @@ pub mod Frame
 pub mod Reply
 pub mod Voltage
 pub mod Figures
+pub mod Laws

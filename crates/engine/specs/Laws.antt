@@ -1,0 +1,14 @@
+-- What a failed attempt and a count come to, number by number. (01, Frames and retries)
+-- Assumes nothing.
+use Prim.Native.Nat.{ℕ, suc, _+_, _<_}
+use mathlib.Core.Path.{_≡_}
+use Rattle.engine.specs.Budget.{failed, moreOf}
+use Rattle.engine.specs.declared.budget.Failed.the-variants.{Retry, Spent}
+
+pub record Laws : Type 0 where
+  -- a failure takes one retry; with none left the budget is spent
+  pub retries : (n : ℕ) → failed (record { left = suc n }) ≡ Retry (record { left = n })
+  pub spent : failed (record { left = 0 }) ≡ Spent
+  -- one more, up to the largest number, at which a count stays
+  pub more : (n : ℕ) → n < 4294967295 → moreOf n ≡ n + 1
+  pub most : moreOf 4294967295 ≡ 4294967295
