@@ -164,13 +164,10 @@ fn count_of(answer: Answer) -> usize {
     }
 }
 
-// The bytes of the blocks that were acknowledged before a run stopped.
-fn acknowledged(run: WriteRun) -> usize {
-    let end = run.end;
-    let writer = run.writer;
-    let call = writer.call;
+// The bytes of the blocks that were acknowledged before a run stopped: a cut call has counted them.
+fn acknowledged(end: End, sent: u32) -> usize {
     match end {
-        End::Cut => bytes::least(call.sent as usize, 3) * 32,
+        End::Cut => bytes::least(sent as usize, 3) * 32,
         End::Answered(answer) => count_of(answer),
     }
 }
@@ -194,10 +191,9 @@ fn none_after(course: &[u8]) -> bool {
 }
 
 // What stands at a stop where the block that is due goes.
-fn at_stop(run: WriteRun, course: &[u8], flash: &[u8], old: &[u8], counts: Counts) -> Counts {
-    let end = run.end;
+fn at_stop(end: End, sent: u32, course: &[u8], flash: &[u8], old: &[u8], counts: Counts) -> Counts {
     if has_stopped(end) {
-        let n = bytes::least(acknowledged(run), 70);
+        let n = bytes::least(acknowledged(end, sent), 70);
         let new = holds(flash, old, n + 32);
         return counts.stopped(holds(flash, old, n), new, none_after(course));
     }
@@ -234,10 +230,12 @@ fn run(config: Config, course: &[u8], old: &[u8], clean: &[u8], counts: Counts) 
         gauge: Gauge::new(),
     };
     let run = writer.run(&payload, &mut work, &mut flash, course);
-    let counted = at_stop(run, course, &flash, old, counts);
+    let end = run.end;
+    let left = run.writer;
+    let stopped = left.call;
+    let counted = at_stop(end, stopped.sent, course, &flash, old, counts);
     go_on(config, run, &mut flash, &mut work);
     let equal = check::same(&flash, clean);
-    let end = run.end;
     counted.ended(end).compared(equal)
 }
 
