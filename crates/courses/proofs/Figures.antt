@@ -1,12 +1,12 @@
 -- A run that is refused changes nothing, and a call that has ended or is lent other lengths shows no transfer.
 -- Assumes nothing.
-use Prim.Native.Nat.{ℕ, _≤_, _<_}
-use mathlib.Core.Path.{_≡_, refl}
-use mathlib.Core.Bool.{Bool, true, false, _&&_}
+use Prim.Native.Nat.{ℕ, _<_}
+use mathlib.Core.Path.{_≡_, refl, sym, ap, _∙_}
+use mathlib.Core.Bool.{Bool, true, false, _&&_, false≢true}
 use mathlib.Core.List.{List, [], _∷_, _++_}
 use lib.ListN.{length}
 use lib.Dec.{ltb, eqb}
-use borrow.Author.Tests.{eq-eqb, ne-eqb, lt-ltb, le-ltb, eqb-true}
+use borrow.Author.Tests.{eq-eqb, ne-eqb, lt-ltb, ltb-true, eqb-true}
 use Rattle.protocol.specs.Pick.{if_then_else_}
 use Rattle.protocol.specs.declared.error.Answer.{Answer}
 use Rattle.protocol.specs.declared.error.Answer.the-variants as answer
@@ -19,7 +19,7 @@ use Rattle.reading.specs.Reading as reading
 use Rattle.model_gauge.specs.declared.gauge.Event.{Event}
 use Rattle.courses.specs.Pick.{case_write_read_none_, case_refused_admitted_}
 use Rattle.courses.specs.Course.{eventOf, eventsOf, soundOf, admitOf, endOf}
-use Rattle.courses.specs.Figures.{Figures, wrote-nothing, read-nothing}
+use Rattle.courses.specs.Figures.{BadByte, Figures, wrote-nothing, read-nothing}
 use Rattle.courses.specs.WriteRun as writes
 use Rattle.courses.specs.ReadRun as reads
 use Rattle.courses.specs.declared.course.Admitted.the-variants as admitted
@@ -34,22 +34,37 @@ unfolding if_then_else_
 either true s e = refl
 either false s e = e
 
-pub not-sound : (front back : List ℕ) (byte : ℕ) → 2 < byte → soundOf (front ++ byte ∷ back) ≡ false
+not-sound : (front back : List ℕ) (byte : ℕ) → 2 < byte → soundOf (front ++ byte ∷ back) ≡ false
 unfolding soundOf if_then_else_
 not-sound [] back byte h = rw (lt-ltb 2 byte h)
 not-sound (x ∷ front) back byte h = either (ltb 2 x) (soundOf (front ++ byte ∷ back)) (not-sound front back byte h)
 
-sound-more : (byte : ℕ) (course : List ℕ) → byte ≤ 2 → soundOf (byte ∷ course) ≡ soundOf course
+unsound : (course : List ℕ) → BadByte course → soundOf course ≡ false
+unsound course (front, byte, back, is, h) = ap soundOf is ∙ not-sound front back byte h
+
+pub bad-of : (course : List ℕ) → soundOf course ≡ false → BadByte course
 unfolding soundOf if_then_else_
-sound-more byte course h = rw (le-ltb 2 byte h)
+bad-of [] e = absurd (false≢true (sym e))
+bad-of (byte ∷ course) e = by (ltb 2 byte) refl (bad-of course)
+  where
+    by : (t : Bool) → ltb 2 byte ≡ t → (soundOf course ≡ false → BadByte course) → BadByte (byte ∷ course)
+    by true t further = ([], byte, course, refl, ltb-true 2 byte t)
+    by false t further = let b : BadByte course = further (rw t at e) in (byte ∷ b .0, b .1, b .2, ap (λ (l : List ℕ). byte ∷ l) (b .3), b .4)
+
+all-good : (course : List ℕ) → (BadByte course → ⊥) → soundOf course ≡ true
+all-good course good = by (soundOf course) refl
+  where
+    by : (t : Bool) → soundOf course ≡ t → soundOf course ≡ true
+    by true t = t
+    by false t = absurd (good (bad-of course t))
 
 admit-flash : (n : ℕ) (course : List ℕ) → (n ≡ 8192 → ⊥) → admitOf n course ≡ admitted.Refused answer.WrongBuffer
 unfolding admitOf if_then_else_
 admit-flash n course h = rw (ne-eqb n 8192 h)
 
-admit-course : (n : ℕ) (front back : List ℕ) (byte : ℕ) → n ≡ 8192 → 2 < byte → admitOf n (front ++ byte ∷ back) ≡ admitted.Refused answer.BadLine
+admit-course : (n : ℕ) (course : List ℕ) → n ≡ 8192 → BadByte course → admitOf n course ≡ admitted.Refused answer.BadLine
 unfolding admitOf if_then_else_
-admit-course n front back byte h k = rw (eq-eqb n 8192 h, not-sound front back byte k)
+admit-course n course h b = rw (eq-eqb n 8192 h, unsound course b)
 
 admit-all : (n : ℕ) (course : List ℕ) → n ≡ 8192 → soundOf course ≡ true → admitOf n course ≡ admitted.Yes
 unfolding admitOf if_then_else_
@@ -130,18 +145,15 @@ module _ (buffer work flash : List ℕ) (reader : Reader) where
   read-other course h s waits other = read-idle (λ e. rw (waits, other)) course answer.WrongBuffer h s (rw (waits, other))
 
 pub figures : Figures
-unfolding eventOf eventsOf soundOf if_then_else_
+unfolding eventOf eventsOf if_then_else_
 figures = record {
   events-none = refl;
   events = λ course. (refl, refl, refl);
-  sound-none = refl;
-  sound = λ byte course. (sound-more byte course, not-sound [] course byte);
+  sound = λ course. (λ s b. false≢true (sym (unsound course b) ∙ s), all-good course);
   write-flash = λ payload course work flash writer h. writes-refused payload work flash writer course answer.WrongBuffer (admit-flash (length flash) course h);
   read-flash = λ course buffer work flash reader h. reads-refused buffer work flash reader course answer.WrongBuffer (admit-flash (length flash) course h);
-  write-course = λ payload front back work flash byte writer h k.
-      writes-refused payload work flash writer (front ++ byte ∷ back) answer.BadLine (admit-course (length flash) front back byte h k);
-  read-course = λ front back buffer work flash byte reader h k.
-      reads-refused buffer work flash reader (front ++ byte ∷ back) answer.BadLine (admit-course (length flash) front back byte h k);
+  write-course = λ payload course work flash writer h b. writes-refused payload work flash writer course answer.BadLine (admit-course (length flash) course h b);
+  read-course = λ course buffer work flash reader h b. reads-refused buffer work flash reader course answer.BadLine (admit-course (length flash) course h b);
   write-refused = λ payload course work flash writer a h s p. write-over payload work flash writer course a h s p;
   read-refused = λ course buffer work flash reader a h s p. read-over buffer work flash reader course a h s p;
   write-lent = λ payload course work flash writer h s p q. write-other payload work flash writer course h s p (other-lengths (writer .call .task .lent) (length payload) (length work) q);

@@ -2,22 +2,16 @@
 -- Assumes nothing.
 use Prim.Native.Nat.{ℕ}
 use mathlib.Core.Path.{_≡_, refl, sym, ap, subst, _∙_}
-use mathlib.Core.Bool.{Bool, true, false, _||_, false≢true}
-use mathlib.Core.List.{List, [], _∷_, _++_}
-use mathlib.Core.Logic.{_⊎_, inl, inr}
-use native.Mathlib.Omega.{arith}
-use lib.Dec.{ltb, eqb}
+use mathlib.Core.Bool.{Bool, true, false}
+use mathlib.Core.List.{List, [], _∷_}
+use lib.Dec.{eqb}
 use lib.ListN.{length}
-use borrow.Author.Tests.{ltb-true, eq-eqb, eqb-true, eqb-false}
+use borrow.Author.Tests.{eq-eqb, eqb-true, eqb-false}
 use Rattle.protocol.specs.Pick.{if_then_else_}
-use Rattle.protocol.specs.Answer.{numberOf}
-use Rattle.protocol.specs.declared.error.Answer.{Answer}
 use Rattle.protocol.specs.declared.error.Answer.the-variants as answer
-use Rattle.engine.specs.Pick.{case_waiting_ended_}
 use Rattle.engine.specs.Bus.{fitsOf}
 use Rattle.engine.specs.declared.bus.Lent.{Lent}
 use Rattle.engine.specs.declared.bus.Outcome.{Outcome}
-use Rattle.engine.specs.declared.bus.Phase.{Phase}
 use Rattle.engine.specs.declared.bus.Phase.the-variants as phase
 use Rattle.engine.specs.declared.bus.Transfer.{Transfer}
 use Rattle.engine.specs.declared.bus.Transfer.the-variants as transfer
@@ -34,149 +28,24 @@ use Rattle.reading.specs.declared.call.ReadReported.the-variants as read
 use Rattle.model_gauge.specs.declared.gauge.Event.{Event}
 use Rattle.model_gauge.specs.declared.gauge.Gauge.{Gauge}
 use Rattle.courses.specs.Pick.{case_write_read_none_, case_refused_admitted_}
-use Rattle.courses.specs.Course.{eventsOf, soundOf, admitOf, endOf}
-use Rattle.courses.specs.Figures.{wrote-nothing, read-nothing}
+use Rattle.courses.specs.Course.{eventsOf, soundOf, admitOf}
 use Rattle.courses.specs.WriteRun as writes
 use Rattle.courses.specs.ReadRun as reads
+use Rattle.courses.specs.declared.course.End.{End}
 use Rattle.courses.specs.declared.read_run.Reader.{Reader}
 use Rattle.courses.specs.declared.write_run.Writer.{Writer}
-use Rattle.courses.proofs.Figures.{not-sound, figures}
-use Rattle.courses.specs.declared.course.End.{End}
-use Rattle.courses.specs.declared.course.End.the-variants as end
+use Rattle.courses.proofs.Figures.{bad-of, figures}
 use Rattle.writing.proofs.Shown.{write-work}
 use Rattle.reading.proofs.Shown.{read-work}
-use Rattle.answers.specs.Rows.{OneOf, Among, Same, SortW, SortR}
+use Rattle.answers.specs.Rows.{Among, SortW, SortR}
 use Rattle.answers.specs.Runs.{callW, feedW, callR, feedR}
-use Rattle.answers.proofs.Laws.{fits-same, same-fits, other-fits}
+use Rattle.answers.proofs.Laws.{fits-same, other-fits}
 use Rattle.answers.proofs.Runs.{same-task as same-task-w}
 use Rattle.answers.proofs.Kept.{same-task as same-task-r}
 use Rattle.answers.proofs.Costs.{delivers}
 use Rattle.answers.proofs.Sorts.{sort-w, sort-r}
-use Rattle.promises.specs.CourseRows.{BadByte, Gives, GivesOneOf, RunRows, WriteRows, ReadRows, CourseRows}
-
--- ---- numbers in lists
-
-module _ (k : ℕ) where
-  -- a test that finds k
-  abbrev has : List ℕ → Bool
-  has [] = false
-  has (j ∷ js) = eqb k j || has js
-
-  none-of : (ks : List ℕ) → has ks ≡ false → OneOf ks k → ⊥
-  none-of [] e h = h
-  none-of (j ∷ js) e (inl h) = false≢true (sym e ∙ rw (eq-eqb k j h))
-  none-of (j ∷ js) e (inr h) = by (eqb k j) refl (λ rest. none-of js rest h)
-    where
-      by : (t : Bool) → eqb k j ≡ t → (has js ≡ false → ⊥) → ⊥
-      by true t further = false≢true (sym e ∙ rw t)
-      by false t further = further (rw t at e)
-
-  in-front : (ks js : List ℕ) → OneOf ks k → OneOf (ks ++ js) k
-  in-front [] js h = absurd h
-  in-front (j ∷ ks) js (inl h) = inl h
-  in-front (j ∷ ks) js (inr h) = inr (in-front ks js h)
-
-  in-back : (ks js : List ℕ) → OneOf js k → OneOf (ks ++ js) k
-  in-back [] js h = h
-  in-back (j ∷ ks) js h = inr (in-back ks js h)
-
--- ---- a course is sound, or has a bad byte
-
-bad-of : (course : List ℕ) → soundOf course ≡ false → BadByte course
-unfolding soundOf if_then_else_
-bad-of [] e = absurd (false≢true (sym e))
-bad-of (byte ∷ course) e = by (ltb 2 byte) refl (bad-of course)
-  where
-    by : (t : Bool) → ltb 2 byte ≡ t → (soundOf course ≡ false → BadByte course) → BadByte (byte ∷ course)
-    by true t further = ([], byte, course, refl, ltb-true 2 byte t)
-    by false t further = let b : BadByte course = further (rw t at e) in (byte ∷ b .0, b .1, b .2, ap (λ (l : List ℕ). byte ∷ l) (b .3), b .4)
-
-none-bad : (course : List ℕ) → soundOf course ≡ true → BadByte course → ⊥
-none-bad course e (front, byte, back, is, h) = false≢true (sym (not-sound front back byte h) ∙ sym (ap soundOf is) ∙ e)
-
-all-good : (course : List ℕ) → (BadByte course → ⊥) → soundOf course ≡ true
-all-good course good = by (soundOf course) refl
-  where
-    by : (t : Bool) → soundOf course ≡ t → soundOf course ≡ true
-    by true t = t
-    by false t = absurd (good (bad-of course t))
-
--- ---- the two rows, from why a run was refused or that it was not
-
-module _ (f : ℕ) (course : List ℕ) (lent : Lent) (n w : ℕ) where
-  data Refused : Answer → Type 0 where
-    by-flash : (f ≡ 8192 → ⊥) → Refused answer.WrongBuffer
-    by-course : f ≡ 8192 → BadByte course → Refused answer.BadLine
-    by-lengths : f ≡ 8192 → (BadByte course → ⊥) → (Same lent n w → ⊥) → Refused answer.WrongBuffer
-
-  record Driven (own : List ℕ) (e : End) : Type 0 where
-    whole : f ≡ 8192
-    good : BadByte course → ⊥
-    same : Same lent n w
-    own-answer : GivesOneOf own e
-
-  refused-rows : (own : List ℕ) (a : Answer) → Refused a → RunRows f course lent n w own (end.Answered a)
-  refused-rows own a (by-flash other) = record {
-    wrong-buffer = (λ g. inl other, λ r. refl);
-    bad-course = (λ g. absurd (omega arith), λ r. absurd (other (r .0)));
-    own-answer = in-back 8 own _ (inl refl);
-  }
-  refused-rows own a (by-course whole bad) = record {
-    wrong-buffer = (λ g. absurd (omega arith), no-buffer);
-    bad-course = (λ g. (whole, bad), λ r. refl);
-    own-answer = in-back 11 own _ (inr (inl refl));
-  }
-    where
-      no-buffer : (f ≡ 8192 → ⊥) ⊎ ((BadByte course → ⊥) × (Same lent n w → ⊥)) → Gives 8 (end.Answered answer.BadLine)
-      no-buffer (inl other) = absurd (other whole)
-      no-buffer (inr r) = absurd (r .0 bad)
-  refused-rows own a (by-lengths whole good other) = record {
-    wrong-buffer = (λ g. inr (good, other), λ r. refl);
-    bad-course = (λ g. absurd (omega arith), λ r. absurd (good (r .1)));
-    own-answer = in-back 8 own _ (inl refl);
-  }
-
-  module _ (own : List ℕ) (not-8 : has 8 own ≡ false) (not-11 : has 11 own ≡ false) where
-    -- a call's own answer is neither
-    neither : (k : ℕ) → has k own ≡ false → (e : End) → GivesOneOf own e → Gives k e → ⊥
-    neither k lacks (end.Answered a) h g = none-of k own lacks (subst (OneOf own) g h)
-    neither k lacks end.Cut h g = g
-
-    own-back : (e : End) → GivesOneOf own e → GivesOneOf (own ++ (8 ∷ 11 ∷ [])) e
-    own-back (end.Answered a) h = in-front (numberOf a) own _ h
-    own-back end.Cut h = tt
-
-    driven-rows : (e : End) → Driven own e → RunRows f course lent n w own e
-    driven-rows e d = record {
-      wrong-buffer = (λ g. absurd (neither 8 not-8 e (d .own-answer) g), no-buffer);
-      bad-course = (λ g. absurd (neither 11 not-11 e (d .own-answer) g), λ r. absurd (d .good (r .1)));
-      own-answer = own-back e (d .own-answer);
-    }
-      where
-        no-buffer : (f ≡ 8192 → ⊥) ⊎ ((BadByte course → ⊥) × (Same lent n w → ⊥)) → Gives 8 e
-        no-buffer (inl other) = absurd (other (d .whole))
-        no-buffer (inr r) = absurd (r .1 (d .same))
-
-    -- what a run leaves, where a run that is refused leaves all as it was
-    module _ {L : Type 0} (endIn : L → End) (nothing : End → L) (told : (e : End) → endIn (nothing e) ≡ e) (result : L) where
-      data Came : Type 0 where
-        refuses : (a : Answer) → Refused a → result ≡ nothing (end.Answered a) → Came
-        drives : Driven own (endIn result) → Came
-
-      rows-of : Came → RunRows f course lent n w own (endIn result)
-      rows-of (refuses a why is) = subst (RunRows f course lent n w own) (sym (ap endIn is ∙ told (end.Answered a))) (refused-rows own a why)
-      rows-of (drives d) = driven-rows (endIn result) d
-
-      kept-of : Came → Gives 8 (endIn result) ⊎ Gives 11 (endIn result) → result ≡ nothing (endIn result)
-      kept-of (refuses a why is) g = is ∙ ap nothing (sym (ap endIn is ∙ told (end.Answered a)))
-      kept-of (drives d) (inl g) = absurd (neither 8 not-8 (endIn result) (d .own-answer) g)
-      kept-of (drives d) (inr g) = absurd (neither 11 not-11 (endIn result) (d .own-answer) g)
-
--- a call that is driven with the lengths of its start is cut or gives its own answer
-end-own : (own : List ℕ) (p : Phase) (lent : Lent) (n w : ℕ) → Among own p → Same lent n w → GivesOneOf own (endOf p lent n w)
-unfolding endOf case_waiting_ended_ if_then_else_
-end-own own phase.Waiting lent n w among same = rw (same-fits lent n w same) tt
-end-own own (phase.Ended a) lent n w among same = among
+use Rattle.promises.specs.CourseRows.{WriteRows, ReadRows, CourseRows}
+use Rattle.promises.proofs.RunRows.{by-flash, by-course, by-lengths, Came, refuses, drives, rows-of, kept-of, end-own}
 
 -- ---- a writing run
 
@@ -235,22 +104,6 @@ module _ (payload : List ℕ) where
     write-drive (e ∷ es) now k = write-drive es (writes.stepOf payload e now) (write-step e now k)
 
   module _ (course work flash : List ℕ) (writer : Writer) (waits : writer .call .phase ≡ phase.Waiting) where
-    -- with other lengths a call that waits shows no transfer
-    module _ (other : fitsOf (writer .call .task .lent) (length payload) (length work) ≡ false) where
-      write-refuses : (e : Event) → writes.stepOf payload e (writes.world writer work flash) ≡ writes.world writer work flash
-      unfolding writes.stepOf writing.nextOf writing.workAfter case_waiting_ended_ case_write_read_none_ if_then_else_
-      write-refuses e = rw (waits, other)
-
-      writes-refuse : (es : List Event) → writes.driveOf payload es (writes.world writer work flash) ≡ writes.world writer work flash
-      unfolding writes.driveOf
-      writes-refuse [] = refl
-      writes-refuse (e ∷ es) = rw (write-refuses e) (writes-refuse es)
-
-      write-lengths : length flash ≡ 8192 → soundOf course ≡ true
-          → writes.runOf payload course (writes.world writer work flash) ≡ wrote-nothing answer.WrongBuffer writer work flash
-      unfolding writes.runOf writes.leftOf writes.endedOf admitOf endOf case_refused_admitted_ case_waiting_ended_ if_then_else_
-      write-lengths whole sound = rw (eq-eqb (length flash) 8192 whole, sound, writes-refuse (eventsOf course), waits, other)
-
     write-admitted : length flash ≡ 8192 → soundOf course ≡ true
         → writes.runOf payload course (writes.world writer work flash) ≡ writes.leftOf (length payload) (writes.driveOf payload (eventsOf course) (writes.world writer work flash))
     unfolding writes.runOf admitOf case_refused_admitted_ if_then_else_
@@ -269,18 +122,17 @@ module _ (payload : List ℕ) where
         by true t false q u r =
             let whole = eqb-true (length flash) 8192 t in
             let b = bad-of course q in
-            refuses answer.BadLine (by-course whole b)
-            (ap (λ (c : List ℕ). writes.runOf payload c (writes.world writer work flash)) (b .3) ∙ figures .write-course payload (b .0) (b .2) work flash (b .1) writer whole (b .4))
+            refuses answer.BadLine (by-course whole b) (figures .write-course payload course work flash writer whole b)
         by true t true q false r =
             let whole = eqb-true (length flash) 8192 t in
-            refuses answer.WrongBuffer (by-lengths whole (none-bad course q) (other-fits _ _ _ r)) (write-lengths r whole q)
+            refuses answer.WrongBuffer (by-lengths whole (figures .sound course .0 q) (other-fits _ _ _ r)) (figures .write-lent payload course work flash writer whole q waits (other-fits _ _ _ r))
         by true t true q true r =
             let whole = eqb-true (length flash) 8192 t in
             let same = fits-same (writer .call .task .lent) (length payload) (length work) r in
             let k = write-drive (writer .call .task .lent) (length work) (eventsOf course) (writes.world writer work flash) (record { among = rw waits tt; started = refl; long = refl }) in
             drives (record {
               whole = whole;
-              good = none-bad course q;
+              good = figures .sound course .0 q;
               same = same;
               own-answer = rw (write-admitted whole q) (end-own wrote-own _ _ (length payload) _ (k .among) (rw (k .started, k .long) same));
             })
@@ -353,22 +205,6 @@ module _ (lent : Lent) (n w : ℕ) where
   read-drive (e ∷ es) now k = read-drive es (reads.stepOf e now) (read-step e now k)
 
 module _ (course buffer work flash : List ℕ) (reader : Reader) (waits : reader .call .phase ≡ phase.Waiting) where
-  -- with other lengths a call that waits shows no transfer
-  module _ (other : fitsOf (reader .call .task .lent) (length buffer) (length work) ≡ false) where
-    read-refuses : (e : Event) → reads.stepOf e (reads.world reader buffer work flash) ≡ reads.world reader buffer work flash
-    unfolding reads.stepOf reading.nextOf reading.workAfter case_waiting_ended_ case_write_read_none_ if_then_else_
-    read-refuses e = rw (waits, other)
-
-    reads-refuse : (es : List Event) → reads.driveOf es (reads.world reader buffer work flash) ≡ reads.world reader buffer work flash
-    unfolding reads.driveOf
-    reads-refuse [] = refl
-    reads-refuse (e ∷ es) = rw (read-refuses e) (reads-refuse es)
-
-    read-lengths : length flash ≡ 8192 → soundOf course ≡ true
-        → reads.runOf course (reads.world reader buffer work flash) ≡ read-nothing answer.WrongBuffer reader buffer work flash
-    unfolding reads.runOf reads.leftOf reads.endedOf admitOf endOf case_refused_admitted_ case_waiting_ended_ if_then_else_
-    read-lengths whole sound = rw (eq-eqb (length flash) 8192 whole, sound, reads-refuse (eventsOf course), waits, other)
-
   read-admitted : length flash ≡ 8192 → soundOf course ≡ true
       → reads.runOf course (reads.world reader buffer work flash) ≡ reads.leftOf (reads.driveOf (eventsOf course) (reads.world reader buffer work flash))
   unfolding reads.runOf admitOf case_refused_admitted_ if_then_else_
@@ -387,18 +223,17 @@ module _ (course buffer work flash : List ℕ) (reader : Reader) (waits : reader
       by true t false q u r =
           let whole = eqb-true (length flash) 8192 t in
           let b = bad-of course q in
-          refuses answer.BadLine (by-course whole b)
-          (ap (λ (c : List ℕ). reads.runOf c (reads.world reader buffer work flash)) (b .3) ∙ figures .read-course (b .0) (b .2) buffer work flash (b .1) reader whole (b .4))
+          refuses answer.BadLine (by-course whole b) (figures .read-course course buffer work flash reader whole b)
       by true t true q false r =
           let whole = eqb-true (length flash) 8192 t in
-          refuses answer.WrongBuffer (by-lengths whole (none-bad course q) (other-fits _ _ _ r)) (read-lengths r whole q)
+          refuses answer.WrongBuffer (by-lengths whole (figures .sound course .0 q) (other-fits _ _ _ r)) (figures .read-lent course buffer work flash reader whole q waits (other-fits _ _ _ r))
       by true t true q true r =
           let whole = eqb-true (length flash) 8192 t in
           let same = fits-same (reader .call .task .lent) (length buffer) (length work) r in
           let k = read-drive (reader .call .task .lent) (length buffer) (length work) (eventsOf course) (reads.world reader buffer work flash) (record { among = rw waits tt; started = refl; size = refl; long = refl }) in
           drives (record {
             whole = whole;
-            good = none-bad course q;
+            good = figures .sound course .0 q;
             same = same;
             own-answer = rw (read-admitted whole q) (end-own read-own _ _ _ _ (k .among) (rw (k .started, k .size, k .long) same));
           })
@@ -410,4 +245,4 @@ module _ (course buffer work flash : List ℕ) (reader : Reader) (waits : reader
   }
 
 pub course-rows : CourseRows
-course-rows = record { sound = λ course. (none-bad course, all-good course); writing = write-rows; reading = read-rows }
+course-rows = record { writing = write-rows; reading = read-rows }

@@ -113,9 +113,9 @@ module _ (config : Config) (address : ℕ) (payload : List ℕ) (n : ℕ) (gauge
     model-waiting e i b t work flash long h =
         let m : length (blockOf 32 i payload) ≡ min 32 (length payload - i * 32) = length-take 32 (drop (i * 32) payload) ∙ ap (min 32) (length-drop (i * 32) payload) in
         let taken : takes (frameOf config address payload n i) ≡ true =
-        takes-block (config .«pec_write») (address + i * 32) (blockOf 32 i payload) (omega arith) (omega arith) (omega arith) (omega arith) (omega arith) in
+        takes-block (config .«pec_write») (address + i * 32) (blockOf 32 i payload) (omega arith) (omega arith) (omega arith) (omega arith) in
         let left : pointed (frameOf config address payload n i) gauge ≡ gauge =
-        block-points (config .«pec_write») (address + i * 32) (blockOf 32 i payload) (omega arith) (omega arith) (omega arith) (omega arith) (omega arith) gauge in
+        block-points (config .«pec_write») (address + i * 32) (blockOf 32 i payload) (omega arith) (omega arith) (omega arith) (omega arith) gauge in
         sym (at-write _ _ _ _ _ _ _ refl (shows-block config address payload n i b t work long room)
         (rw (lays config address payload n i b t work long room, hands-out config address payload n i b t work long room, laid-long config address payload n i b t work long room, same-outcome e (frameOf config address payload n i) taken, same-gauge e (frameOf config address payload n i) gauge left, same-flash, is-taken config address payload n i b t work long room (written.outcomeOf (eventIn e)) 0 (nothing-lent (written.outcomeOf (eventIn e))))
         (ap (beside gauge) (made-sent config address payload n i b t work long room (eventIn e) [] flash))))

@@ -15,6 +15,7 @@ pub mod Host
 pub mod OverOriginal
 pub mod Demand3
 pub mod Courses
+pub mod RunRows
 pub mod CourseRows
 pub mod Replies
 pub mod ReadSteps

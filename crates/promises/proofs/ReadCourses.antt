@@ -40,7 +40,8 @@ use Rattle.promises.specs.Reading.{inModel, readRan, readRanIn, readStop
 use Rattle.promises.proofs.Window.{within}
 use Rattle.promises.proofs.Courses.{eventIn, eventsIn, events-at, events-both, sound-both}
 use Rattle.promises.proofs.CourseRows.{read-taken}
-use Rattle.promises.proofs.ReadSteps.{reads-head, ask-small, readWorld, headOf, shows-head, lays-head, head-long, made-head, shows-read, lays-none, countAt, broughtAt, made-read, heard-same, made-over}
+use Rattle.promises.proofs.Frames.{takes-address}
+use Rattle.promises.proofs.ReadSteps.{ask-small, readWorld, headOf, shows-head, lays-head, head-long, made-head, shows-read, lays-none, countAt, broughtAt, made-read, heard-same, made-over}
 use Rattle.promises.proofs.Reading.{Kept, Reading, buffer-long, reading-step}
 use Rattle.promises.proofs.ReadStopped.{start, read-empty, reading, stopped}
 
@@ -67,7 +68,7 @@ module _ (config : Config) (address size n : ℕ) where
         ≡ inModel (heard (eventIn e) [] [] (over head work) (after (eventIn e) g (pointed head g)) (flashAfter (eventIn e) head flash) i (here true))
     unfolding sentOf reportedOf sentBuffer gauge.flashAfter gaugeAfter actedOf gauge.outcomeOf heardOf heard if_then_else_
     head-same low high model.Heard =
-        rw (reads-head (config .«pec_read») (address + i * 32) low high, head-long config address size n i b t g buffer work flash fits long room, fits, read-taken)
+        rw (takes-address (config .«pec_read») (address + i * 32) low high, head-long config address size n i b t g buffer work flash fits long room, fits, read-taken)
     head-same low high model.LostBefore = rw (head-long config address size n i b t g buffer work flash fits long room, fits, read-taken)
     head-same low high model.LostAfter = rw (head-long config address size n i b t g buffer work flash fits long room, fits, read-taken)
 

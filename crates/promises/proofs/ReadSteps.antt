@@ -39,8 +39,6 @@ use Rattle.promises.specs.Flash.{blockOf}
 use Rattle.promises.specs.Events.{Cause, busError, timedOut, Event, acknowledged, failed, unheard, causeOf, outcomeOf as heardBy, lentOf, after, flashAfter, ackedAfter}
 use Rattle.promises.specs.Host.{makes}
 use Rattle.promises.specs.Reads.{ReadWorld, heard, headSent, asked, lending, readMade}
-use Rattle.promises.proofs.Window.{inside}
-use Rattle.promises.proofs.Frames.{reads-address}
 use Rattle.promises.proofs.Machine.{whyOf}
 use Rattle.promises.proofs.Replies.{count-of}
 
@@ -53,20 +51,6 @@ drop-take (suc a) (suc b) (x ∷ l) = rw suc-sub-suc (drop-take a b l)
 -- block i of what is wanted, straight from the flash
 pub wanted-block : (at n i : ℕ) (flash : List ℕ) → blockOf 32 i (take n (drop at flash)) ≡ take (min 32 (n - i * 32)) (drop (at + i * 32) flash)
 wanted-block at n i flash = rw (drop-take, take-min, drop-drop)
-
--- the address of a block alone: the gauge takes it, points there, and stores nothing
-module _ (pec : Bool) (a : ℕ) (low : 0x4000 ≤ a) (high : a < 0x6000) where
-  pub reads-head : takes (sealed pec (macBytes (pairOf a) [])) ≡ true
-  unfolding takes takesForm
-  reads-head = rw (reads-address pec a [] (omega arith) (omega arith) refl) (inside a 1 low (omega arith))
-
-  pub head-points : (g : Gauge) → pointed (sealed pec (macBytes (pairOf a) [])) g ≡ record { pointer = a }
-  unfolding pointed pointedForm if_then_else_
-  head-points g = rw (reads-address pec a [] (omega arith) (omega arith) refl, inside a 1 low (omega arith))
-
-  pub head-stores : (flash : List ℕ) → stored (sealed pec (macBytes (pairOf a) [])) flash ≡ flash
-  unfolding stored storedForm
-  head-stores flash = rw (reads-address pec a [] (omega arith) (omega arith) refl)
 
 head-short : (pec : Bool) (a : ℕ) → length (sealed pec (macBytes (pairOf a) [])) ≤ 5
 unfolding sealed macBytes pairOf if_then_else_

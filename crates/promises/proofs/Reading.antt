@@ -33,7 +33,8 @@ use Rattle.promises.specs.Reads.{ReadWorld, heard, readStep, readRun}
 use Rattle.promises.specs.Reading.{flashBytes, ReadAnswered, all-got, gave-up}
 use Rattle.promises.proofs.Machine.{whyOf, why-number}
 use Rattle.promises.proofs.Replies.{cutReply, reply-good, reply-data}
-use Rattle.promises.proofs.ReadSteps.{wanted-block, head-points, head-stores, ask-small, readAt, readWorld, headOf, head-long, made-head, countAt, broughtAt, made-read, heard-failed, head-heard, head-heard-buffer, received, received-buffer, made-over, block-in}
+use Rattle.promises.proofs.Frames.{address-points, address-stores}
+use Rattle.promises.proofs.ReadSteps.{wanted-block, ask-small, readAt, readWorld, headOf, head-long, made-head, countAt, broughtAt, made-read, heard-failed, head-heard, head-heard-buffer, received, received-buffer, made-over, block-in}
 
 -- as many bytes of the flash as are wanted
 pub flash-long : (address size : ℕ) (flash : List ℕ) → length flash ≡ 8192 → 0x4000 ≤ address → address + size ≤ 0x6000 → length (flashBytes address size flash) ≡ size
@@ -126,7 +127,7 @@ module _ (config : Config) (address n : ℕ) (old flash : List ℕ) (room : 39 �
     step-head-heard =
         let a : address + i * 32 < 0x6000 = omega arith in
         made-head config address size n i b t g buffer work flash fits long room acknowledged []
-        ∙ rw (head-long config address size n i b t g buffer work flash fits long room, head-points (config .«pec_read») (address + i * 32) (omega arith) a g, head-stores (config .«pec_read») (address + i * 32) (omega arith) a flash, head-heard-buffer config address size n i b t g buffer work flash fits long room, fits, head-heard config address size n i b t g buffer work flash fits long room)
+        ∙ rw (head-long config address size n i b t g buffer work flash fits long room, address-points (config .«pec_read») (address + i * 32) (omega arith) a g, address-stores (config .«pec_read») (address + i * 32) (omega arith) a flash, head-heard-buffer config address size n i b t g buffer work flash fits long room, fits, head-heard config address size n i b t g buffer work flash fits long room)
 
     -- the head is lost, before the gauge acts or after
     head-failed : (e : Event) (c : Cause) → heardBy e ≡ causeOf c → (g′ : Gauge)
@@ -155,7 +156,7 @@ module _ (config : Config) (address n : ℕ) (old flash : List ℕ) (room : 39 �
           kept = kept-after false i (record { pointer = address + i * 32 }) (λ m. refl);
         })
     head-event (failed c) = head-failed (failed c) c refl _ refl refl
-    head-event (unheard c) = head-failed (unheard c) c refl _ refl (head-stores (config .«pec_read») (address + i * 32) (omega arith) (omega arith) flash)
+    head-event (unheard c) = head-failed (unheard c) c refl _ refl (address-stores (config .«pec_read») (address + i * 32) (omega arith) (omega arith) flash)
 
     -- ---- a read is due
 

@@ -93,7 +93,7 @@ module _ (config : Config) (address : ℕ) (payload old : List ℕ) (n : ℕ) (r
       let size : length flash ≡ 8192 = overlaid-long 32 (placeOf address) payload old (omega arith) i flash v ∙ whole in
       let m : length (blockOf 32 i payload) ≡ min 32 (length payload - i * 32) = length-take 32 (drop (i * 32) payload) ∙ ap (min 32) (length-drop (i * 32) payload) in
       let at : address + i * 32 - 0x4000 ≡ placeOf address + i * 32 = omega arith in
-      stores-block (config .«pec_write») (address + i * 32) (blockOf 32 i payload) (omega arith) (omega arith) (omega arith) (omega arith) (omega arith) flash size
+      stores-block (config .«pec_write») (address + i * 32) (blockOf 32 i payload) (omega arith) (omega arith) (omega arith) (omega arith) flash size
       ∙ rw at (landed 32 (placeOf address) payload old (omega arith) i flash h v)
 
   -- a failed attempt: the same block again, or the call gives up

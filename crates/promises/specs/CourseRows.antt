@@ -1,16 +1,15 @@
 -- Rows 8 and 11 of a run over a course: given exactly when their rows say so, and with nothing changed. (01, The model gauge)
 -- A call that has ended gives its own answer: that is in the figures of `courses`.
 -- Assumes nothing.
-use Prim.Native.Nat.{ℕ, _<_}
+use Prim.Native.Nat.{ℕ}
 use mathlib.Core.Path.{_≡_}
-use mathlib.Core.Bool.{true}
 use mathlib.Core.List.{List, [], _∷_, _++_}
 use mathlib.Core.Logic.{_⊎_, _↔_}
 use lib.ListN.{length}
 use Rattle.protocol.specs.Answer.{numberOf}
 use Rattle.engine.specs.declared.bus.Lent.{Lent}
 use Rattle.engine.specs.declared.bus.Phase.the-variants as phase
-use Rattle.courses.specs.Course.{soundOf}
+use Rattle.courses.specs.Figures.{BadByte}
 use Rattle.courses.specs.WriteRun as writes
 use Rattle.courses.specs.ReadRun as reads
 use Rattle.courses.specs.declared.course.End.{End}
@@ -18,10 +17,6 @@ use Rattle.courses.specs.declared.course.End.the-variants as end
 use Rattle.courses.specs.declared.read_run.Reader.{Reader}
 use Rattle.courses.specs.declared.write_run.Writer.{Writer}
 use Rattle.answers.specs.Rows.{OneOf, Same}
-
--- a byte of the course is not 0, 1 or 2
-abbrev pub BadByte : List ℕ → Type 0
-BadByte course = (front : List ℕ) × (byte : ℕ) × (back : List ℕ) × (course ≡ front ++ byte ∷ back) × (2 < byte)
 
 -- a run gives the answer of number k; one that is cut gives none
 abbrev pub Gives : ℕ → End → Type 0
@@ -53,8 +48,6 @@ pub record ReadRows (course buffer work flash : List ℕ) (reader : Reader) (lef
   pub kept : (Gives 8 (left .run .end) ⊎ Gives 11 (left .run .end)) → left ≡ reads.left (record { reader = reader; end = left .run .end }) buffer work flash
 
 pub record CourseRows : Type 0 where
-  -- a sound course, of which the other statements speak, is one with no bad byte
-  pub sound : (course : List ℕ) → (soundOf course ≡ true) ↔ (BadByte course → ⊥)
   pub writing : (payload course work flash : List ℕ) (writer : Writer) → writer .call .phase ≡ phase.Waiting
       → WriteRows payload course work flash writer (writes.runOf payload course (writes.world writer work flash))
   pub reading : (course buffer work flash : List ℕ) (reader : Reader) → reader .call .phase ≡ phase.Waiting
