@@ -19,12 +19,29 @@ use Rattle.engine.specs.declared.bus.Outcome.the-variants as outcome
 use Rattle.engine.specs.declared.bus.Phase.{Phase}
 use Rattle.engine.specs.declared.bus.Phase.the-variants as phase
 use Rattle.writing.specs.Frames as frames
+use Rattle.writing.specs.declared.frames.Frames.{Frames}
+use Rattle.writing.specs.declared.frames.Frames.the-variants as sent
 use Rattle.writing.specs.Writing.{advanceOf, gaveUp, retryOf, endOf, failOf, settleOf, repliedOf, reportOf}
 use Rattle.writing.specs.declared.call.WriteCall.{WriteCall}
 use Rattle.writing.specs.declared.call.WriteReported.the-variants as wrote
 use Rattle.answers.specs.Rows.{Says, Failure, saidW, OpenW, Partial, Writes}
 use Rattle.answers.specs.Rows.Writes.{done, bus-error, timed-out, partly, wrong-buffer, wrong-reply, nothing-outstanding}
 use Rattle.answers.proofs.Laws.{InTable, row-of, says-of, over-waits, fits-same, same-fits, other-fits, fits-other}
+
+-- only the frames of data flash write data flash
+flash-from : (f : Frames) → frames.isFlash f ≡ true → (start : ℕ) × (f ≡ sent.DataFlash start)
+unfolding frames.isFlash
+flash-from sent.Plain e = absurd (false≢true e)
+flash-from (sent.Register address) e = absurd (false≢true e)
+flash-from sent.MfgInfo e = absurd (false≢true e)
+flash-from (sent.Mac command) e = absurd (false≢true e)
+flash-from (sent.AccessKey lower upper) e = absurd (false≢true e)
+flash-from (sent.MfgInfoC lower upper) e = absurd (false≢true e)
+flash-from (sent.DataFlash start) e = (start, refl)
+
+from-flash : (f : Frames) (start : ℕ) → f ≡ sent.DataFlash start → frames.isFlash f ≡ true
+unfolding frames.isFlash
+from-flash f start e = ap frames.isFlash e
 
 module _ (call : WriteCall) (o : Outcome) (r n w : ℕ) where
   -- what a phase says of the report
@@ -45,7 +62,7 @@ module _ (call : WriteCall) (o : Outcome) (r n w : ℕ) where
           → Row (gaveUp (call .task .plan .frames) (call .sent) why)
       by false f z q =
           let g : gaveUp (call .task .plan .frames) (call .sent) why ≡ why = rw f in
-          subst Row (sym g) (row (λ p. false≢true (sym f ∙ p .0)))
+          subst Row (sym g) (row (λ p. false≢true (sym f ∙ from-flash _ (p .0 .0) (p .0 .1))))
       by true f true q =
           let none = eqb-true (call .sent) 0 q in
           let g : gaveUp (call .task .plan .frames) (call .sent) why ≡ why = rw (f, q) in
@@ -53,7 +70,7 @@ module _ (call : WriteCall) (o : Outcome) (r n w : ℕ) where
       by true f false q =
           let some = eqb-false (call .sent) 0 q in
           let g : gaveUp (call .task .plan .frames) (call .sent) why ≡ answer.PartialDataFlashWrite (call .sent * 32) = rw (f, q) in
-          subst Row (sym g) (partly ready bad last (f, omega arith))
+          subst Row (sym g) (partly ready bad last (flash-from _ f, omega arith))
 
   fail-holds : (why : Answer) → OpenW call n w → Failure o
       → (call .budget .left ≡ 0 → (Partial call → ⊥) → Row why) → Holds (failOf call why .phase)
@@ -131,11 +148,11 @@ module _ (call : WriteCall) (o : Outcome) (r n w : ℕ) where
       by : (f : Bool) → frames.isFlash (call .task .plan .frames) ≡ f → (z : Bool) → eqb (call .sent) 0 ≡ z → gaveUp (call .task .plan .frames) (call .sent) why ≡ why
       by false f z q = rw f
       by true f true q = rw (f, q)
-      by true f false q = let some = eqb-false (call .sent) 0 q in absurd (whole (f, omega arith))
+      by true f false q = let some = eqb-false (call .sent) 0 q in absurd (whole (flash-from _ f, omega arith))
 
   partial-why : (why : Answer) → Partial call → gaveUp (call .task .plan .frames) (call .sent) why ≡ answer.PartialDataFlashWrite (call .sent * 32)
   unfolding gaveUp if_then_else_
-  partial-why why (f, some) = let p : call .sent ≡ 0 → ⊥ = λ e. omega arith in rw (f, ne-eqb (call .sent) 0 p)
+  partial-why why (f, some) = let p : call .sent ≡ 0 → ⊥ = λ e. omega arith in rw (from-flash _ (f .0) (f .1), ne-eqb (call .sent) 0 p)
 
   failure : OpenW call n w → (x : Outcome) → o ≡ x → Failure x → (a : Answer) → ((why : Answer) → failOf call why .phase ≡ phase.Ended a) → saidW (reportOf call o r n w) ≡ phase.Ended a
   unfolding repliedOf settleOf case_acknowledged_error_timeout_ if_then_else_

@@ -21,6 +21,7 @@ use Rattle.engine.specs.declared.bus.Phase.the-variants as phase
 use Rattle.engine.specs.declared.limit.Limit.{Limit}
 use Rattle.engine.specs.declared.limit.Limit.the-variants as limit
 use Rattle.writing.specs.Frames as frames
+use Rattle.writing.specs.declared.frames.Frames.the-variants as sent
 use Rattle.writing.specs.declared.call.WriteCall.{WriteCall}
 use Rattle.writing.specs.declared.call.WriteReported.{WriteReported}
 use Rattle.writing.specs.declared.call.WriteReported.the-variants as wrote
@@ -109,9 +110,9 @@ OpenW call n w = (call .phase ≡ phase.Waiting) × Same (call .task .lent) n w
 abbrev pub OpenR : ReadCall → ℕ → ℕ → Type 0
 OpenR call n w = (call .phase ≡ phase.Waiting) × Same (call .task .lent) n w
 
--- blocks of data flash were acknowledged before
+-- its frames write data flash, and blocks were acknowledged before
 abbrev pub Partial : WriteCall → Type 0
-Partial call = (frames.isFlash (call .task .plan .frames) ≡ true) × (0 < call .sent)
+Partial call = ((start : ℕ) × (call .task .plan .frames ≡ sent.DataFlash start)) × (0 < call .sent)
 
 -- ---- a writing call: an outcome with a reply of r bytes, a payload of n, a work buffer of w; the answer's number and detail
 

@@ -6,6 +6,7 @@ use native.Mathlib.Omega.{arith}
 use borrow.Author.Tests.{ne-eqb}
 use Rattle.protocol.specs.Pick.{if_then_else_}
 use Rattle.engine.specs.Budget.{failed}
+use Rattle.engine.specs.Bus.{writeOf}
 use Rattle.engine.specs.Laws.{Laws}
 use Rattle.engine.specs.declared.budget.Failed.the-variants.{Retry}
 
@@ -17,10 +18,12 @@ retries n =
     rw (ne-eqb (suc n) 0 some) (ap (λ (k : ℕ). Retry (record { left = k })) less)
 
 pub laws : Laws
-unfolding failed if_then_else_
+unfolding failed writeOf if_then_else_
 laws = record {
   retries = retries;
   spent = refl;
   more = λ n h. omega arith;
   most = refl;
+  shows = λ n. refl;
+  no-room = refl;
 }

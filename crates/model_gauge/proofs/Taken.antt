@@ -1,20 +1,21 @@
 -- The frame reader finds a frame's address and its bytes; whether they lie in the window decides the rest.
 -- Assumes nothing.
-use Prim.Native.Nat.{ℕ, _+_, _-_, _*_, _≤_, _<_}
-use mathlib.Core.Path.{_≡_, refl, sym, _∙_}
+use Prim.Native.Nat.{ℕ, _+_, _-_, _*_, _≤_, _<_, min}
+use mathlib.Core.Path.{_≡_, refl, sym, ap, _∙_}
 use mathlib.Core.Bool.{Bool, true, false}
 use mathlib.Core.Logic.{_⊎_, ⊎-elim, ⊎-map}
-use mathlib.Core.List.{List, [], _∷_, _++_, append-assoc}
+use mathlib.Core.List.{List, [], _∷_, _++_, append-assoc, append-nil}
 use native.Mathlib.Omega.{arith}
-use lib.ListN.{length, take, drop}
+use lib.ListN.{length, take, drop, length-drop, drop-of-length-le}
 use lib.Dec.{leb}
-use lib.Seq.{take-length, take-append-seam, drop-drop}
-use borrow.Author.Tests.{le-leb, lt-leb, ne-eqb}
+use lib.Seq.{take-all, take-length, take-append-seam, drop-drop}
+use borrow.Author.Tests.{leb-true, leb-false, le-leb, lt-leb, ne-eqb}
 use Rattle.smbus_pec.specs.Pec.{pecOf}
 use Rattle.protocol.specs.Pick.{if_then_else_}
-use Rattle.protocol.specs.Bytes.{over}
+use Rattle.protocol.specs.Bytes.{storedAt}
 use Rattle.protocol.specs.Frame.{sealed}
 use Rattle.protocol.specs.Window.{inWindow}
+use Rattle.protocol.proofs.Shared.{laws}
 use Rattle.engine.specs.declared.bus.Outcome.the-variants as outcome
 use Rattle.model_gauge.specs.Frame.{readFrame}
 use Rattle.model_gauge.specs.Gauge.{storedForm, stored, pointedForm, pointed, takesForm, takes, flashAfter, actedOf, gaugeAfter, heardOf, outcomeOf}
@@ -23,7 +24,6 @@ use Rattle.model_gauge.specs.Taken.{Taken}
 use Rattle.model_gauge.specs.declared.frame.Form.the-variants as form
 use Rattle.model_gauge.specs.declared.gauge.Event.the-variants as event
 use Rattle.model_gauge.specs.declared.gauge.Gauge.{Gauge}
-use Rattle.model_gauge.proofs.Laws.{stored-whole}
 use Rattle.model_gauge.proofs.Untaken.{untaken}
 use Rattle.model_gauge.proofs.Forms.{forms}
 
@@ -44,6 +44,26 @@ outside at n some = ⊎-elim before (past (leb 0x4000 at) refl)
     past true t h = rw (ne-eqb n 0 (λ e. omega arith), t, lt-leb (at + (n - 1)) 0x5FFF (omega arith))
     past false t h = rw (ne-eqb n 0 (λ e. omega arith), t)
 
+-- ---- what is stored from a place on
+
+laid : (o room : ℕ) (bytes flash : List ℕ) → room ≡ min (length bytes) (length flash - o)
+    → storedAt o (length bytes) bytes flash ≡ take o flash ++ take room bytes ++ drop (o + room) flash
+laid o room bytes flash r = by (leb o (length flash)) refl
+  where
+    by : (t : Bool) → leb o (length flash) ≡ t → storedAt o (length bytes) bytes flash ≡ take o flash ++ take room bytes ++ drop (o + room) flash
+    by true t =
+        let starts : o ≤ length flash = leb-true o (length flash) t in
+        let left : length (drop o flash) ≡ length flash - o = length-drop o flash in
+        laws .stores o (length bytes) bytes flash starts
+        ∙ ap (λ (l : List ℕ). take o flash ++ l) (laws .copies (length bytes) room bytes (drop o flash) (omega arith) ∙ rw drop-drop)
+        ∙ sym (append-assoc (take o flash) (take room bytes) (drop (o + room) flash))
+    by false t =
+        let past : length flash < o = leb-false o (length flash) t in
+        let none : room ≡ 0 = omega arith in
+        let all : take o flash ≡ flash = take-all o flash (omega arith) in
+        let rest : drop (o + room) flash ≡ [] = drop-of-length-le flash {i = o + room} (omega arith) in
+        laws .stores-none o (length bytes) bytes flash past ∙ sym (rw (all, rest, none) (append-nil (flash ++ []) ∙ append-nil flash))
+
 -- ---- by what was read
 
 heard : (frame : List ℕ) → takes frame ≡ true → outcomeOf event.Heard frame ≡ outcome.Acknowledged
@@ -59,15 +79,9 @@ module _ (frame : List ℕ) (at n : ℕ) (read : readFrame frame ≡ form.BlockW
   unfolding takes takesForm
   takes-block = rw read
 
-  stores-block : (bytes flash : List ℕ) → inWindow at n ≡ true → take n (drop 4 frame) ≡ bytes → length bytes ≡ n → at - 0x4000 + n ≤ length flash
-      → flashAfter event.Heard frame flash ≡ take (at - 0x4000) flash ++ bytes ++ drop (at - 0x4000 + length bytes) flash
-  unfolding flashAfter stored storedForm if_then_else_ over
-  stores-block bytes flash w back many fits =
-      rw (read, w, back)
-      (stored-whole (at - 0x4000) n bytes flash (omega arith) (omega arith) ∙ laid (at - 0x4000))
-    where
-      laid : (o : ℕ) → take o flash ++ over bytes (drop o flash) ≡ take o flash ++ bytes ++ drop (o + length bytes) flash
-      laid o = rw drop-drop (sym (append-assoc (take o flash) bytes (drop (o + length bytes) flash)))
+  stores-block : (bytes flash : List ℕ) → inWindow at n ≡ true → take n (drop 4 frame) ≡ bytes → flashAfter event.Heard frame flash ≡ storedAt (at - 0x4000) n bytes flash
+  unfolding flashAfter stored storedForm if_then_else_
+  stores-block bytes flash w back = rw (read, w, back)
 
   block-points : (gauge : Gauge) → gaugeAfter event.Heard frame gauge ≡ gauge
   unfolding gaugeAfter actedOf pointed pointedForm
@@ -104,12 +118,12 @@ address-read pec low high at here = rw here (forms .address pec low high)
 -- what the gauge makes of a block write and of an address
 pub taken : Taken
 taken = record {
-  block = λ pec low high at bytes flash gauge here whole some few from to.
+  block = λ pec low high at room bytes flash gauge here fits some few from to.
       let frame : List ℕ = counted pec low high bytes in
       let read : readFrame frame ≡ form.BlockWrite at (length bytes) = block-read pec low high at bytes here some few in
       let within : inWindow at (length bytes) ≡ true = inside at (length bytes) some from to in (
         heard frame (takes-block frame at (length bytes) read ∙ within),
-        stores-block frame at (length bytes) read bytes flash within (data-back pec low high bytes) refl (omega arith),
+        stores-block frame at (length bytes) read bytes flash within (data-back pec low high bytes) ∙ laid (at - 0x4000) room bytes flash fits,
         block-points frame at (length bytes) read gauge,
       );
   block-outside = λ pec low high at bytes flash gauge here some few off.

@@ -1,6 +1,6 @@
 -- What the gauge makes of a block write and of an address, for each address that their two bytes can say. (01, The model gauge)
 -- Assumes nothing.
-use Prim.Native.Nat.{ℕ, _+_, _-_, _*_, _≤_, _<_}
+use Prim.Native.Nat.{ℕ, _+_, _-_, _*_, _≤_, _<_, min}
 use mathlib.Core.Path.{_≡_}
 use mathlib.Core.Bool.{Bool}
 use mathlib.Core.Logic.{_⊎_}
@@ -14,11 +14,11 @@ use Rattle.model_gauge.specs.declared.gauge.Gauge.{Gauge}
 
 pub record Taken : Type 0 where
   -- a block write of 1 to 32 bytes, wholly inside the window, is acknowledged; its bytes are stored from its address on, the byte of 4000 hex being
-  -- the flash's first, where the flash is long enough (8,192 bytes always are); the rest of the flash is as it was, and so is the gauge
-  pub block : (pec : Bool) (low high at : ℕ) (bytes flash : List ℕ) (gauge : Gauge) → at ≡ high * 256 + low → at - 0x4000 + length bytes ≤ length flash
+  -- the flash's first, as many as there is room for (in 8,192 bytes all of them); the rest of the flash is as it was, and so is the gauge
+  pub block : (pec : Bool) (low high at room : ℕ) (bytes flash : List ℕ) (gauge : Gauge) → at ≡ high * 256 + low → room ≡ min (length bytes) (length flash - (at - 0x4000))
       → 1 ≤ length bytes → length bytes ≤ 32 → 0x4000 ≤ at → at + length bytes ≤ 0x6000
       → (outcomeOf event.Heard (counted pec low high bytes) ≡ outcome.Acknowledged)
-      × (flashAfter event.Heard (counted pec low high bytes) flash ≡ take (at - 0x4000) flash ++ bytes ++ drop (at - 0x4000 + length bytes) flash)
+      × (flashAfter event.Heard (counted pec low high bytes) flash ≡ take (at - 0x4000) flash ++ take room bytes ++ drop (at - 0x4000 + room) flash)
       × (gaugeAfter event.Heard (counted pec low high bytes) gauge ≡ gauge)
   -- one that begins before the window or ends past it is a bus error with code 0, and leaves flash and gauge as they were
   pub block-outside : (pec : Bool) (low high at : ℕ) (bytes flash : List ℕ) (gauge : Gauge) → at ≡ high * 256 + low

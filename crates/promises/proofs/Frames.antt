@@ -1,16 +1,15 @@
 -- The frames that a call makes of a block or of an address are those that the model's laws speak of, with a PEC or without.
 -- Assumes nothing.
 use Prim.Native.Nat.{ℕ, _+_, _-_, _*_, _/_, _%_, _≤_, _<_}
-use mathlib.Core.Path.{_≡_, sym, ap, _∙_}
+use mathlib.Core.Path.{_≡_, ap, _∙_}
 use mathlib.Core.Bool.{Bool, true}
-use mathlib.Core.List.{List, []}
+use mathlib.Core.List.{List, [], _++_}
 use native.Mathlib.Omega.{arith}
-use lib.ListN.{length}
+use lib.ListN.{length, take, drop}
+use lib.Seq.{take-length}
 use Rattle.protocol.specs.Frame.{sealed, pairOf, macBytes}
-use Rattle.model_gauge.specs.Frame.{readFrame}
 use Rattle.model_gauge.specs.Forms.{counted}
 use Rattle.model_gauge.specs.Gauge.{stored, takesForm, takes, pointedForm, pointed, flashAfter, actedOf, gaugeAfter}
-use Rattle.model_gauge.specs.declared.frame.Form.the-variants as form
 use Rattle.model_gauge.specs.declared.gauge.Gauge.{Gauge}
 use Rattle.model_gauge.proofs.Forms.{forms}
 use Rattle.model_gauge.proofs.Taken.{taken}
@@ -37,7 +36,8 @@ module _ (pec : Bool) (a : ℕ) (bytes : List ℕ) (some : 0 < length bytes) (fe
   unfolding flashAfter store
   stores-block flash whole =
       rw (counts pec a bytes few (omega arith))
-      (taken .block pec (a % 256) (a / 256) a bytes flash (record { pointer = a }) (omega arith) (omega arith) (omega arith) few low high .1)
+      (taken .block pec (a % 256) (a / 256) a (length bytes) bytes flash (record { pointer = a }) (omega arith) (omega arith) (omega arith) few low high .1
+      ∙ ap (λ (l : List ℕ). take (a - 0x4000) flash ++ l ++ drop (a - 0x4000 + length bytes) flash) (take-length bytes))
 
   pub block-points : (gauge : Gauge) → pointed (sealed pec (macBytes (pairOf a) bytes)) gauge ≡ gauge
   unfolding pointed pointedForm

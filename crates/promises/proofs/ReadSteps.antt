@@ -32,7 +32,7 @@ use Rattle.reading.specs.Reading.{dueAsk, shownHead, workHead, shownOf, workSho
 use Rattle.reading.specs.declared.call.ReadCall.{ReadCall}
 use Rattle.reading.specs.declared.call.ReadTask.{ReadTask}
 use Rattle.r5.specs.Plans.{readDataflash}
-use Rattle.model_gauge.specs.Gauge.{stored, storedForm, pointed, pointedForm, takes, takesForm, repliesTo, replyOf, repliedOf}
+use Rattle.model_gauge.specs.Gauge.{stored, pointed, repliesTo, replyOf, repliedOf}
 use Rattle.model_gauge.specs.declared.gauge.Gauge.{Gauge}
 use Rattle.answers.specs.Runs.{callR}
 use Rattle.promises.specs.Flash.{blockOf}

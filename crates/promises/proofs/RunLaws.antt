@@ -7,6 +7,7 @@ use mathlib.Core.List.{List, [], _∷_}
 use lib.ListN.{length, take, drop}
 use Rattle.protocol.specs.Pick.{if_then_else_}
 use Rattle.protocol.specs.Window.{inWindow}
+use Rattle.protocol.specs.declared.error.Answer.{Answer}
 use Rattle.engine.specs.Pick.{case_waiting_ended_}
 use Rattle.engine.specs.declared.bus.Phase.the-variants as phase
 use Rattle.engine.specs.declared.bus.Transfer.the-variants as transfer
@@ -86,16 +87,20 @@ write-step : (payload work flash : List ℕ) (call : WriteCall) (gauge : Gauge) 
 unfolding writes.stepOf writes.sentOf writes.sentFlash writes.reportedOf case_write_read_none_
 write-step payload work flash call gauge n e shows = rw (shows, wrote-taken)
 
-write-on : (payload rest work flash : List ℕ) (call : WriteCall) (gauge : Gauge) (byte n : ℕ) (e : Event) → Means byte e
-    → length flash ≡ 8192 → soundOf rest ≡ true → writing.nextOf call payload (length work) ≡ transfer.Write n
-    → writes.runOf payload (byte ∷ rest) (writes.world (record { call = call; gauge = gauge }) work flash) ≡ writes.runOf payload rest (wroteTo payload e n call gauge work flash)
+write-none : (payload work flash : List ℕ) (writer : Writer) (e : Event) (a : Answer) → writing.nextOf (writer .call) payload (length work) ≡ transfer.Refused a
+    → writes.stepOf payload e (writes.world writer work flash) ≡ writes.world writer (writing.workAfter (writer .call) payload work) flash
+unfolding writes.stepOf case_write_read_none_
+write-none payload work flash writer e a shows = rw shows
+
+-- a step of a run, wherever it leads
+write-on : (payload rest : List ℕ) (w v : writes.World) (byte : ℕ) (e : Event) → Means byte e → length (w .flash) ≡ 8192 → length (v .flash) ≡ 8192 → soundOf rest ≡ true
+    → writes.stepOf payload e w ≡ v → writes.runOf payload (byte ∷ rest) w ≡ writes.runOf payload rest v
 unfolding writes.driveOf
-write-on payload rest work flash call gauge byte n e means whole sound shows =
-    let w : writes.World = writes.world (record { call = call; gauge = gauge }) work flash in
+write-on payload rest w v byte e means whole whole′ sound step =
     admitted-write payload w (byte ∷ rest) whole (first-sound byte e means rest sound)
     ∙ ap (λ (es : List Event). writes.leftOf (length payload) (writes.driveOf payload es w)) (first-event byte e means rest)
-    ∙ ap (λ (v : writes.World). writes.leftOf (length payload) (writes.driveOf payload (eventsOf rest) v)) (write-step payload work flash call gauge n e shows)
-    ∙ sym (admitted-write payload (wroteTo payload e n call gauge work flash) rest (flash-kept e _ flash ∙ whole) sound)
+    ∙ ap (λ (v : writes.World). writes.leftOf (length payload) (writes.driveOf payload (eventsOf rest) v)) step
+    ∙ sym (admitted-write payload v rest whole′ sound)
 
 -- ---- a reading call
 
@@ -128,10 +133,23 @@ module _ (buffer work flash : List ℕ) (call : ReadCall) (gauge : Gauge) where
   unfolding reads.stepOf reads.askedOf reads.askedBuffer reads.reportedOf case_write_read_none_
   ask-step command count e shows = rw (shows, read-taken)
 
+read-none : (buffer work flash : List ℕ) (reader : Reader) (e : Event) (a : Answer) → reading.nextOf (reader .call) (length buffer) (length work) ≡ transfer.Refused a
+    → reads.stepOf e (reads.world reader buffer work flash) ≡ reads.world reader buffer (reading.workAfter (reader .call) (length buffer) work) flash
+unfolding reads.stepOf case_write_read_none_
+read-none buffer work flash reader e a shows = rw shows
+
 -- THE LAWS OF A RUN
 pub run-laws : RunLaws
 run-laws = record {
-  writing = record { taken = λ writer work flash. refl; told = λ run work flash. refl; cut = write-cut; writes-on = write-on };
+  writing = record {
+    taken = λ writer work flash. refl;
+    told = λ run work flash. refl;
+    cut = write-cut;
+    writes-on = λ payload rest work flash call gauge byte n e means whole sound shows.
+        write-on payload rest _ (wroteTo payload e n call gauge work flash) byte e means whole (flash-kept e _ flash ∙ whole) sound (write-step payload work flash call gauge n e shows);
+    none-on = λ payload rest work flash writer byte e a means whole sound shows.
+        write-on payload rest (writes.world writer work flash) _ byte e means whole whole sound (write-none payload work flash writer e a shows);
+  };
   reading = record {
     taken = λ reader buffer work flash. refl;
     told = λ run buffer work flash. refl;
@@ -140,5 +158,7 @@ run-laws = record {
         read-on rest (here buffer work flash call gauge) (headTo e n call gauge buffer work flash) byte e means whole (flash-kept e _ flash ∙ whole) sound (head-step buffer work flash call gauge n e shows);
     reads-on = λ rest buffer work flash call gauge byte command count e means whole sound shows.
         read-on rest (here buffer work flash call gauge) (readFrom e command count call gauge buffer work flash) byte e means whole whole sound (ask-step buffer work flash call gauge command count e shows);
+    none-on = λ rest buffer work flash reader byte e a means whole sound shows.
+        read-on rest (reads.world reader buffer work flash) _ byte e means whole whole sound (read-none buffer work flash reader e a shows);
   };
 }

@@ -7,6 +7,7 @@ use mathlib.Core.Path.{_≡_}
 use mathlib.Core.Bool.{true}
 use mathlib.Core.List.{List, [], _∷_}
 use lib.ListN.{length, take}
+use Rattle.protocol.specs.declared.error.Answer.{Answer}
 use Rattle.engine.specs.declared.bus.Outcome.{Outcome}
 use Rattle.engine.specs.declared.bus.Phase.the-variants as phase
 use Rattle.engine.specs.declared.bus.Transfer.the-variants as transfer
@@ -58,6 +59,11 @@ pub record WriteLaws : Type 0 where
       → length flash ≡ 8192 → soundOf rest ≡ true → writing.nextOf call payload (length work) ≡ transfer.Write n
       → writes.runOf payload (byte ∷ rest) (writes.world (record { call = call; gauge = gauge }) work flash)
       ≡ writes.runOf payload rest (wroteTo payload e n call gauge work flash)
+  -- where the showing is refused, it is none
+  pub none-on : (payload rest work flash : List ℕ) (writer : Writer) (byte : ℕ) (e : Event) (a : Answer) → Means byte e
+      → length flash ≡ 8192 → soundOf rest ≡ true → writing.nextOf (writer .call) payload (length work) ≡ transfer.Refused a
+      → writes.runOf payload (byte ∷ rest) (writes.world writer work flash)
+      ≡ writes.runOf payload rest (writes.world writer (writing.workAfter (writer .call) payload work) flash)
 
 -- ---- a reading call
 
@@ -98,6 +104,11 @@ pub record ReadLaws : Type 0 where
       → length flash ≡ 8192 → soundOf rest ≡ true → reading.nextOf call (length buffer) (length work) ≡ transfer.Read command count
       → reads.runOf (byte ∷ rest) (reads.world (record { call = call; gauge = gauge }) buffer work flash)
       ≡ reads.runOf rest (readFrom e command count call gauge buffer work flash)
+  -- where the showing is refused, it is none
+  pub none-on : (rest buffer work flash : List ℕ) (reader : Reader) (byte : ℕ) (e : Event) (a : Answer) → Means byte e
+      → length flash ≡ 8192 → soundOf rest ≡ true → reading.nextOf (reader .call) (length buffer) (length work) ≡ transfer.Refused a
+      → reads.runOf (byte ∷ rest) (reads.world reader buffer work flash)
+      ≡ reads.runOf rest (reads.world reader buffer (reading.workAfter (reader .call) (length buffer) work) flash)
 
 pub record RunLaws : Type 0 where
   pub writing : WriteLaws

@@ -67,6 +67,7 @@ laws = record {
   copies = copies;
   stores = stores;
   stores-none = stores-none;
+  blocks = λ n. (omega arith, omega arith);
   sends = sends;
   seals = λ frame. (refl, refl);
   lays = lays;

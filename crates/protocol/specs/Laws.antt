@@ -1,13 +1,13 @@
 -- What the parts that all calls share come to, in plain lists: the block copier, the part to send, the one builder, when a reply is believed, settings
 -- without PEC. (01, The step machine; Frames and retries)
 -- Assumes nothing.
-use Prim.Native.Nat.{ℕ, _≤_, _<_, min}
+use Prim.Native.Nat.{ℕ, _+_, _*_, _≤_, _<_, min}
 use mathlib.Core.Path.{_≡_}
 use mathlib.Core.Bool.{Bool, true, false}
 use mathlib.Core.List.{List, [], _∷_, _++_}
 use lib.ListN.{length, take, drop}
 use Rattle.smbus_pec.specs.Pec.{pecOf}
-use Rattle.protocol.specs.Bytes.{blockIn, storedAt, sendOf}
+use Rattle.protocol.specs.Bytes.{blockIn, storedAt, blocksOf, sendOf}
 use Rattle.protocol.specs.Common.{noPec}
 use Rattle.protocol.specs.Frame.{sealed, fixedPair, laidOf, workLaid}
 use Rattle.protocol.specs.Reply.{countOf, checkedOf, heardOf}
@@ -23,6 +23,8 @@ pub record Laws : Type 0 where
   -- from its middle onward: what follows the first `at` bytes is lent to the copier; where they are more than there are, nothing is
   pub stores : (at most : ℕ) (block buffer : List ℕ) → at ≤ length buffer → storedAt at most block buffer ≡ take at buffer ++ blockIn most block (drop at buffer)
   pub stores-none : (at most : ℕ) (block buffer : List ℕ) → length buffer < at → storedAt at most block buffer ≡ buffer
+  -- so many blocks of 32 hold n bytes, and one fewer do not
+  pub blocks : (n : ℕ) → (n ≤ blocksOf n * 32) × (blocksOf n * 32 < n + 32)
   -- the part to send is the front of the work buffer where a frame was built, otherwise of the caller's own bytes
   pub sends : (payload work : List ℕ) (n : ℕ) → (sendOf payload work true n ≡ take n work) × (sendOf payload work false n ≡ take n payload)
   -- a PEC, where it is on, is that of 16 and the frame
