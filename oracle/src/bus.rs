@@ -6,9 +6,9 @@ use std::future::pending;
 use embedded_hal_async::delay::DelayNs;
 use embedded_hal_async::i2c::{Error, ErrorType, I2c};
 
-/// The gauge's address and the wait after a failure, as document 01 has them.
-const GAUGE_ADDRESS: u8 = 0x0B;
-const WAIT_MS: u32 = 10;
+/// The gauge's address and the wait after a failure, as document 01 has them: every transfer and every wait of the Rust is held to them.
+pub(crate) const GAUGE_ADDRESS: u8 = 0x0B;
+pub(crate) const WAIT_MS: u32 = 10;
 
 /// A write of some bytes, or a write of one command byte and then a read of `count` bytes.
 #[derive(Debug, Clone, Copy, PartialEq, Eq)]

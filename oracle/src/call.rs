@@ -10,7 +10,7 @@ use device_driver::{
 };
 
 use crate::answer::{self, Answer};
-use crate::bus::{Bus, BusError, Partner, Tally, Waits};
+use crate::bus::{Bus, BusError, GAUGE_ADDRESS, Partner, Tally, WAIT_MS, Waits};
 use crate::common::{ChargingVoltageOverride, Config};
 use crate::error::BQ40Z50Error;
 use crate::panics::{self, Panic};
@@ -61,12 +61,17 @@ fn has_wrong_buffer(request: &Request) -> bool {
     }
 }
 
-/// The settings that a driver starts with, as the program `starts` of the port has them.
+/// The settings that a driver starts with, and what its bus is held to, as the program `starts` of the port has them.
 #[must_use]
 pub fn default_settings() -> String {
     let config = Config::new();
     let pec = u8::from;
-    format!("Config::new : retries {}, pec_write {}, pec_read {}", config.max_bus_retries, pec(config.pec_write), pec(config.pec_read))
+    format!(
+        "Config::new : retries {}, pec_write {}, pec_read {}\nbus : address {GAUGE_ADDRESS:02x}, wait {WAIT_MS}",
+        config.max_bus_retries,
+        pec(config.pec_write),
+        pec(config.pec_read)
+    )
 }
 
 fn config(request: &Request) -> Config {

@@ -253,6 +253,16 @@ module _ (call : ReadCall) (buffer : List ℕ) where
       by phase.Waiting e false f = let q : reading.judgeOf call o bytes n w ≡ verdict.Refused answer.WrongBuffer = rw (f, e) in subst NoBlock (sym q) tt
       by phase.Waiting e true f = let q : reading.judgeOf call o bytes n w ≡ reading.outcomeOf call o bytes = rw (f, e) in subst NoBlock (sym q) h
 
+  head-none : (o : Outcome) (bytes : List ℕ) → call .heading ≡ true → NoBlock (reading.outcomeOf call o bytes)
+  unfolding reading.outcomeOf reading.acknowledgedOf reading.heardHead case_acknowledged_error_timeout_ if_then_else_
+  head-none outcome.Acknowledged bytes h = by (eqb (length bytes) 0) refl
+    where
+      by : (t : Bool) → eqb (length bytes) 0 ≡ t → NoBlock (reading.outcomeOf call outcome.Acknowledged bytes)
+      by true t = let q : reading.outcomeOf call outcome.Acknowledged bytes ≡ verdict.Head = rw (h, t) in subst NoBlock (sym q) tt
+      by false t = let q : reading.outcomeOf call outcome.Acknowledged bytes ≡ verdict.Refused answer.WrongReply = rw (h, t) in subst NoBlock (sym q) tt
+  head-none (outcome.BusError code) bytes h = tt
+  head-none outcome.Timeout bytes h = tt
+
   failure-none : (o : Outcome) (bytes : List ℕ) → Failure o → NoBlock (reading.outcomeOf call o bytes)
   unfolding reading.outcomeOf case_acknowledged_error_timeout_
   failure-none outcome.Acknowledged bytes h = absurd h
@@ -277,6 +287,7 @@ module _ (call : ReadCall) (buffer : List ℕ) where
   pub delivers : (o : Outcome) (bytes : List ℕ) (w : ℕ) → Delivers call o bytes buffer (reading.bufferAfter call o bytes buffer w)
   unfolding By reading.bufferAfter
   delivers o bytes w = record {
+    no-reply = λ h. by-same bytes (reading.judgeOf call o bytes (length buffer) w) (judged o bytes (length buffer) w (head-none o bytes h));
     failed-reply = λ h. by-same bytes (reading.judgeOf call o bytes (length buffer) w) (judged o bytes (length buffer) w (failure-none o bytes h));
     damaged-reply = λ h. by-same bytes (reading.judgeOf call o bytes (length buffer) w) (judged o bytes (length buffer) w (damaged-none o bytes h));
     front = by-front bytes (reading.judgeOf call o bytes (length buffer) w) .0;

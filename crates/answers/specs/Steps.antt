@@ -149,9 +149,10 @@ abbrev pub CostR : ReadCall → Outcome → List ℕ → ReadReported → Type 0
 CostR call o bytes (read.Refused a same) = Unit {0}
 CostR call o bytes (read.Taken next) = (next .task ≡ call .task) × PaidR call o bytes next
 
--- ---- what a report leaves in a reading call's buffer: a failure or a wrong PEC brings nothing, and the blocks in front stay
+-- ---- what a report leaves in a reading call's buffer: a head, a failure or a wrong PEC brings nothing, and the blocks in front stay
 
 pub record Delivers (call : ReadCall) (o : Outcome) (bytes before after : List ℕ) : Type 0 where
+  pub no-reply : call .heading ≡ true → after ≡ before
   pub failed-reply : Failure o → after ≡ before
   pub damaged-reply : Damaged call bytes → after ≡ before
   pub front : take (call .received * 32) after ≡ take (call .received * 32) before

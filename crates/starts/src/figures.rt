@@ -1,6 +1,8 @@
-// The figures of the charging voltage override, and the settings that a driver starts with.
+// The figures of the charging voltage override, the settings that a driver starts with, and the two numbers that a host needs beside them.
 use crate::say;
 use protocol::common::Config;
+use protocol::consts::BQ_ADDR;
+use protocol::consts::DEFAULT_ERROR_BACKOFF_DELAY_MS;
 use protocol::voltage::ChargingVoltageOverride;
 
 // A figure, of those that are looked at.
@@ -27,7 +29,15 @@ fn settings() {
     say::words(b"\n");
 }
 
-// Ten bytes, their five figures, and the bytes of those; then the settings.
+// The gauge's address on the bus, and the milliseconds of a wait.
+fn bus() {
+    say::words(b"bus : address ");
+    say::byte(BQ_ADDR);
+    say::number(b", wait ", DEFAULT_ERROR_BACKOFF_DELAY_MS as usize);
+    say::words(b"\n");
+}
+
+// Ten bytes, their five figures, and the bytes of those; then the settings and the bus.
 pub(crate) fn all() {
     let v = ChargingVoltageOverride::from_bytes(b"\xFF\xFF\x00\x80\xFF\x7F\x00\x01\x01\x00");
     say::words(b"FFFF0080FF7F00010100 :");
@@ -43,4 +53,5 @@ pub(crate) fn all() {
     say::words(&digits);
     say::words(b"\n");
     settings();
+    bus();
 }

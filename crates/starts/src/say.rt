@@ -40,7 +40,7 @@ pub(crate) fn stand(phase: Phase) {
 }
 
 // A byte as two digits.
-fn byte(b: u8) {
+pub(crate) fn byte(b: u8) {
     io::print_hex(STDOUT_FILENO, b as u64, 2);
 }
 
