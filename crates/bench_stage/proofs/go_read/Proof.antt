@@ -1,6 +1,6 @@
 -- `bench_stage::go_read` meets its contract: the first bytes that are lent go to the call and come back.
 -- Assumes nothing.
-use Prim.Native.Nat.{ℕ, _≤_, min}
+use Prim.Native.Nat.{ℕ, min}
 use mathlib.Core.Path.{_≡_, sym, ap, _∙_}
 use mathlib.Core.List.{List, _++_}
 use native.Mathlib.Omega.{arith}
@@ -8,7 +8,7 @@ use lib.ListN.{length, take, drop}
 use lib.Seq.{length-take-le}
 use borrow.Author.Needs.{needs}
 use Rattle.protocol.proofs.Laws.{take-short}
-use Rattle.bench_stage.specs.Stage.{heardRead, heardBuffer, goRead, goBuffer}
+use Rattle.bench_stage.specs.Stage.{heardRead, goRead, goBuffer}
 use Rattle.bench_stage.proofs.Laws.{drop-short}
 use Rattle.bench_stage.proofs.go_read.Statement.{statement}
 use Rattle.bench_stage.proofs.go_read.Tie as tie

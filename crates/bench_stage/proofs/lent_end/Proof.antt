@@ -1,6 +1,5 @@
 -- `bench_stage::lent_end` meets its contract: each arm is a case of `lentEnd`.
 -- Assumes nothing.
-use mathlib.Core.Path.{refl}
 use Rattle.protocol.proofs.Cases.{cases}
 use Rattle.bench_stage.specs.Stage.{lentEnd}
 use Rattle.bench_stage.proofs.lent_end.Statement.{statement}

@@ -1,7 +1,5 @@
 -- `session::end` meets its contract: it prints the stage that the end of the input leads to, unless the run is over.
 -- Assumes nothing.
-use mathlib.Core.Path.{refl}
-use native.Mathlib.Omega.{arith}
 use borrow.Author.Needs.{needs}
 use Rattle.protocol.specs.Pick.{if_then_else_}
 use Rattle.protocol.proofs.Cases.{cases}

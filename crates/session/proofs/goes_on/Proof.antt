@@ -1,6 +1,5 @@
 -- `session::goes_on` meets its contract: each test is a case of `goesOn`.
 -- Assumes nothing.
-use mathlib.Core.Path.{refl}
 use borrow.Author.Needs.{needs}
 use Rattle.protocol.proofs.Cases.{cases}
 use Rattle.session.specs.Session.{goesOn}
