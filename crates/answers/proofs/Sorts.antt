@@ -42,8 +42,8 @@ use Rattle.reading.specs.declared.call.Verdict.{Verdict}
 use Rattle.reading.specs.declared.call.Verdict.the-variants as verdict
 use Rattle.reading.specs.declared.call.ReadReported.{ReadReported}
 use Rattle.reading.specs.declared.call.ReadReported.the-variants as read
-use Rattle.answers.specs.Rows.{OneOf, Among, SortW, Kept, SortR}
-use Rattle.answers.specs.Steps.{Shown}
+use Rattle.answers.specs.Rows.{OneOf, Among, asked, SortW, Kept, SortR}
+use Rattle.answers.specs.Steps.{Shown, AsksNothing, AsksOf}
 use Rattle.answers.proofs.Laws.{fits-same}
 
 -- a call goes on or is done
@@ -104,14 +104,14 @@ module _ (call : WriteCall) where
       by phase.Waiting e true f false g = let q : result ≡ wrote.Taken (writing.settleOf call o) = rw (e, f, g) in subst (SortW call) (sym q) (e, settle-ends o)
 
   -- WHAT A WRITING CALL SHOWS
-  pub shows-w : (payload work : List ℕ) → Shown (call .phase) (call .task .lent) (length payload) (length work) work (writing.workAfter call payload work) (writing.nextOf call payload (length work))
+  pub shows-w : (payload work : List ℕ) → Shown (Unit {0}) AsksNothing (call .phase) (call .task .lent) (length payload) (length work) work (writing.workAfter call payload work) (writing.nextOf call payload (length work))
   unfolding writing.nextOf writing.workAfter writing.shownOf writing.workShown laidOf workLaid writeOf case_waiting_ended_ if_then_else_
   shows-w payload work =
       by (call .phase) refl (fitsOf (call .task .lent) (length payload) (length work)) refl (writing.ownBytes call) refl
       (ltb (length (writing.dueBytes call payload)) (length work)) refl
     where
       At : List ℕ → Transfer → Type 0
-      At after shown = Shown (call .phase) (call .task .lent) (length payload) (length work) work after shown
+      At after shown = Shown (Unit {0}) AsksNothing (call .phase) (call .task .lent) (length payload) (length work) work after shown
 
       both : (after : List ℕ) (shown : Transfer) → writing.workAfter call payload work ≡ after → writing.nextOf call payload (length work) ≡ shown → At after shown
           → At (writing.workAfter call payload work) (writing.nextOf call payload (length work))
@@ -138,9 +138,9 @@ module _ (call : WriteCall) where
           → At (writing.workAfter call payload work) (writing.nextOf call payload (length work))
       by (phase.Ended a) e t f s g k h = both work (transfer.Ended a) (rw e) (rw e) (e, refl)
       by phase.Waiting e false f s g k h = both work (transfer.Refused answer.WrongBuffer) (rw (e, f)) (rw (e, f)) (e, refl, refl)
-      by phase.Waiting e true f true g k h = both work (transfer.Write (length payload)) (rw (g, f, e)) (rw (g, f, e)) (e, fits-same _ _ _ f, refl)
+      by phase.Waiting e true f true g k h = both work (transfer.Write (length payload)) (rw (g, f, e)) (rw (g, f, e)) (e, fits-same _ _ _ f, tt, refl)
       by phase.Waiting e true f false g true h =
-          both (over sent work) (transfer.Write (length sent)) (rw (h, g, f, e)) (due e f g ∙ ap writeOf (has-room h)) (e, fits-same _ _ _ f, drop-over (length sent) sent work (omega arith))
+          both (over sent work) (transfer.Write (length sent)) (rw (h, g, f, e)) (due e f g ∙ ap writeOf (has-room h)) (e, fits-same _ _ _ f, tt, drop-over (length sent) sent work (omega arith))
       by phase.Waiting e true f false g false h = both work (transfer.Refused answer.WrongBuffer) (rw (h, g, f, e)) (due e f g ∙ ap writeOf (no-room h)) (e, refl, refl)
 
 -- ---- a reading call
@@ -250,14 +250,14 @@ module _ (call : ReadCall) where
           both (reading.storedOf call bytes buffer) (read.Taken (reading.advanceOf call)) (rw e) (rw e) (f, block-ends, block-kept buffer (reading.storedOf call bytes buffer))
 
   -- WHAT A READING CALL SHOWS
-  pub shows-r : (n : ℕ) (work : List ℕ) → Shown (call .phase) (call .task .lent) n (length work) work (reading.workAfter call n work) (reading.nextOf call n (length work))
-  unfolding reading.nextOf reading.workAfter reading.shownOf reading.workShown reading.shownHead reading.workHead laidOf workLaid writeOf case_waiting_ended_ if_then_else_
+  pub shows-r : (n : ℕ) (work : List ℕ) → Shown (call .heading ≡ true) (AsksOf call) (call .phase) (call .task .lent) n (length work) work (reading.workAfter call n work) (reading.nextOf call n (length work))
+  unfolding reading.nextOf reading.workAfter reading.shownOf reading.workShown reading.shownHead reading.workHead laidOf workLaid writeOf asked case_waiting_ended_ if_then_else_
   shows-r n work =
       by (call .phase) refl (fitsOf (call .task .lent) n (length work)) refl (call .heading) refl
       (ltb (length (parts.headBytes (call .task .plan .head) (call .received))) (length work)) refl
     where
       At : List ℕ → Transfer → Type 0
-      At after shown = Shown (call .phase) (call .task .lent) n (length work) work after shown
+      At after shown = Shown (call .heading ≡ true) (AsksOf call) (call .phase) (call .task .lent) n (length work) work after shown
 
       both : (after : List ℕ) (shown : Transfer) → reading.workAfter call n work ≡ after → reading.nextOf call n (length work) ≡ shown → At after shown
           → At (reading.workAfter call n work) (reading.nextOf call n (length work))
@@ -284,7 +284,7 @@ module _ (call : ReadCall) where
           → At (reading.workAfter call n work) (reading.nextOf call n (length work))
       by (phase.Ended a) e t f s g k h = both work (transfer.Ended a) (rw e) (rw e) (e, refl)
       by phase.Waiting e false f s g k h = both work (transfer.Refused answer.WrongBuffer) (rw (f, e)) (rw (f, e)) (e, refl, refl)
-      by phase.Waiting e true f false g k h = both work (transfer.Read (reading.dueAsk call .command) (reply.countOf (reading.dueAsk call))) (rw (g, f, e)) (rw (g, f, e)) (e, fits-same _ _ _ f, refl)
+      by phase.Waiting e true f false g k h = both work (transfer.Read (reading.dueAsk call .command) (reply.countOf (reading.dueAsk call))) (rw (g, f, e)) (rw (g, f, e)) (e, fits-same _ _ _ f, (g, refl, rw g), refl)
       by phase.Waiting e true f true g true h =
-          both (over sent work) (transfer.Write (length sent)) (rw (h, g, f, e)) (due e f g ∙ ap writeOf (has-room h)) (e, fits-same _ _ _ f, drop-over (length sent) sent work (omega arith))
+          both (over sent work) (transfer.Write (length sent)) (rw (h, g, f, e)) (due e f g ∙ ap writeOf (has-room h)) (e, fits-same _ _ _ f, g, drop-over (length sent) sent work (omega arith))
       by phase.Waiting e true f true g false h = both work (transfer.Refused answer.WrongBuffer) (rw (h, g, f, e)) (due e f g ∙ ap writeOf (no-room h)) (e, refl, refl)

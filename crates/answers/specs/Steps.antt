@@ -31,18 +31,26 @@ use Rattle.reading.specs.declared.call.ReadPlan.{ReadPlan}
 use Rattle.reading.specs.declared.call.ReadCall.{ReadCall}
 use Rattle.reading.specs.declared.call.ReadReported.{ReadReported}
 use Rattle.reading.specs.declared.call.ReadReported.the-variants as read
-use Rattle.answers.specs.Rows.{Same, Failure, Damaged, made}
+use Rattle.answers.specs.Rows.{Same, Failure, asked, Damaged, made}
 use Rattle.answers.specs.Runs.{WriteReport, feedW, ReadReport, feedR}
 use Rattle.answers.specs.Within.{WritesBy, write-with-retries, write-register, write-buffer, write-security-keys, write-authentication-key, write-charging-voltage-override, write-register-unchecked, send-access-key, unseal-fg, write-mfg-info-c, write-mfg-info, write-dataflash, ReadsBy}
 
 -- ---- what is shown: an ended call its answer at any lent length, a waiting one a transfer at the lengths of the start, or 8; a frame lies at the front of
--- the work buffer with nothing else changed there, and all else spares it
+-- the work buffer with nothing else changed there, and all else spares it. `Framed` says when a frame is shown, `Asks` what is asked for
 
-abbrev pub Shown : Phase → Lent → ℕ → ℕ → List ℕ → List ℕ → Transfer → Type 0
-Shown p lent n w before after (transfer.Ended a) = (p ≡ phase.Ended a) × (after ≡ before)
-Shown p lent n w before after (transfer.Refused a) = (p ≡ phase.Waiting) × (numberOf a ≡ 8) × (after ≡ before)
-Shown p lent n w before after (transfer.Write count) = (p ≡ phase.Waiting) × Same lent n w × (drop count after ≡ drop count before)
-Shown p lent n w before after (transfer.Read command count) = (p ≡ phase.Waiting) × Same lent n w × (after ≡ before)
+abbrev pub Shown : (Framed : Type 0) (Asks : ℕ → ℕ → Type 0) → Phase → Lent → ℕ → ℕ → List ℕ → List ℕ → Transfer → Type 0
+Shown Framed Asks p lent n w before after (transfer.Ended a) = (p ≡ phase.Ended a) × (after ≡ before)
+Shown Framed Asks p lent n w before after (transfer.Refused a) = (p ≡ phase.Waiting) × (numberOf a ≡ 8) × (after ≡ before)
+Shown Framed Asks p lent n w before after (transfer.Write count) = (p ≡ phase.Waiting) × Same lent n w × Framed × (drop count after ≡ drop count before)
+Shown Framed Asks p lent n w before after (transfer.Read command count) = (p ≡ phase.Waiting) × Same lent n w × Asks command count × (after ≡ before)
+
+-- a writing call asks for nothing
+abbrev pub AsksNothing : ℕ → ℕ → Type 0
+AsksNothing command count = ⊥
+
+-- a reading call whose head is not due asks for as many bytes as it then takes (`Reads`)
+abbrev pub AsksOf : ReadCall → ℕ → ℕ → Type 0
+AsksOf call command count = (call .heading ≡ false) × (command ≡ reading.dueAsk call .command) × (count ≡ asked call)
 
 -- asked again, with the work buffer as the first time left it, a call shows the same and leaves the same there
 pub record Again : Type 0 where

@@ -117,7 +117,7 @@ module _ (config : Config) (address size n : ℕ) where
 module _ (config : Config) (address n : ℕ) (old flash : List ℕ) (room : 39 ≤ n) (whole : length flash ≡ 8192)
     (low : 0x4000 ≤ address) (high : address + length old ≤ 0x6000) where
   model-at : (e : ModelEvent) (p : Phase) (h : Bool) (i : ℕ) (b : Budget) (t : Tally) (g : Gauge) (buffer work : List ℕ) → length buffer ≡ length old → length work ≡ n
-      → Kept config address n old flash room whole low high p h i g
+      → Kept false config address n old flash room whole low high p h i g
       → stepOf e (inModel (readWorld config address (length old) n p h i b t g buffer work flash))
       ≡ inModel (readStep (eventIn e) (readWorld config address (length old) n p h i b t g buffer work flash))
   unfolding driveOf
@@ -129,16 +129,16 @@ module _ (config : Config) (address n : ℕ) (old flash : List ℕ) (room : 39 �
       model-ended config address (length old) n (e ∷ []) a h i b t g buffer work flash
       ∙ ap inModel (sym (made-over config address (length old) n (eventIn e) [] a h i b t g buffer work flash))
 
-  model-step : (e : ModelEvent) (w : ReadWorld) → Reading config address n old flash room whole low high w → stepOf e (inModel w) ≡ inModel (readStep (eventIn e) w)
+  model-step : (e : ModelEvent) (w : ReadWorld) → Reading false config address n old flash room whole low high w → stepOf e (inModel w) ≡ inModel (readStep (eventIn e) w)
   model-step e w r =
       rw (r .is)
-      (model-at e (r .at) (r .head) (r .i) (r .b) (r .t) (r .gauge) (r .buffer) (r .work) (buffer-long config address n old flash room whole low high (r .i) (r .buffer) (r .front)) (r .long) (r .kept))
+      (model-at e (r .at) (r .head) (r .i) (r .b) (r .t) (r .gauge) (r .buffer) (r .work) (buffer-long false config address n old flash room whole low high (r .i) (r .buffer) (r .front)) (r .long) (r .kept))
 
-  model-run : (es : List ModelEvent) (w : ReadWorld) → Reading config address n old flash room whole low high w → driveOf es (inModel w) ≡ inModel (readRun (eventsIn es) w)
+  model-run : (es : List ModelEvent) (w : ReadWorld) → Reading false config address n old flash room whole low high w → driveOf es (inModel w) ≡ inModel (readRun (eventsIn es) w)
   unfolding driveOf each
   model-run [] w r = refl
   model-run (e ∷ es) w r =
-      ap (driveOf es) (model-step e w r) ∙ model-run es (readStep (eventIn e) w) (reading-step config address n old flash room whole low high (eventIn e) w r)
+      ap (driveOf es) (model-step e w r) ∙ model-run es (readStep (eventIn e) w) (reading-step false config address n old flash room whole low high (eventIn e) w r)
 
 -- a run that is admitted drives the call over its course
 pub admitted-run : (w : World) (course : List ℕ) → length (w .flash) ≡ 8192 → soundOf course ≡ true → runOf course w ≡ leftOf (driveOf (eventsOf course) w)
@@ -210,7 +210,7 @@ module _ (config : Config) (address : ℕ) (buffer work flash : List ℕ) (a : A
           let r = reading config address buffer work flash a gauge some (w .0) (w .1) (eventsAt course) in
           rw (r .is)
           (ended-at (r .at) (r .head) (r .i) (r .b) (r .t) (r .gauge) (r .buffer) (r .work)
-          (buffer-long config address (length work) buffer flash (a .room) (a .whole) (w .0) (w .1) (r .i) (r .buffer) (r .front)) (r .long))
+          (buffer-long false config address (length work) buffer flash (a .room) (a .whole) (w .0) (w .1) (r .i) (r .buffer) (r .front)) (r .long))
 
   pub ends : (course : List ℕ) → soundOf course ≡ true
       → readRan config address buffer work flash gauge course .run .end ≡ endIn (readShows (readRanIn config address buffer work flash gauge course))

@@ -185,13 +185,13 @@ module _ (config : Config) (address : ℕ) (buffer work flash : List ℕ) (a : A
   unfolding each
   host-some some =
       let w = within address (length buffer) (a .window) some in
-      let kept : Reading config address (length work) buffer flash (a .room) (a .whole) (w .0) (w .1) (readRun (events ds) first) =
+      let kept : Reading false config address (length work) buffer flash (a .room) (a .whole) (w .0) (w .1) (readRun (events ds) first) =
       reading config address buffer work flash a gauge some (w .0) (w .1) (events ds) in
       let r = hosted-run readStep readDoes (ReadMay (length buffer) (length work))
-      (Reading config address (length work) buffer flash (a .room) (a .whole) (w .0) (w .1)) (Like (length work))
-      (reading-step config address (length work) buffer flash (a .room) (a .whole) (w .0) (w .1))
+      (Reading false config address (length work) buffer flash (a .room) (a .whole) (w .0) (w .1)) (Like (length work))
+      (reading-step false config address (length work) buffer flash (a .room) (a .whole) (w .0) (w .1))
       (λ d v u may r like. does-like config address (length buffer) (length work) (a .room) d v u (r .at) (r .head) (r .i) (r .b) (r .t) (r .gauge) (r .buffer) (r .work) flash (r .is)
-      (buffer-long config address (length work) buffer flash (a .room) (a .whole) (w .0) (w .1) (r .i) (r .buffer) (r .front)) (r .long) may like)
+      (buffer-long false config address (length work) buffer flash (a .room) (a .whole) (w .0) (w .1) (r .i) (r .buffer) (r .front)) (r .long) may like)
       ds first first allowed (reading config address buffer work flash a gauge some (w .0) (w .1) []) like-start in
       alike (length work) (readHosted ds first) (readRun (events ds) first) (ap (λ (v : ReadWorld). length (v .work)) (kept .is) ∙ kept .long) r
 

@@ -3,18 +3,20 @@
 use Prim.Native.Nat.{ℕ, zero, suc, _+_, _*_, _-_, _≤_, _<_, min}
 use mathlib.Core.Path.{_≡_, refl, sym, ap, _∙_}
 use mathlib.Core.Bool.{Bool, true, false}
-use mathlib.Core.List.{List, [], _∷_}
+use mathlib.Core.List.{List, [], _∷_, _++_}
 use native.Mathlib.Omega.{arith}
 use native.Mathlib.Nat.{zero-sub, sub-zero, suc-sub-suc}
 use lib.ListN.{length, take, drop, length-take, length-drop}
 use lib.Seq.{take-add, drop-drop, take-nil, length-take-le}
 use borrow.Author.Tests.{eq-eqb, le-leb, lt-ltb}
+use Rattle.smbus_pec.specs.Pec.{pecOf}
 use Rattle.protocol.specs.Pick.{if_then_else_}
 use Rattle.protocol.specs.Bytes.{over, blockIn, storedAt, blocksOf}
 use Rattle.protocol.specs.Frame.{sealed, pairOf, macBytes, laidOf, workLaid}
 use Rattle.protocol.specs.Reply.{macAsk, countOf, heardOf, dataOf}
 use Rattle.protocol.specs.declared.common.Config.{Config}
 use Rattle.protocol.specs.declared.error.Answer.{Answer}
+use Rattle.protocol.specs.declared.error.Answer.the-variants as answer
 use Rattle.protocol.specs.declared.reply.Heard.the-variants as reply
 use Rattle.protocol.proofs.Laws.{take-over, length-over, take-min, laid-more}
 use Rattle.engine.specs.Pick.{case_waiting_ended_, case_acknowledged_error_timeout_}
@@ -38,9 +40,9 @@ use Rattle.answers.specs.Runs.{callR}
 use Rattle.promises.specs.Flash.{blockOf}
 use Rattle.promises.specs.Events.{Cause, busError, timedOut, Event, acknowledged, failed, unheard, causeOf, outcomeOf as heardBy, lentOf, after, flashAfter, ackedAfter}
 use Rattle.promises.specs.Host.{makes}
-use Rattle.promises.specs.Reads.{ReadWorld, heard, headSent, asked, lending, readMade}
+use Rattle.promises.specs.Reads.{ReadWorld, heard, headSent, asked, lending, readMade, readStep, damaged, readOver}
 use Rattle.promises.proofs.Machine.{whyOf}
-use Rattle.promises.proofs.Replies.{count-of}
+use Rattle.promises.proofs.Replies.{count-of, reply-damaged}
 
 drop-take : (a b : ℕ) (l : List ℕ) → drop a (take b l) ≡ take (b - a) (drop a l)
 drop-take zero b l = rw sub-zero
@@ -180,7 +182,37 @@ module _ (config : Config) (address size n : ℕ) where
       unfolding bufferAfter judgeOf outcomeOf acknowledgedOf heardBlock verdictOf dueAsk askOf storedOf mostOf readDataflash case_waiting_ended_ case_acknowledged_error_timeout_ case_refused_fault_headed_block_ fitsOf if_then_else_
       received-buffer = rw (eq-eqb (length buffer) size fits, eq-eqb n n refl, good)
 
+    -- ---- the reply is damaged
+
+    pub damaged-head : (front : List ℕ) (last : ℕ)
+        → readOver (damaged front last) (readWorld phase.Waiting true i b t g buffer work flash) ≡ readStep (acknowledged) (readWorld phase.Waiting true i b t g buffer work flash)
+    unfolding readOver readMade makes
+    damaged-head front last = rw shows-head
+
+    module _ (bytes : List ℕ) (wrong : heardOf (blockAsk (size - i * 32) (config .«pec_read»)) bytes ≡ reply.WrongPec) where
+      disbelieved : callR (reportOf (readAt phase.Waiting false i b t) outcome.Acknowledged bytes size n) ≡ failOf (readAt phase.Waiting false i b t) answer.Pec
+      unfolding reportOf judgeOf outcomeOf acknowledgedOf heardBlock verdictOf dueAsk askOf readDataflash case_waiting_ended_ case_acknowledged_error_timeout_ case_refused_fault_headed_block_ fitsOf if_then_else_
+      disbelieved = rw (eq-eqb size size refl, eq-eqb n n refl, wrong)
+
+      disbelieved-buffer : bufferAfter (readAt phase.Waiting false i b t) outcome.Acknowledged bytes buffer n ≡ buffer
+      unfolding bufferAfter judgeOf outcomeOf acknowledgedOf heardBlock verdictOf dueAsk askOf readDataflash case_waiting_ended_ case_acknowledged_error_timeout_ case_refused_fault_headed_block_ fitsOf if_then_else_
+      disbelieved-buffer = rw (eq-eqb (length buffer) size fits, eq-eqb n n refl, wrong)
+
+    pub made-damaged : config .«pec_read» ≡ true → (front : List ℕ) (last : ℕ) → length front ≡ 35 → (pecOf 0 (0x16 ∷ 0x44 ∷ 0x17 ∷ front) ≡ last → ⊥)
+        → readOver (damaged front last) (readWorld phase.Waiting false i b t g buffer work flash)
+        ≡ record { call = failOf (readAt phase.Waiting false i b t) answer.Pec; gauge = repliedOf 0x44 36 g; buffer = buffer; work = work; flash = flash; got = i }
+    unfolding readOver makes heard if_then_else_
+    made-damaged pec front last full other =
+        let wrong : heardOf (blockAsk (size - i * 32) (config .«pec_read»)) (front ++ (last ∷ [])) ≡ reply.WrongPec = rw pec (reply-damaged (size - i * 32) front last full other) in
+        let asks : countAt ≡ 36 = rw pec (count-of true (size - i * 32)) in
+        rw (shows-read, lays-none, asks, long, disbelieved-buffer (front ++ (last ∷ [])) wrong, fits, disbelieved (front ++ (last ∷ [])) wrong)
+
 -- an ended call stays as it is
+pub damaged-over : (config : Config) (address size n : ℕ) (front : List ℕ) (last : ℕ) (a : Answer) (h : Bool) (i : ℕ) (b : Budget) (t : Tally) (g : Gauge) (buffer work flash : List ℕ)
+    → readOver (damaged front last) (readWorld config address size n (phase.Ended a) h i b t g buffer work flash) ≡ readWorld config address size n (phase.Ended a) h i b t g buffer work flash
+unfolding readOver nextOf workAfter case_waiting_ended_ makes
+damaged-over config address size n front last a h i b t g buffer work flash = refl
+
 pub made-over : (config : Config) (address size n : ℕ) (e : Event) (beside : List ℕ) (a : Answer) (h : Bool) (i : ℕ) (b : Budget) (t : Tally) (g : Gauge) (buffer work flash : List ℕ)
     → readMade e beside (readWorld config address size n (phase.Ended a) h i b t g buffer work flash) ≡ readWorld config address size n (phase.Ended a) h i b t g buffer work flash
 unfolding readMade nextOf workAfter case_waiting_ended_ makes

@@ -25,12 +25,12 @@ use Rattle.reading.specs.Reading.{startOf, nextOf}
 use Rattle.r5.specs.Plans.{readDataflash}
 use Rattle.model_gauge.specs.declared.gauge.Gauge.{Gauge}
 use Rattle.promises.specs.Events.{Event, each}
-use Rattle.promises.specs.Reads.{ReadWorld, readBegan, readShows, readRun}
+use Rattle.promises.specs.Reads.{ReadWorld, readBegan, readShows, readRun, Coming, comes, damaged as spoilt, readOver, Damages, readNoisily}
 use Rattle.promises.specs.Reading.{all-got, ReadTold, ReadPromised}
 use Rattle.promises.specs.Demand3.{Accepted}
 use Rattle.promises.proofs.Window.{within}
-use Rattle.promises.proofs.ReadSteps.{readWorld, shows-head, shows-read, made-over}
-use Rattle.promises.proofs.Reading.{Kept, Reading, buffer-long, reading-run}
+use Rattle.promises.proofs.ReadSteps.{readWorld, shows-head, shows-read, made-over, damaged-over}
+use Rattle.promises.proofs.Reading.{Kept, Reading, buffer-long, reading-run, reading-noise}
 
 -- an ended call stays as it is over every list of events
 pub read-ended : (config : Config) (address size n : ℕ) (es : List Event) (a : Answer) (h : Bool) (i : ℕ) (b : Budget) (t : Tally) (g : Gauge) (buffer work flash : List ℕ)
@@ -39,6 +39,15 @@ unfolding each
 read-ended config address size n [] a h i b t g buffer work flash = refl
 read-ended config address size n (e ∷ es) a h i b t g buffer work flash =
     rw (made-over config address size n e [] a h i b t g buffer work flash) (read-ended config address size n es a h i b t g buffer work flash)
+
+pub noise-ended : (config : Config) (address size n : ℕ) (cs : List Coming) (a : Answer) (h : Bool) (i : ℕ) (b : Budget) (t : Tally) (g : Gauge) (buffer work flash : List ℕ)
+    → readNoisily cs (readWorld config address size n (phase.Ended a) h i b t g buffer work flash) ≡ readWorld config address size n (phase.Ended a) h i b t g buffer work flash
+unfolding each readOver
+noise-ended config address size n [] a h i b t g buffer work flash = refl
+noise-ended config address size n (comes e ∷ cs) a h i b t g buffer work flash =
+    rw (made-over config address size n e [] a h i b t g buffer work flash) (noise-ended config address size n cs a h i b t g buffer work flash)
+noise-ended config address size n (spoilt front last ∷ cs) a h i b t g buffer work flash =
+    rw (damaged-over config address size n front last a h i b t g buffer work flash) (noise-ended config address size n cs a h i b t g buffer work flash)
 
 module _ (config : Config) (address : ℕ) (buffer work flash : List ℕ) (a : Accepted address buffer work flash) (gauge : Gauge) where
   abbrev pub start : ReadWorld
@@ -58,57 +67,78 @@ module _ (config : Config) (address : ℕ) (buffer work flash : List ℕ) (a : A
       rw (start-is true (eq-eqb (length buffer) 0 none)) (read-ended config address (length buffer) (length work) es answer.Done true 0 _ nothing gauge buffer work flash)
 
   -- something is to be read
-  pub reading : 0 < length buffer → (low : 0x4000 ≤ address) (high : address + length buffer ≤ 0x6000) (es : List Event)
-      → Reading config address (length work) buffer flash (a .room) (a .whole) low high (readRun es start)
+  begins : (noisy : Bool) → 0 < length buffer → (low : 0x4000 ≤ address) (high : address + length buffer ≤ 0x6000)
+      → Reading noisy config address (length work) buffer flash (a .room) (a .whole) low high start
   unfolding if_then_else_ over
-  reading some low high es =
-      let t : eqb (length buffer) 0 ≡ false = ne-eqb (length buffer) 0 (λ e. omega arith) in
-      reading-run config address (length work) buffer flash (a .room) (a .whole) low high es start
-      (record {
-        at = phase.Waiting;
-        head = true;
-        i = 0;
-        b = record { left = config .«max_bus_retries» };
-        t = nothing;
-        gauge = gauge;
-        buffer = buffer;
-        work = work;
-        is = start-is false t;
-        long = refl;
-        front = refl;
-        kept = (omega arith, λ e. absurd (false≢true (sym e)));
-      })
+  begins noisy some low high = record {
+    at = phase.Waiting;
+    head = true;
+    i = 0;
+    b = record { left = config .«max_bus_retries» };
+    t = nothing;
+    gauge = gauge;
+    buffer = buffer;
+    work = work;
+    is = start-is false (ne-eqb (length buffer) 0 (λ e. omega arith));
+    long = refl;
+    front = refl;
+    kept = (omega arith, λ e. absurd (false≢true (sym e)));
+  }
+
+  pub reading : 0 < length buffer → (low : 0x4000 ≤ address) (high : address + length buffer ≤ 0x6000) (es : List Event)
+      → Reading false config address (length work) buffer flash (a .room) (a .whole) low high (readRun es start)
+  reading some low high es = reading-run false config address (length work) buffer flash (a .room) (a .whole) low high es start (begins false some low high)
 
   -- what is shown
-  told-at : (low : 0x4000 ≤ address) (high : address + length buffer ≤ 0x6000) (p : Phase) (h : Bool) (i : ℕ) (b : Budget) (t : Tally) (g : Gauge) (now work′ : List ℕ)
+  told-at : (noisy : Bool) (low : 0x4000 ≤ address) (high : address + length buffer ≤ 0x6000) (p : Phase) (h : Bool) (i : ℕ) (b : Budget) (t : Tally) (g : Gauge) (now work′ : List ℕ)
       → length now ≡ length buffer → length work′ ≡ length work
-      → Kept config address (length work) buffer flash (a .room) (a .whole) low high p h i g
-      → ReadTold (length buffer) i (readShows (readWorld config address (length buffer) (length work) p h i b t g now work′ flash))
+      → Kept noisy config address (length work) buffer flash (a .room) (a .whole) low high p h i g
+      → ReadTold noisy (length buffer) i (readShows (readWorld config address (length buffer) (length work) p h i b t g now work′ flash))
   unfolding nextOf case_waiting_ended_
-  told-at low high phase.Waiting true i b t g now work′ fits long k = rw (shows-head config address (length buffer) (length work) i b t g now work′ flash fits long (a .room)) (k .0)
-  told-at low high phase.Waiting false i b t g now work′ fits long k = rw (shows-read config address (length buffer) (length work) i b t g now work′ flash fits long (a .room)) (k .0)
-  told-at low high (phase.Ended answer) h i b t g now work′ fits long k = k
+  told-at noisy low high phase.Waiting true i b t g now work′ fits long k = rw (shows-head config address (length buffer) (length work) i b t g now work′ flash fits long (a .room)) (k .0)
+  told-at noisy low high phase.Waiting false i b t g now work′ fits long k = rw (shows-read config address (length buffer) (length work) i b t g now work′ flash fits long (a .room)) (k .0)
+  told-at noisy low high (phase.Ended answer) h i b t g now work′ fits long k = k
 
-  stopped-some : (es : List Event) → 0 < length buffer → ReadPromised address buffer flash (readRun es start)
-  stopped-some es some =
-      let w = within address (length buffer) (a .window) some in
-      let r = reading some (w .0) (w .1) es in
+  promised : (noisy : Bool) (low : 0x4000 ≤ address) (high : address + length buffer ≤ 0x6000) (w : ReadWorld)
+      → Reading noisy config address (length work) buffer flash (a .room) (a .whole) low high w → ReadPromised noisy address buffer flash w
+  promised noisy low high w r =
       rw (r .is)
       (record {
         kept = refl;
         front = r .front;
-        told = told-at (w .0) (w .1) (r .at) (r .head) (r .i) (r .b) (r .t) (r .gauge) (r .buffer) (r .work)
-            (buffer-long config address (length work) buffer flash (a .room) (a .whole) (w .0) (w .1) (r .i) (r .buffer) (r .front)) (r .long) (r .kept);
+        told = told-at noisy low high (r .at) (r .head) (r .i) (r .b) (r .t) (r .gauge) (r .buffer) (r .work)
+            (buffer-long noisy config address (length work) buffer flash (a .room) (a .whole) low high (r .i) (r .buffer) (r .front)) (r .long) (r .kept);
       })
 
-  stopped-empty : (es : List Event) → length buffer ≡ 0 → ReadPromised address buffer flash (readRun es start)
+  -- nothing is to be read
+  promised-empty : (noisy : Bool) → length buffer ≡ 0 → (w : ReadWorld)
+      → w ≡ readWorld config address (length buffer) (length work) (phase.Ended answer.Done) true 0 (record { left = config .«max_bus_retries» }) nothing gauge buffer work flash
+      → ReadPromised noisy address buffer flash w
   unfolding over nextOf case_waiting_ended_
-  stopped-empty es none = rw (read-empty none es) (record { kept = refl; front = refl; told = all-got refl (omega arith) })
+  promised-empty noisy none w is = rw is (record { kept = refl; front = refl; told = all-got refl (omega arith) })
+
+  -- whatever has become of a read, where it keeps what every event keeps
+  stops : (noisy : Bool) (w : ReadWorld)
+      → (length buffer ≡ 0 → w ≡ readWorld config address (length buffer) (length work) (phase.Ended answer.Done) true 0 (record { left = config .«max_bus_retries» }) nothing gauge buffer work flash)
+      → (0 < length buffer → (low : 0x4000 ≤ address) (high : address + length buffer ≤ 0x6000) → Reading noisy config address (length work) buffer flash (a .room) (a .whole) low high w)
+      → ReadPromised noisy address buffer flash w
+  stops noisy w empty reads = by (eqb (length buffer) 0) refl
+    where
+      by : (t : Bool) → eqb (length buffer) 0 ≡ t → ReadPromised noisy address buffer flash w
+      by true t = promised-empty noisy (eqb-true _ _ t) w (empty (eqb-true _ _ t))
+      by false t =
+          let none : length buffer ≡ 0 → ⊥ = eqb-false _ _ t in
+          let inside = within address (length buffer) (a .window) (omega arith) in
+          promised noisy (inside .0) (inside .1) w (reads (omega arith) (inside .0) (inside .1))
 
   -- STOP A READ ANYWHERE
-  pub stopped : (es : List Event) → ReadPromised address buffer flash (readRun es start)
-  stopped es = by (eqb (length buffer) 0) refl
-    where
-      by : (t : Bool) → eqb (length buffer) 0 ≡ t → ReadPromised address buffer flash (readRun es start)
-      by true t = stopped-empty es (eqb-true _ _ t)
-      by false t = let none : length buffer ≡ 0 → ⊥ = eqb-false _ _ t in stopped-some es (omega arith)
+  pub stopped : (es : List Event) → ReadPromised false address buffer flash (readRun es start)
+  stopped es = stops false (readRun es start) (λ none. read-empty none es) (λ some low high. reading some low high es)
+
+  -- ALSO WHERE REPLIES ARE DAMAGED
+  pub damaged : config .«pec_read» ≡ true → (cs : List Coming) → Damages cs → ReadPromised true address buffer flash (readNoisily cs start)
+  unfolding if_then_else_
+  damaged pec cs d =
+      stops true (readNoisily cs start)
+      (λ none. rw (start-is true (eq-eqb (length buffer) 0 none)) (noise-ended config address (length buffer) (length work) cs answer.Done true 0 _ nothing gauge buffer work flash))
+      (λ some low high. reading-noise true config address (length work) buffer flash (a .room) (a .whole) low high refl pec cs d start (begins true some low high))

@@ -9,10 +9,12 @@ use lib.Dec.{eqb, leb}
 use lib.ListN.{length, take, drop, length-take, length-drop}
 use lib.Seq.{length-take-le}
 use borrow.Author.Tests.{le-leb, leb-true, leb-false}
+use Rattle.smbus_pec.specs.Pec.{pecOf}
 use Rattle.protocol.specs.Pick.{if_then_else_}
 use Rattle.protocol.specs.Bytes.{over, storedAt, blocksOf}
 use Rattle.protocol.specs.Reply.{dataOf}
 use Rattle.protocol.specs.declared.common.Config.{Config}
+use Rattle.protocol.specs.declared.error.Answer.{Answer}
 use Rattle.protocol.specs.declared.error.Answer.the-variants as answer
 use Rattle.protocol.proofs.Laws.{length-over}
 use Rattle.engine.specs.Pick.{case_retry_spent_}
@@ -29,18 +31,18 @@ use Rattle.model_gauge.specs.Gauge.{offsetOf, pointed, repliesTo, movedOf, repl
 use Rattle.model_gauge.specs.declared.gauge.Gauge.{Gauge}
 use Rattle.promises.specs.Flash.{placeOf, blockOf}
 use Rattle.promises.specs.Events.{Cause, Event, acknowledged, failed, unheard, causeOf, outcomeOf as heardBy, after, flashAfter, ackedAfter, each}
-use Rattle.promises.specs.Reads.{ReadWorld, heard, readStep, readRun}
-use Rattle.promises.specs.Reading.{flashBytes, ReadAnswered, all-got, gave-up}
+use Rattle.promises.specs.Reads.{ReadWorld, heard, readStep, readRun, Coming, comes, damaged, readOver, Damages, readNoisily}
+use Rattle.promises.specs.Reading.{flashBytes, ReadAnswered, all-got, gave-up, disbelieved}
 use Rattle.promises.proofs.Machine.{whyOf, why-number}
 use Rattle.promises.proofs.Replies.{cutReply, reply-good, reply-data}
 use Rattle.promises.proofs.Frames.{address-points, address-stores}
-use Rattle.promises.proofs.ReadSteps.{wanted-block, ask-small, readAt, readWorld, headOf, head-long, made-head, countAt, broughtAt, made-read, heard-failed, head-heard, head-heard-buffer, received, received-buffer, made-over, block-in}
+use Rattle.promises.proofs.ReadSteps.{wanted-block, ask-small, readAt, readWorld, headOf, head-long, made-head, countAt, broughtAt, made-read, heard-failed, head-heard, head-heard-buffer, received, received-buffer, made-damaged, made-over, damaged-head, damaged-over, block-in}
 
 -- as many bytes of the flash as are wanted
 pub flash-long : (address size : ℕ) (flash : List ℕ) → length flash ≡ 8192 → 0x4000 ≤ address → address + size ≤ 0x6000 → length (flashBytes address size flash) ≡ size
 flash-long address size flash whole low high = length-take-le size (drop (placeOf address) flash) (simp length-drop (omega arith))
 
-module _ (config : Config) (address n : ℕ) (old flash : List ℕ) (room : 39 ≤ n) (whole : length flash ≡ 8192)
+module _ (noisy : Bool) (config : Config) (address n : ℕ) (old flash : List ℕ) (room : 39 ≤ n) (whole : length flash ≡ 8192)
     (low : 0x4000 ≤ address) (high : address + length old ≤ 0x6000) where
   abbrev pub size : ℕ
   size = length old
@@ -54,7 +56,7 @@ module _ (config : Config) (address n : ℕ) (old flash : List ℕ) (room : 39 �
   -- a call that waits has a block to read, and where its head was heard the pointer stands at that block; one that has ended says what has come
   abbrev pub Kept : Phase → Bool → ℕ → Gauge → Type 0
   Kept phase.Waiting h i g = (i * 32 < size) × (h ≡ false → g .pointer ≡ address + i * 32)
-  Kept (phase.Ended a) h i g = ReadAnswered size i a
+  Kept (phase.Ended a) h i g = ReadAnswered noisy size i a
 
   -- the blocks that were acknowledged stand in front, and the rest of the buffer is as it was; the flash is as it was
   pub record Reading (w : ReadWorld) : Type 0 where
@@ -75,17 +77,17 @@ module _ (config : Config) (address n : ℕ) (old flash : List ℕ) (room : 39 �
   buffer-long i buffer e = ap length e ∙ length-over (take (i * 32) wanted) old (omega (arith, length-take (i * 32) wanted, wanted-long))
 
   -- a failed attempt: the head is due again, or the call gives up
-  reading-failed : (c : Cause) (h : Bool) (i : ℕ) (b : Budget) (t : Tally) (g : Gauge) (buffer work : List ℕ) → length work ≡ n → i * 32 < size
+  reading-failed : (why : Answer) (h : Bool) (i : ℕ) (b : Budget) (t : Tally) (g : Gauge) (buffer work : List ℕ) → length work ≡ n → i * 32 < size → ReadAnswered noisy size i why
       → buffer ≡ over (take (i * 32) wanted) old
-      → Reading (record { call = failOf (readAt config address size n phase.Waiting h i b t) (whyOf c); gauge = g; buffer = buffer; work = work; flash = flash; got = i })
+      → Reading (record { call = failOf (readAt config address size n phase.Waiting h i b t) why; gauge = g; buffer = buffer; work = work; flash = flash; got = i })
   unfolding failOf failedOf case_retry_spent_ retryOf endOf hasHead readDataflash if_then_else_
-  reading-failed c h i b t g buffer work long l f = by (eqb (b .left) 0) refl
+  reading-failed why h i b t g buffer work long l says f = by (eqb (b .left) 0) refl
     where
       by : (z : Bool) → eqb (b .left) 0 ≡ z
-          → Reading (record { call = failOf (readAt config address size n phase.Waiting h i b t) (whyOf c); gauge = g; buffer = buffer; work = work; flash = flash; got = i })
+          → Reading (record { call = failOf (readAt config address size n phase.Waiting h i b t) why; gauge = g; buffer = buffer; work = work; flash = flash; got = i })
       by true z =
           rw z
-          (record { at = phase.Ended (whyOf c); head = h; i = i; b = b; t = t; gauge = g; buffer = buffer; work = work; is = refl; long = long; front = f; kept = gave-up (why-number c) l })
+          (record { at = phase.Ended why; head = h; i = i; b = b; t = t; gauge = g; buffer = buffer; work = work; is = refl; long = long; front = f; kept = says })
       by false z =
           rw z
           (record {
@@ -136,7 +138,7 @@ module _ (config : Config) (address n : ℕ) (old flash : List ℕ) (room : 39 �
     head-failed e c o g′ p q =
         let laid : length (over (headOf config address size n i) work) ≡ n = head-long config address size n i b t g buffer work flash fits long room in
         rw (made-head config address size n i b t g buffer work flash fits long room e [], heard-failed config address size n i b t g buffer work flash fits long room e c o true [] [] (over (headOf config address size n i) work) laid (after e g (pointed (headOf config address size n i) g)) (flashAfter e (headOf config address size n i) flash) i, p, q)
-        (reading-failed c true i b t g′ buffer (over (headOf config address size n i) work) laid l f)
+        (reading-failed (whyOf c) true i b t g′ buffer (over (headOf config address size n i) work) laid l (gave-up (why-number c) l) f)
 
     head-event : (e : Event) → Reading (readStep e (readWorld config address size n phase.Waiting true i b t g buffer work flash))
     head-event acknowledged =
@@ -187,7 +189,7 @@ module _ (config : Config) (address n : ℕ) (old flash : List ℕ) (room : 39 �
     read-failed e c o k =
         let count : ℕ = countAt config address size n i b t g buffer work flash fits long room in
         rw (made-read config address size n i b t g buffer work flash fits long room e [], k, heard-failed config address size n i b t g buffer work flash fits long room e c o false (broughtAt config address size n i b t g buffer work flash fits long room) [] work long (after e g (repliedOf 0x44 count g)) flash i)
-        (reading-failed c false i b t (after e g (repliedOf 0x44 count g)) buffer work long l f)
+        (reading-failed (whyOf c) false i b t (after e g (repliedOf 0x44 count g)) buffer work long l (gave-up (why-number c) l) f)
 
     read-event : (e : Event) → g .pointer ≡ address + i * 32 → Reading (readStep e (readWorld config address size n phase.Waiting false i b t g buffer work flash))
     read-event acknowledged q =
@@ -209,6 +211,13 @@ module _ (config : Config) (address n : ℕ) (old flash : List ℕ) (room : 39 �
     read-event (failed c) q = read-failed (failed c) c refl refl
     read-event (unheard c) q = read-failed (unheard c) c refl refl
 
+    -- the reply is damaged: the gauge has acted, and the attempt failed
+    read-damaged : noisy ≡ true → config .«pec_read» ≡ true → (front : List ℕ) (last : ℕ) → length front ≡ 35 → (pecOf 0 (0x16 ∷ 0x44 ∷ 0x17 ∷ front) ≡ last → ⊥)
+        → Reading (readOver (damaged front last) (readWorld config address size n phase.Waiting false i b t g buffer work flash))
+    read-damaged noise pec front last full other =
+        rw (made-damaged config address size n i b t g buffer work flash fits long room pec front last full other)
+        (reading-failed answer.Pec false i b t (repliedOf 0x44 36 g) buffer work long l (disbelieved noise refl l) f)
+
   -- ---- every event
 
   reading-at : (e : Event) (p : Phase) (h : Bool) (i : ℕ) (b : Budget) (t : Tally) (g : Gauge) (buffer work : List ℕ) → length work ≡ n
@@ -227,3 +236,23 @@ module _ (config : Config) (address n : ℕ) (old flash : List ℕ) (room : 39 �
   unfolding each
   reading-run [] w r = r
   reading-run (e ∷ es) w r = reading-run es (readStep e w) (reading-step e w r)
+
+  -- ---- and every reply that is damaged
+
+  damaged-at : noisy ≡ true → config .«pec_read» ≡ true → (front : List ℕ) (last : ℕ) → length front ≡ 35 → (pecOf 0 (0x16 ∷ 0x44 ∷ 0x17 ∷ front) ≡ last → ⊥)
+      → (p : Phase) (h : Bool) (i : ℕ) (b : Budget) (t : Tally) (g : Gauge) (buffer work : List ℕ) → length work ≡ n → buffer ≡ over (take (i * 32) wanted) old → Kept p h i g
+      → Reading (readOver (damaged front last) (readWorld config address size n p h i b t g buffer work flash))
+  damaged-at noise pec front last full other (phase.Ended a) h i b t g buffer work long f k =
+      rw (damaged-over config address size n front last a h i b t g buffer work flash)
+      (record { at = phase.Ended a; head = h; i = i; b = b; t = t; gauge = g; buffer = buffer; work = work; is = refl; long = long; front = f; kept = k })
+  damaged-at noise pec front last full other phase.Waiting true i b t g buffer work long f k =
+      rw (damaged-head config address size n i b t g buffer work flash (buffer-long i buffer f) long room front last) (head-event i b t g buffer work long (k .0) f acknowledged)
+  damaged-at noise pec front last full other phase.Waiting false i b t g buffer work long f k = read-damaged i b t g buffer work long (k .0) f noise pec front last full other
+
+  pub reading-noise : noisy ≡ true → config .«pec_read» ≡ true → (cs : List Coming) → Damages cs → (w : ReadWorld) → Reading w → Reading (readNoisily cs w)
+  unfolding each readOver
+  reading-noise noise pec [] d w r = r
+  reading-noise noise pec (comes e ∷ cs) d w r = reading-noise noise pec cs d (readStep e w) (reading-step e w r)
+  reading-noise noise pec (damaged front last ∷ cs) (full, other, d) w r =
+      reading-noise noise pec cs d (readOver (damaged front last) w)
+      (rw (r .is) (damaged-at noise pec front last full other (r .at) (r .head) (r .i) (r .b) (r .t) (r .gauge) (r .buffer) (r .work) (r .long) (r .front) (r .kept)))

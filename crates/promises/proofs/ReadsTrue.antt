@@ -2,7 +2,7 @@
 -- Assumes nothing.
 use Prim.Native.Nat.{ℕ, zero, suc, _+_, _*_, _≤_, _<_, min}
 use mathlib.Core.Path.{_≡_, refl, ap, subst, _∙_}
-use mathlib.Core.Bool.{Bool, true, false}
+use mathlib.Core.Bool.{Bool, true, false, false≢true}
 use mathlib.Core.Logic.{inl, inr}
 use mathlib.Core.List.{List, append-assoc, append-nil}
 use native.Mathlib.Omega.{arith}
@@ -35,24 +35,25 @@ use Rattle.promises.specs.Events.{acknowledged, each}
 use Rattle.promises.specs.Reads.{ReadWorld, readShows, readRun}
 use Rattle.promises.specs.Demand3.{endIn, EndedWell, clean, Accepted}
 use Rattle.promises.specs.Courses.{eventsAt, ran}
-use Rattle.promises.specs.Reading.{flashBytes, ReadAnswered, all-got, gave-up, ReadTold, readRan, readRanIn, ReadsTrue}
+use Rattle.promises.specs.Reading.{flashBytes, ReadAnswered, all-got, gave-up, disbelieved, ReadTold, readRan, readRanIn, ReadsTrue}
 use Rattle.promises.proofs.Window.{within}
 use Rattle.promises.proofs.Courses.{run-leaves, heard-sound, heard-in, unbroken}
 use Rattle.promises.proofs.ReadSteps.{readWorld, headOf, head-long}
 use Rattle.promises.proofs.Reading.{flash-long, step-head-heard, blockAfter, step-read-heard, block-after}
-use Rattle.promises.proofs.ReadStopped.{start, start-is, read-ended, read-empty, stopped}
+use Rattle.promises.proofs.ReadStopped.{start, start-is, read-ended, read-empty, stopped, damaged}
 use Rattle.promises.proofs.ReadHost.{any-host}
 use Rattle.promises.proofs.ReadCourses.{same, ends, runs-on}
 
 -- ---- a read that ends well
 
 -- has had every block
-done-all : (n i : ℕ) (a : Answer) → numberOf a ≡ 0 → ReadAnswered n i a → n ≤ i * 32
+done-all : (n i : ℕ) (a : Answer) → numberOf a ≡ 0 → ReadAnswered false n i a → n ≤ i * 32
 done-all n i a w (all-got z h) = h
 done-all n i a w (gave-up (inl z) h) = absurd (omega arith)
 done-all n i a w (gave-up (inr z) h) = absurd (omega arith)
+done-all n i a w (disbelieved noise z h) = absurd (false≢true noise)
 
-well-all : (n i : ℕ) (t : Transfer) → EndedWell (endIn t) → ReadTold n i t → n ≤ i * 32
+well-all : (n i : ℕ) (t : Transfer) → EndedWell (endIn t) → ReadTold false n i t → n ≤ i * 32
 well-all n i (transfer.Write count) w s = absurd w
 well-all n i (transfer.Read command count) w s = absurd w
 well-all n i (transfer.Refused a) w s = absurd s
@@ -106,12 +107,12 @@ module _ (config : Config) (address n : ℕ) (old flash : List ℕ) (room : 39 �
   unfolding each phaseAfter if_then_else_
   reads-on zero i b t g buffer work long l k q f = absurd (omega arith)
   reads-on (suc m) i b t g buffer work long l k q f =
-      ap (λ (w : ReadWorld). readRun (replicate m acknowledged) w .call .phase) (step-read-heard config address n old flash room whole low high i b t g buffer work long l f)
+      ap (λ (w : ReadWorld). readRun (replicate m acknowledged) w .call .phase) (step-read-heard false config address n old flash room whole low high i b t g buffer work long l f)
       ∙ by (leb (blocksOf (length old)) (suc i)) refl
-      (λ z. reads-on m (suc i) b t (record { pointer = min (g .pointer + 32) 0x6000 }) (blockAfter config address n old flash room whole low high i b t g buffer work long l f) work long (omega arith) (omega arith) (omega arith) (block-after config address n old flash room whole low high i b t g buffer work long l f q))
+      (λ z. reads-on m (suc i) b t (record { pointer = min (g .pointer + 32) 0x6000 }) (blockAfter false config address n old flash room whole low high i b t g buffer work long l f) work long (omega arith) (omega arith) (omega arith) (block-after false config address n old flash room whole low high i b t g buffer work long l f q))
     where
       next : Phase → ReadWorld
-      next p = readWorld config address (length old) n p false (suc i) b t (record { pointer = min (g .pointer + 32) 0x6000 }) (blockAfter config address n old flash room whole low high i b t g buffer work long l f) work flash
+      next p = readWorld config address (length old) n p false (suc i) b t (record { pointer = min (g .pointer + 32) 0x6000 }) (blockAfter false config address n old flash room whole low high i b t g buffer work long l f) work flash
 
       by : (z : Bool) → leb (blocksOf (length old)) (suc i) ≡ z
           → (suc i < blocksOf (length old) → readRun (replicate m acknowledged) (next phase.Waiting) .call .phase ≡ phase.Ended answer.Done)
@@ -127,7 +128,7 @@ module _ (config : Config) (address n : ℕ) (old flash : List ℕ) (room : 39 �
   reads-all (suc m) b t g work long some k =
       let more : leb (blocksOf (length old)) 0 ≡ false = lt-leb (blocksOf (length old)) 0 (omega arith) in
       ap (λ (w : ReadWorld). readRun (replicate m acknowledged) w .call .phase)
-      (step-head-heard config address n old flash room whole low high 0 b t g old work long (omega arith) refl ∙ rw more)
+      (step-head-heard false config address n old flash room whole low high 0 b t g old work long (omega arith) refl ∙ rw more)
       ∙ reads-on m 0 b t (record { pointer = address + 0 * 32 }) old (over (headOf config address (length old) n 0) work)
       (head-long config address (length old) n 0 b t g old work flash refl long room) (omega arith) (omega arith) refl refl
 
@@ -193,6 +194,7 @@ pub reads-true : ReadsTrue
 reads-true =
     record {
       stopped = λ config address buffer work flash a gauge es. stopped config address buffer work flash a gauge es;
+      damaged = λ config address buffer work flash a pec gauge cs d. damaged config address buffer work flash a gauge pec cs d;
       any-host = λ config address buffer work flash a gauge doings allowed. any-host config address buffer work flash a gauge doings allowed;
       same = λ config address buffer work flash a gauge course sound. same config address buffer work flash a gauge course sound;
       reads = λ config address buffer work flash a gauge course sound. reads config address buffer work flash a gauge course sound;

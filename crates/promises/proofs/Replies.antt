@@ -1,23 +1,25 @@
 -- The gauge's reply, as the reading call hears it: of the number asked, believed with a PEC or without, and its data is the flash's.
 -- Assumes nothing.
 use Prim.Native.Nat.{ℕ, suc, _+_, _-_, _≤_, min}
-use mathlib.Core.Path.{_≡_, refl, sym, ap, _∙_}
+use mathlib.Core.Path.{_≡_, refl, sym, ap, subst, _∙_}
 use mathlib.Core.Bool.{Bool, true, false}
 use mathlib.Core.List.{List, [], _∷_, _++_}
 use native.Mathlib.Omega.{arith}
 use lib.ListN.{length, take, drop, getD, replicate, length-append, length-take, length-drop}
-use lib.Seq.{take-all, take-take, take-append-le, take-append-seam, getD-append-seam, length-take-le}
-use borrow.Author.Tests.{eq-eqb}
+use lib.Seq.{take-all, take-take, take-append-le, take-append-seam, getD-append-seam, length-take-le, take-at}
+use borrow.Author.Tests.{eq-eqb, ne-eqb}
 use Rattle.smbus_pec.specs.Pec.{pecOf}
 use Rattle.protocol.specs.Pick.{if_then_else_}
 use Rattle.protocol.specs.Reply.{macAsk, leadOf, aroundOf, countOf, checkedOf, heardOf, dataOf}
 use Rattle.protocol.specs.declared.reply.Heard.the-variants as heard
 use Rattle.protocol.proofs.Cases.{not-eq}
+use Rattle.protocol.proofs.Shared.{laws}
 use Rattle.reading.specs.Parts.{blockAsk}
 use Rattle.model_gauge.specs.Gauge.{offsetOf, replyOf}
 use Rattle.model_gauge.specs.Replies.{said}
 use Rattle.model_gauge.specs.declared.gauge.Gauge.{Gauge}
 use Rattle.model_gauge.proofs.Replies.{replied}
+use Rattle.original.proofs.Replies.{checked-last}
 
 module _ (gauge : Gauge) (flash : List ℕ) where
   reply-long : length (replyOf gauge flash) ≡ 36
@@ -57,6 +59,19 @@ reply-good gauge flash true left =
 reply-good gauge flash false left =
     let n : min (min 32 left + 3) 18446744073709551615 ≤ length (replyOf gauge flash) = omega (arith, reply-long gauge flash) in
     rw (eq-eqb (min (min 32 left + 3) 18446744073709551615) _ (sym (length-take-le _ (replyOf gauge flash) n)))
+
+-- a reply of the number asked whose last byte is not its PEC is not
+pub reply-damaged : (left : ℕ) (front : List ℕ) (last : ℕ) → length front ≡ 35 → (pecOf 0 (0x16 ∷ 0x44 ∷ 0x17 ∷ front) ≡ last → ⊥)
+    → heardOf (blockAsk left true) (front ++ (last ∷ [])) ≡ heard.WrongPec
+unfolding blockAsk macAsk if_then_else_
+reply-damaged left front last full other =
+    let long : length (front ++ (last ∷ [])) ≡ 36 = length-append front (last ∷ []) ∙ rw full refl in
+    laws .wrong-pec (blockAsk left true) (front ++ (last ∷ [])) (count-of true left ∙ sym long) refl
+    (checked-last 0x44 35 (front ++ (last ∷ [])) long
+    ∙ rw (take-at front (last ∷ []) 35 full, ends) (ne-eqb last (pecOf 0 (0x16 ∷ 0x44 ∷ 0x17 ∷ front)) (λ e. other (sym e))))
+  where
+    ends : getD (front ++ (last ∷ [])) 35 0 ≡ last
+    ends = subst (λ (n : ℕ). getD (front ++ (last ∷ [])) n 0 ≡ last) full (getD-append-seam front last [] 0)
 
 -- a part of the 32 bytes that a reply brings, all of it inside the flash, is the flash's
 brought : (c d at : ℕ) (flash end : List ℕ) → c ≤ d → c ≤ 32 → at + c ≤ length flash

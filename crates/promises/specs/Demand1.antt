@@ -4,6 +4,7 @@
 -- Assumes nothing.
 use Prim.Native.Nat.{ℕ, _≤_}
 use mathlib.Core.Path.{_≡_}
+use mathlib.Core.Bool.{true}
 use mathlib.Core.List.{List}
 use mathlib.Core.Logic.{_↔_}
 use lib.ListN.{length}
@@ -19,7 +20,7 @@ use Rattle.original.specs.Bus.{BusOutcome}
 use Rattle.original.specs.Fed.{Lending, Lends}
 use Rattle.original.specs.Fronts.{Fronts}
 use Rattle.answers.specs.Rows.{Numbers, Says, Starts, Failure, saidW, saidR, Writes, Reads, SortW, SortR}
-use Rattle.answers.specs.Steps.{Shown, Again, HandsOut, CostW, CostR, Delivers}
+use Rattle.answers.specs.Steps.{Shown, AsksNothing, AsksOf, Again, HandsOut, CostW, CostR, Delivers}
 use Rattle.answers.specs.Calls.{Admitted, Limits}
 use Rattle.answers.specs.Runs.{Stays}
 use Rattle.answers.specs.Unique.{Unique}
@@ -54,11 +55,11 @@ pub record Demand1 : Type 0 where
   -- wherever a reading call stops, ended well, failed or cut, the front of the buffer is the data of the replies that were believed, and the rest is as it was
   pub fronts : (config : Config) → config .«max_bus_retries» ≤ 65535 → (w : ℕ) → 39 ≤ w → (lent : ℕ → Lending) → Lends w lent → (outcomes : List BusOutcome)
       → Fronts config w lent outcomes
-  -- what is shown, and when the work buffer is spared
+  -- what is shown, and when the work buffer is spared: a writing call shows frames alone, a reading call its head where that is due, else what it asks for
   pub shown-w : (call : WriteCall) (payload work : List ℕ)
-      → Shown (call .phase) (call .task .lent) (length payload) (length work) work (writing.workAfter call payload work) (writing.nextOf call payload (length work))
+      → Shown (Unit {0}) AsksNothing (call .phase) (call .task .lent) (length payload) (length work) work (writing.workAfter call payload work) (writing.nextOf call payload (length work))
   pub shown-r : (call : ReadCall) (n : ℕ) (work : List ℕ)
-      → Shown (call .phase) (call .task .lent) n (length work) work (reading.workAfter call n work) (reading.nextOf call n (length work))
+      → Shown (call .heading ≡ true) (AsksOf call) (call .phase) (call .task .lent) n (length work) work (reading.workAfter call n work) (reading.nextOf call n (length work))
   -- the same if asked again
   pub shown-again : Again
   -- an answer stands: no report changes a call that has ended or was refused, nor the buffer

@@ -3,7 +3,7 @@
 -- Assumes nothing.
 use Prim.Native.Nat.{ℕ, _+_, _*_, _≤_, _<_}
 use mathlib.Core.Path.{_≡_}
-use mathlib.Core.Bool.{true}
+use mathlib.Core.Bool.{Bool, true, false}
 use mathlib.Core.Logic.{_⊎_}
 use mathlib.Core.List.{List, _++_}
 use lib.ListN.{length, take, drop, replicate}
@@ -19,7 +19,7 @@ use Rattle.courses.specs.ReadRun.{World, Left, world, left, runOf}
 use Rattle.promises.specs.Flash.{placeOf}
 use Rattle.promises.specs.Events.{Event}
 use Rattle.promises.specs.Host.{Doing, events, Allowed}
-use Rattle.promises.specs.Reads.{ReadWorld, readBegan, readShows, readRun, readDoes, ReadMay, readHosted, ReadAlike}
+use Rattle.promises.specs.Reads.{ReadWorld, readBegan, readShows, readRun, Coming, Damages, readNoisily, readDoes, ReadMay, readHosted, ReadAlike}
 use Rattle.promises.specs.Demand3.{endIn, EndedWell, Accepted}
 use Rattle.promises.specs.Courses.{eventsAt, ran}
 
@@ -29,26 +29,27 @@ flashBytes address n flash = take n (drop (placeOf address) flash)
 
 -- ---- over events
 
--- what an answer says of i acknowledged reads of a buffer of n bytes: 0, every block has come; 1 or 2, one has not
-pub data ReadAnswered (n i : ℕ) (a : Answer) : Type 0 where
-  all-got : numberOf a ≡ 0 → n ≤ i * 32 → ReadAnswered n i a
-  gave-up : (numberOf a ≡ 1) ⊎ (numberOf a ≡ 2) → i * 32 < n → ReadAnswered n i a
+-- what an answer says of i acknowledged reads of a buffer of n bytes: 0, every block has come; 1 or 2, one has not; so does 3, where replies are damaged
+pub data ReadAnswered (noisy : Bool) (n i : ℕ) (a : Answer) : Type 0 where
+  all-got : numberOf a ≡ 0 → n ≤ i * 32 → ReadAnswered noisy n i a
+  gave-up : (numberOf a ≡ 1) ⊎ (numberOf a ≡ 2) → i * 32 < n → ReadAnswered noisy n i a
+  disbelieved : noisy ≡ true → numberOf a ≡ 3 → i * 32 < n → ReadAnswered noisy n i a
 
 -- what the machine shows then: a transfer, where a block is left to read, or such an answer; never a refusal
-abbrev pub ReadTold : ℕ → ℕ → Transfer → Type 0
-ReadTold n i (transfer.Write count) = i * 32 < n
-ReadTold n i (transfer.Read command count) = i * 32 < n
-ReadTold n i (transfer.Refused a) = ⊥
-ReadTold n i (transfer.Ended a) = ReadAnswered n i a
+abbrev pub ReadTold : Bool → ℕ → ℕ → Transfer → Type 0
+ReadTold noisy n i (transfer.Write count) = i * 32 < n
+ReadTold noisy n i (transfer.Read command count) = i * 32 < n
+ReadTold noisy n i (transfer.Refused a) = ⊥
+ReadTold noisy n i (transfer.Ended a) = ReadAnswered noisy n i a
 
--- at every point of stopping
-pub record ReadPromised (address : ℕ) (buffer flash : List ℕ) (w : ReadWorld) : Type 0 where
+-- at every point of stopping, on a bus that damages replies or one that does not
+pub record ReadPromised (noisy : Bool) (address : ℕ) (buffer flash : List ℕ) (w : ReadWorld) : Type 0 where
   -- the flash is as it was
   pub kept : w .flash ≡ flash
   -- the buffer has the flash's bytes in front, as many blocks as were acknowledged, and the rest of it is as it was
   pub front : w .buffer ≡ over (take (w .got * 32) (flashBytes address (length buffer) flash)) buffer
   -- and what the machine shows
-  pub told : ReadTold (length buffer) (w .got) (readShows w)
+  pub told : ReadTold noisy (length buffer) (w .got) (readShows w)
 
 -- ---- over courses
 
@@ -76,7 +77,10 @@ read-over l = world (l .run .reader) (l .buffer) (l .work) (l .flash)
 pub record ReadsTrue : Type 0 where
   -- stop anywhere, whatever each failure's cause, with a PEC or without, from whatever pointer
   pub stopped : (config : Config) (address : ℕ) (buffer work flash : List ℕ) → Accepted address buffer work flash → (gauge : Gauge) (es : List Event)
-      → ReadPromised address buffer flash (readRun es (readBegan gauge config address buffer work flash))
+      → ReadPromised false address buffer flash (readRun es (readBegan gauge config address buffer work flash))
+  -- with a PEC also on a bus that damages replies: no byte of such a reply is in the buffer, and the block is asked for again by its own address
+  pub damaged : (config : Config) (address : ℕ) (buffer work flash : List ℕ) → Accepted address buffer work flash → config .«pec_read» ≡ true → (gauge : Gauge)
+      → (cs : List Coming) → Damages cs → ReadPromised true address buffer flash (readNoisily cs (readBegan gauge config address buffer work flash))
   -- any host: whatever work buffer it lends, whatever lies in the reply beside a failure and whatever refused report comes in between, nothing else changes
   pub any-host : (config : Config) (address : ℕ) (buffer work flash : List ℕ) → Accepted address buffer work flash → (gauge : Gauge)
       → (doings : List Doing) → Allowed readDoes (ReadMay (length buffer) (length work)) doings (readBegan gauge config address buffer work flash)

@@ -2,8 +2,9 @@
 -- Assumes nothing.
 use Prim.Native.Nat.{ℕ}
 use mathlib.Core.Path.{_≡_}
-use mathlib.Core.List.{List, []}
+use mathlib.Core.List.{List, [], _∷_, _++_}
 use lib.ListN.{length, take}
+use Rattle.smbus_pec.specs.Pec.{pecOf}
 use Rattle.protocol.specs.Pick.{if_then_else_}
 use Rattle.protocol.specs.Bytes.{over}
 use Rattle.protocol.specs.declared.common.Config.{Config}
@@ -14,7 +15,7 @@ use Rattle.r5.specs.Plans.{readDataflash}
 use Rattle.model_gauge.specs.Gauge.{pointed, repliesTo, replyOf, repliedOf}
 use Rattle.model_gauge.specs.declared.gauge.Gauge.{Gauge}
 use Rattle.answers.specs.Runs.{callR}
-use Rattle.promises.specs.Events.{Event, outcomeOf, lentOf, after, flashAfter, ackedAfter, each}
+use Rattle.promises.specs.Events.{Event, acknowledged, outcomeOf, lentOf, after, flashAfter, ackedAfter, each}
 use Rattle.promises.specs.Host.{makes, Doing, transfers, reports, Misplaced}
 
 -- the call, the gauge, the caller's buffer and the work buffer; the flash; how many reads were acknowledged
@@ -86,6 +87,30 @@ readStep e w = readMade e [] w
 -- a transfer for each event. Every point of stopping is the end of some list
 abbrev pub readRun : List Event → ReadWorld → ReadWorld
 readRun es w = each readStep es w
+
+-- ---- a bus that damages replies
+
+-- what becomes of a transfer on it: what becomes of any; or a read is replied to, and the reply comes with these bytes. A head has no reply
+pub data Coming : Type 0 where
+  comes : Event → Coming
+  damaged : (front : List ℕ) (last : ℕ) → Coming
+
+-- the call hears of a reply what came of it
+unfoldable pub readOver : Coming → ReadWorld → ReadWorld
+readOver (comes e) w = readStep e w
+readOver (damaged front last) w =
+    let laid : List ℕ = readLaid w in
+    makes (λ n. headSent acknowledged [] laid n w)
+    (λ command count. heard acknowledged (front ++ (last ∷ [])) [] laid (repliedOf command count (w .gauge)) (w .flash) (w .got) w) (lending laid w) (readShows w)
+
+-- where a reply has a PEC it has 36 bytes, and is damaged where the last is not the PEC of 16, 44, 17 and the others
+abbrev pub Damages : List Coming → Type 0
+Damages [] = Unit {0}
+Damages (comes e ∷ cs) = Damages cs
+Damages (damaged front last ∷ cs) = (length front ≡ 35) × (pecOf 0 (0x16 ∷ 0x44 ∷ 0x17 ∷ front) ≡ last → ⊥) × Damages cs
+
+abbrev pub readNoisily : List Coming → ReadWorld → ReadWorld
+readNoisily cs w = each readOver cs w
 
 -- ---- any host
 

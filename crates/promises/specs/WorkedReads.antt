@@ -1,13 +1,14 @@
 -- The reader's promise is about something: worked runs of a read of 33 bytes with one retry, that reach each answer such a call can give.
 -- Assumes nothing.
 use mathlib.Core.Path.{_≡_, refl}
-use mathlib.Core.Bool.{false}
+use mathlib.Core.Bool.{true, false}
 use mathlib.Core.List.{List, [], _∷_, _++_}
 use lib.ListN.{replicate}
+use Rattle.smbus_pec.specs.Pec.{bitStep, bitSteps, byteStep, pecOf}
 use Rattle.protocol.specs.Pick.{if_then_else_}
 use Rattle.protocol.specs.Bytes.{over, blockIn, storedAt}
 use Rattle.protocol.specs.Frame.{sealed, pairOf, macBytes, laidOf, workLaid}
-use Rattle.protocol.specs.Reply.{macAsk, leadOf, aroundOf, countOf, heardOf, dataOf}
+use Rattle.protocol.specs.Reply.{macAsk, leadOf, aroundOf, countOf, checkedOf, heardOf, dataOf}
 use Rattle.protocol.specs.Window.{inWindow}
 use Rattle.protocol.specs.declared.error.Answer.the-variants as answer
 use Rattle.engine.specs.Pick.{case_waiting_ended_, case_acknowledged_error_timeout_, case_retry_spent_}
@@ -24,7 +25,7 @@ use Rattle.model_gauge.specs.Frame.{wholeOf, formOf, readFrame}
 use Rattle.model_gauge.specs.Gauge.{stored, storedForm, pointed, pointedForm, repliesTo, blockAt, replyFront, replyOf, movedOf, repliedOf}
 use Rattle.promises.specs.Events.{busError, timedOut, Event, acknowledged, failed, unheard, each}
 use Rattle.promises.specs.Host.{makes}
-use Rattle.promises.specs.Reads.{ReadWorld, readBegan, heard, headSent, asked, readShows, readMade, readRun}
+use Rattle.promises.specs.Reads.{ReadWorld, readBegan, heard, headSent, asked, readShows, readMade, readRun, Coming, comes, damaged, readOver, readNoisily}
 
 -- a read of 33 bytes at 4000 hex, without a PEC, into a buffer of A5; the flash has a block of 1 there and then 2, and the pointer stands elsewhere
 abbrev pub workedRead : List Event → ReadWorld
@@ -33,8 +34,15 @@ workedRead es =
     (readBegan (record { pointer = 0x5000 }) (record { «max_bus_retries» = 1; «pec_write» = false; «pec_read» = false }) 0x4000 (replicate 33 0xA5) (replicate 39 0)
     (replicate 32 1 ++ replicate 8160 2))
 
+-- the same with a PEC, on a bus that damages replies
+abbrev pub workedNoise : List Coming → ReadWorld
+workedNoise cs =
+    readNoisily cs
+    (readBegan (record { pointer = 0x5000 }) (record { «max_bus_retries» = 1; «pec_write» = false; «pec_read» = true }) 0x4000 (replicate 33 0xA5) (replicate 39 0)
+    (replicate 32 1 ++ replicate 8160 2))
+
 -- the address, the first block, the last; then 0, 1 and 2. A read that failed has the first block and nothing else; a block that was sent unheard is asked for
--- again, by its address
+-- again, by its address; so is one that came damaged, and at the last attempt that is 3, with nothing in the buffer
 pub worked-reads :
     (readShows (workedRead []) ≡ transfer.Write 4)
     × (readShows (workedRead ((acknowledged) ∷ [])) ≡ transfer.Read 0x44 35)
@@ -44,5 +52,8 @@ pub worked-reads :
     × (readShows (workedRead ((acknowledged) ∷ (acknowledged) ∷ unheard timedOut ∷ failed timedOut ∷ [])) ≡ transfer.Ended answer.Timeout)
     × (workedRead ((acknowledged) ∷ (acknowledged) ∷ unheard timedOut ∷ failed timedOut ∷ []) .buffer ≡ replicate 32 1 ++ (0xA5 ∷ []))
     × (workedRead ((acknowledged) ∷ unheard timedOut ∷ (acknowledged) ∷ (acknowledged) ∷ (acknowledged) ∷ []) .buffer ≡ replicate 32 1 ++ (2 ∷ []))
-unfolding readBegan startOf admitted measured windowed inWindow readDataflash hasHead each readMade headSent asked heard nextOf workAfter shownOf workShown shownHead workHead headBytes macBytes pairOf laidOf workLaid writeOf sealed over fitsOf dueAsk askOf blockAsk macAsk countOf aroundOf leadOf heardOf dataOf reportOf bufferAfter judgeOf outcomeOf acknowledgedOf heardHead heardBlock verdictOf headedOf advanceOf storedOf storedAt blockIn mostOf parts.countOf failOf failedOf retryOf endOf phaseAfter waited nothing stored storedForm pointed pointedForm readFrame formOf wholeOf repliesTo repliedOf movedOf replyOf replyFront blockAt case_waiting_ended_ case_acknowledged_error_timeout_ case_retry_spent_ case_refused_fault_headed_block_ makes if_then_else_
-worked-reads = (refl, refl, refl, refl, refl, refl, refl, refl)
+    × (readShows (workedNoise (comes (acknowledged) ∷ damaged (replicate 35 0) 0 ∷ [])) ≡ transfer.Write 5)
+    × (readShows (workedNoise (comes (acknowledged) ∷ damaged (replicate 35 0) 0 ∷ comes (acknowledged) ∷ damaged (replicate 35 0) 0 ∷ [])) ≡ transfer.Ended answer.Pec)
+    × (workedNoise (comes (acknowledged) ∷ damaged (replicate 35 0) 0 ∷ comes (acknowledged) ∷ damaged (replicate 35 0) 0 ∷ []) .buffer ≡ replicate 33 0xA5)
+unfolding bitStep bitSteps byteStep pecOf readOver checkedOf readBegan startOf admitted measured windowed inWindow readDataflash hasHead each readMade headSent asked heard nextOf workAfter shownOf workShown shownHead workHead headBytes macBytes pairOf laidOf workLaid writeOf sealed over fitsOf dueAsk askOf blockAsk macAsk countOf aroundOf leadOf heardOf dataOf reportOf bufferAfter judgeOf outcomeOf acknowledgedOf heardHead heardBlock verdictOf headedOf advanceOf storedOf storedAt blockIn mostOf parts.countOf failOf failedOf retryOf endOf phaseAfter waited nothing stored storedForm pointed pointedForm readFrame formOf wholeOf repliesTo repliedOf movedOf replyOf replyFront blockAt case_waiting_ended_ case_acknowledged_error_timeout_ case_retry_spent_ case_refused_fault_headed_block_ makes if_then_else_
+worked-reads = (refl, refl, refl, refl, refl, refl, refl, refl, refl, refl, refl)
