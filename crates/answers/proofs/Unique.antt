@@ -20,6 +20,8 @@ equations f g = record { some = ((f, g), (refl, refl)); same = λ r s p q. same-
 -- EVERY CONTRACT HAS ONE ANSWER
 pub unique : Unique
 unique = record {
+  equation = equation;
+  equations = equations;
   starts-w = λ plan payload work. equation _;
   shows-w = λ call payload work. equations _ _;
   sends-w = λ call payload work n. equation _;

@@ -53,7 +53,10 @@ pub record One {A : Type 0} (Meets : A → Type 0) : Type 0 where
   pub some : (result : A) × Meets result
   pub same : (result other : A) → Meets result → Meets other → result ≡ other
 
-pub record Unique : Type 0 where
+pub record Unique : Type 1 where
+  -- an equation for the result, or for the result and what is lent: the form of every contract
+  pub equation : {A : Type 0} (answer : A) → One (λ (result : A). result ≡ answer)
+  pub equations : {A B : Type 0} (answer : A) (after : B) → One (λ (result : A × B). (result .0 ≡ answer) × (result .1 ≡ after))
   -- a writing call: the call; the transfer and the work buffer; the bytes; what came of a report
   pub starts-w : (plan : WritePlan) (payload work : List ℕ) → One (StartsW plan payload work)
   pub shows-w : (call : WriteCall) (payload work : List ℕ) → One (ShowsW call payload work)

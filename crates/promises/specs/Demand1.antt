@@ -28,7 +28,7 @@ use Rattle.answers.specs.Within.{Within}
 use Rattle.promises.specs.CourseRows.{CourseRows}
 use Rattle.promises.specs.RunLaws.{RunLaws}
 
-pub record Demand1 : Type 0 where
+pub record Demand1 : Type 1 where
   -- the answers' numbers and details
   pub numbers : Numbers
   -- at the start, for every limit; and which limit each call has
