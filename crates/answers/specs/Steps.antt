@@ -35,8 +35,8 @@ use Rattle.answers.specs.Rows.{Same, Failure, asked, Damaged, made}
 use Rattle.answers.specs.Runs.{WriteReport, feedW, ReadReport, feedR}
 use Rattle.answers.specs.Within.{WritesBy, write-with-retries, write-register, write-buffer, write-security-keys, write-authentication-key, write-charging-voltage-override, write-register-unchecked, send-access-key, unseal-fg, write-mfg-info-c, write-mfg-info, write-dataflash, ReadsBy}
 
--- ---- what is shown: an ended call its answer at any lent length, a waiting one a transfer at the lengths of the start, or 8; a frame lies at the front of
--- the work buffer with nothing else changed there, and all else spares it. `Framed` says when a frame is shown, `Asks` what is asked for
+-- ---- what is shown: an ended call its answer at any lent length, a waiting one a transfer at the lengths of the start, or 8; a frame changes no more of the
+-- work buffer than its own length in front (what lies there: `HandsOut`), and all else spares it. `Framed` says when a frame is shown, `Asks` what is asked for
 
 abbrev pub Shown : (Framed : Type 0) (Asks : ℕ → ℕ → Type 0) → Phase → Lent → ℕ → ℕ → List ℕ → List ℕ → Transfer → Type 0
 Shown Framed Asks p lent n w before after (transfer.Ended a) = (p ≡ phase.Ended a) × (after ≡ before)
@@ -48,7 +48,7 @@ Shown Framed Asks p lent n w before after (transfer.Read command count) = (p ≡
 abbrev pub AsksNothing : ℕ → ℕ → Type 0
 AsksNothing command count = ⊥
 
--- a reading call whose head is not due asks for as many bytes as it then takes (`Reads`)
+-- a reading call whose head is not due asks by the command of its read, for as many bytes as it then takes (`Reads`)
 abbrev pub AsksOf : ReadCall → ℕ → ℕ → Type 0
 AsksOf call command count = (call .heading ≡ false) × (command ≡ reading.dueAsk call .command) × (count ≡ asked call)
 

@@ -54,7 +54,7 @@ pub record One {A : Type 0} (Meets : A → Type 0) : Type 0 where
   pub same : (result other : A) → Meets result → Meets other → result ≡ other
 
 pub record Unique : Type 1 where
-  -- an equation for the result, or for the result and what is lent: the form of every contract
+  -- an equation for the result, or for the result and what is lent: the form of every contract of a call
   pub equation : {A : Type 0} (answer : A) → One (λ (result : A). result ≡ answer)
   pub equations : {A B : Type 0} (answer : A) (after : B) → One (λ (result : A × B). (result .0 ≡ answer) × (result .1 ≡ after))
   -- a writing call: the call; the transfer and the work buffer; the bytes; what came of a report

@@ -245,4 +245,4 @@ module _ (course buffer work flash : List ℕ) (reader : Reader) (waits : reader
   }
 
 pub course-rows : CourseRows
-course-rows = record { writing = write-rows; reading = read-rows }
+course-rows = record { figures = figures; writing = write-rows; reading = read-rows }

@@ -1,5 +1,4 @@
 -- Rows 8 and 11 of a run over a course: given exactly when their rows say so, and with nothing changed. (01, The model gauge)
--- A call that has ended gives its own answer: that is in the figures of `courses`.
 -- Assumes nothing.
 use Prim.Native.Nat.{ℕ}
 use mathlib.Core.Path.{_≡_}
@@ -9,7 +8,7 @@ use lib.ListN.{length}
 use Rattle.protocol.specs.Answer.{numberOf}
 use Rattle.engine.specs.declared.bus.Lent.{Lent}
 use Rattle.engine.specs.declared.bus.Phase.the-variants as phase
-use Rattle.courses.specs.Figures.{BadByte}
+use Rattle.courses.specs.Figures.{BadByte, Figures}
 use Rattle.courses.specs.WriteRun as writes
 use Rattle.courses.specs.ReadRun as reads
 use Rattle.courses.specs.declared.course.End.{End}
@@ -48,6 +47,8 @@ pub record ReadRows (course buffer work flash : List ℕ) (reader : Reader) (lef
   pub kept : (Gives 8 (left .run .end) ⊎ Gives 11 (left .run .end)) → left ≡ reads.left (record { reader = reader; end = left .run .end }) buffer work flash
 
 pub record CourseRows : Type 0 where
+  -- what the bytes of a course say, when a course is sound, and what is left of a run that does not start or of a call that has ended
+  pub figures : Figures
   pub writing : (payload course work flash : List ℕ) (writer : Writer) → writer .call .phase ≡ phase.Waiting
       → WriteRows payload course work flash writer (writes.runOf payload course (writes.world writer work flash))
   pub reading : (course buffer work flash : List ℕ) (reader : Reader) → reader .call .phase ≡ phase.Waiting

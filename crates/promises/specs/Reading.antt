@@ -29,7 +29,7 @@ flashBytes address n flash = take n (drop (placeOf address) flash)
 
 -- ---- over events
 
--- what an answer says of i acknowledged reads of a buffer of n bytes: 0, every block has come; 1 or 2, one has not; so does 3, where replies are damaged
+-- what an answer says of a buffer of n bytes and i blocks that have come: with 0 every block has; with 1 or 2 one has not, and so with 3, where replies are damaged
 pub data ReadAnswered (noisy : Bool) (n i : ℕ) (a : Answer) : Type 0 where
   all-got : numberOf a ≡ 0 → n ≤ i * 32 → ReadAnswered noisy n i a
   gave-up : (numberOf a ≡ 1) ⊎ (numberOf a ≡ 2) → i * 32 < n → ReadAnswered noisy n i a
@@ -46,7 +46,7 @@ ReadTold noisy n i (transfer.Ended a) = ReadAnswered noisy n i a
 pub record ReadPromised (noisy : Bool) (address : ℕ) (buffer flash : List ℕ) (w : ReadWorld) : Type 0 where
   -- the flash is as it was
   pub kept : w .flash ≡ flash
-  -- the buffer has the flash's bytes in front, as many blocks as were acknowledged, and the rest of it is as it was
+  -- the buffer has the flash's bytes in front, as many blocks as have come, and the rest of it is as it was
   pub front : w .buffer ≡ over (take (w .got * 32) (flashBytes address (length buffer) flash)) buffer
   -- and what the machine shows
   pub told : ReadTold noisy (length buffer) (w .got) (readShows w)
@@ -78,7 +78,7 @@ pub record ReadsTrue : Type 0 where
   -- stop anywhere, whatever each failure's cause, with a PEC or without, from whatever pointer
   pub stopped : (config : Config) (address : ℕ) (buffer work flash : List ℕ) → Accepted address buffer work flash → (gauge : Gauge) (es : List Event)
       → ReadPromised false address buffer flash (readRun es (readBegan gauge config address buffer work flash))
-  -- with a PEC also on a bus that damages replies: no byte of such a reply is in the buffer, and the block is asked for again by its own address
+  -- with a PEC also on a bus that damages replies: no byte of such a reply is in the buffer, and whatever block comes next is the one that was due
   pub damaged : (config : Config) (address : ℕ) (buffer work flash : List ℕ) → Accepted address buffer work flash → config .«pec_read» ≡ true → (gauge : Gauge)
       → (cs : List Coming) → Damages cs → ReadPromised true address buffer flash (readNoisily cs (readBegan gauge config address buffer work flash))
   -- any host: whatever work buffer it lends, whatever lies in the reply beside a failure and whatever refused report comes in between, nothing else changes

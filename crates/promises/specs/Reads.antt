@@ -18,7 +18,7 @@ use Rattle.answers.specs.Runs.{callR}
 use Rattle.promises.specs.Events.{Event, acknowledged, outcomeOf, lentOf, after, flashAfter, ackedAfter, each}
 use Rattle.promises.specs.Host.{makes, Doing, transfers, reports, Misplaced}
 
--- the call, the gauge, the caller's buffer and the work buffer; the flash; how many reads were acknowledged
+-- the call, the gauge, the caller's buffer and the work buffer; the flash; how many blocks have come: reads that were acknowledged, with the gauge's own reply
 pub record ReadWorld : Type 0 where
   pub call : ReadCall
   pub gauge : Gauge

@@ -59,7 +59,7 @@ pub record WriteLaws : Type 0 where
       → length flash ≡ 8192 → soundOf rest ≡ true → writing.nextOf call payload (length work) ≡ transfer.Write n
       → writes.runOf payload (byte ∷ rest) (writes.world (record { call = call; gauge = gauge }) work flash)
       ≡ writes.runOf payload rest (wroteTo payload e n call gauge work flash)
-  -- where the showing is refused, it is none
+  -- where the showing is refused, a byte of the course is no transfer
   pub none-on : (payload rest work flash : List ℕ) (writer : Writer) (byte : ℕ) (e : Event) (a : Answer) → Means byte e
       → length flash ≡ 8192 → soundOf rest ≡ true → writing.nextOf (writer .call) payload (length work) ≡ transfer.Refused a
       → writes.runOf payload (byte ∷ rest) (writes.world writer work flash)
@@ -104,7 +104,7 @@ pub record ReadLaws : Type 0 where
       → length flash ≡ 8192 → soundOf rest ≡ true → reading.nextOf call (length buffer) (length work) ≡ transfer.Read command count
       → reads.runOf (byte ∷ rest) (reads.world (record { call = call; gauge = gauge }) buffer work flash)
       ≡ reads.runOf rest (readFrom e command count call gauge buffer work flash)
-  -- where the showing is refused, it is none
+  -- where the showing is refused, a byte of the course is no transfer
   pub none-on : (rest buffer work flash : List ℕ) (reader : Reader) (byte : ℕ) (e : Event) (a : Answer) → Means byte e
       → length flash ≡ 8192 → soundOf rest ≡ true → reading.nextOf (reader .call) (length buffer) (length work) ≡ transfer.Refused a
       → reads.runOf (byte ∷ rest) (reads.world reader buffer work flash)

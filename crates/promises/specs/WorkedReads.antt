@@ -41,8 +41,12 @@ workedNoise cs =
     (readBegan (record { pointer = 0x5000 }) (record { «max_bus_retries» = 1; «pec_write» = false; «pec_read» = true }) 0x4000 (replicate 33 0xA5) (replicate 39 0)
     (replicate 32 1 ++ replicate 8160 2))
 
+-- the second block comes damaged, and then as it is
+abbrev pub damagedLater : List Coming
+damagedLater = comes (acknowledged) ∷ comes (acknowledged) ∷ damaged (replicate 35 0) 0 ∷ comes (acknowledged) ∷ comes (acknowledged) ∷ []
+
 -- the address, the first block, the last; then 0, 1 and 2. A read that failed has the first block and nothing else; a block that was sent unheard is asked for
--- again, by its address; so is one that came damaged, and at the last attempt that is 3, with nothing in the buffer
+-- again, by its address. One that came damaged is read again, and the block that was due comes; at the last attempt it is 3, with nothing of it in the buffer
 pub worked-reads :
     (readShows (workedRead []) ≡ transfer.Write 4)
     × (readShows (workedRead ((acknowledged) ∷ [])) ≡ transfer.Read 0x44 35)
@@ -52,8 +56,11 @@ pub worked-reads :
     × (readShows (workedRead ((acknowledged) ∷ (acknowledged) ∷ unheard timedOut ∷ failed timedOut ∷ [])) ≡ transfer.Ended answer.Timeout)
     × (workedRead ((acknowledged) ∷ (acknowledged) ∷ unheard timedOut ∷ failed timedOut ∷ []) .buffer ≡ replicate 32 1 ++ (0xA5 ∷ []))
     × (workedRead ((acknowledged) ∷ unheard timedOut ∷ (acknowledged) ∷ (acknowledged) ∷ (acknowledged) ∷ []) .buffer ≡ replicate 32 1 ++ (2 ∷ []))
+    × (readShows (workedNoise (comes (acknowledged) ∷ [])) ≡ transfer.Read 0x44 36)
     × (readShows (workedNoise (comes (acknowledged) ∷ damaged (replicate 35 0) 0 ∷ [])) ≡ transfer.Write 5)
     × (readShows (workedNoise (comes (acknowledged) ∷ damaged (replicate 35 0) 0 ∷ comes (acknowledged) ∷ damaged (replicate 35 0) 0 ∷ [])) ≡ transfer.Ended answer.Pec)
     × (workedNoise (comes (acknowledged) ∷ damaged (replicate 35 0) 0 ∷ comes (acknowledged) ∷ damaged (replicate 35 0) 0 ∷ []) .buffer ≡ replicate 33 0xA5)
+    × (readShows (workedNoise damagedLater) ≡ transfer.Ended answer.Done)
+    × (workedNoise damagedLater .buffer ≡ replicate 32 1 ++ (2 ∷ []))
 unfolding bitStep bitSteps byteStep pecOf readOver checkedOf readBegan startOf admitted measured windowed inWindow readDataflash hasHead each readMade headSent asked heard nextOf workAfter shownOf workShown shownHead workHead headBytes macBytes pairOf laidOf workLaid writeOf sealed over fitsOf dueAsk askOf blockAsk macAsk countOf aroundOf leadOf heardOf dataOf reportOf bufferAfter judgeOf outcomeOf acknowledgedOf heardHead heardBlock verdictOf headedOf advanceOf storedOf storedAt blockIn mostOf parts.countOf failOf failedOf retryOf endOf phaseAfter waited nothing stored storedForm pointed pointedForm readFrame formOf wholeOf repliesTo repliedOf movedOf replyOf replyFront blockAt case_waiting_ended_ case_acknowledged_error_timeout_ case_retry_spent_ case_refused_fault_headed_block_ makes if_then_else_
-worked-reads = (refl, refl, refl, refl, refl, refl, refl, refl, refl, refl, refl)
+worked-reads = (refl, refl, refl, refl, refl, refl, refl, refl, refl, refl, refl, refl, refl, refl)

@@ -1,5 +1,5 @@
--- What the parts that all calls share come to, in plain lists: the block copier, the part to send, the one builder, when a reply is believed, settings
--- without PEC. (01, The step machine; Frames and retries)
+-- What the parts that all calls share come to, in plain lists: the block copier, how many blocks there are, the part to send, the one builder, the fixed
+-- pairs, when a reply is believed, settings without PEC. (01, The step machine; Frames and retries)
 -- Assumes nothing.
 use Prim.Native.Nat.{ℕ, _+_, _*_, _≤_, _<_, min}
 use mathlib.Core.Path.{_≡_}
