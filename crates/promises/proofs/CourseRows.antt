@@ -2,14 +2,12 @@
 -- Assumes nothing.
 use Prim.Native.Nat.{ℕ}
 use mathlib.Core.Path.{_≡_, refl, sym, ap, subst, _∙_}
-use mathlib.Core.Bool.{Bool, true, false}
+use mathlib.Core.Bool.{true}
 use mathlib.Core.List.{List, [], _∷_}
 use lib.Dec.{eqb}
 use lib.ListN.{length}
-use borrow.Author.Tests.{eq-eqb, eqb-true, eqb-false}
+use borrow.Author.Tests.{eq-eqb}
 use Rattle.protocol.specs.Pick.{if_then_else_}
-use Rattle.protocol.specs.declared.error.Answer.the-variants as answer
-use Rattle.engine.specs.Bus.{fitsOf}
 use Rattle.engine.specs.declared.bus.Lent.{Lent}
 use Rattle.engine.specs.declared.bus.Outcome.{Outcome}
 use Rattle.engine.specs.declared.bus.Phase.the-variants as phase
@@ -34,18 +32,28 @@ use Rattle.courses.specs.ReadRun as reads
 use Rattle.courses.specs.declared.course.End.{End}
 use Rattle.courses.specs.declared.read_run.Reader.{Reader}
 use Rattle.courses.specs.declared.write_run.Writer.{Writer}
-use Rattle.courses.proofs.Figures.{bad-of, figures}
+use Rattle.courses.proofs.Figures.{figures}
 use Rattle.writing.proofs.Shown.{write-work}
 use Rattle.reading.proofs.Shown.{read-work}
-use Rattle.answers.specs.Rows.{Among, SortW, SortR}
+use Rattle.answers.specs.Rows.{Among, Same, SortW, SortR}
 use Rattle.answers.specs.Runs.{callW, feedW, callR, feedR}
-use Rattle.answers.proofs.Laws.{fits-same, other-fits}
 use Rattle.answers.proofs.Runs.{same-task as same-task-w}
 use Rattle.answers.proofs.Kept.{same-task as same-task-r}
 use Rattle.answers.proofs.Costs.{delivers}
 use Rattle.answers.proofs.Sorts.{sort-w, sort-r}
-use Rattle.promises.specs.CourseRows.{WriteRows, ReadRows, CourseRows}
-use Rattle.promises.proofs.RunRows.{by-flash, by-course, by-lengths, Came, refuses, drives, rows-of, kept-of, end-own}
+use Rattle.promises.specs.CourseRows.{GivesOneOf, WriteRows, ReadRows, CourseRows}
+use Rattle.promises.proofs.RunRows.{Came, came, rows-of, kept-of, end-own}
+
+-- ---- a run that is not refused drives its call
+
+pub admitted-write : (payload : List ℕ) (w : writes.World) (course : List ℕ) → length (w .flash) ≡ 8192 → soundOf course ≡ true
+    → writes.runOf payload course w ≡ writes.leftOf (length payload) (writes.driveOf payload (eventsOf course) w)
+unfolding writes.runOf admitOf case_refused_admitted_ if_then_else_
+admitted-write payload w course whole sound = rw (eq-eqb (length (w .flash)) 8192 whole, sound)
+
+pub admitted-read : (w : reads.World) (course : List ℕ) → length (w .flash) ≡ 8192 → soundOf course ≡ true → reads.runOf course w ≡ reads.leftOf (reads.driveOf (eventsOf course) w)
+unfolding reads.runOf admitOf case_refused_admitted_ if_then_else_
+admitted-read w course whole sound = rw (eq-eqb (length (w .flash)) 8192 whole, sound)
 
 -- ---- a writing run
 
@@ -104,43 +112,23 @@ module _ (payload : List ℕ) where
     write-drive (e ∷ es) now k = write-drive es (writes.stepOf payload e now) (write-step e now k)
 
   module _ (course work flash : List ℕ) (writer : Writer) (waits : writer .call .phase ≡ phase.Waiting) where
-    write-admitted : length flash ≡ 8192 → soundOf course ≡ true
-        → writes.runOf payload course (writes.world writer work flash) ≡ writes.leftOf (length payload) (writes.driveOf payload (eventsOf course) (writes.world writer work flash))
-    unfolding writes.runOf admitOf case_refused_admitted_ if_then_else_
-    write-admitted whole sound = rw (eq-eqb (length flash) 8192 whole, sound)
-
-    abbrev WriteCame : Type 0
-    WriteCame = Came (length flash) course (writer .call .task .lent) (length payload) (length work) wrote-own refl refl (λ (l : writes.Left). l .run .end)
-        (λ (e : End). writes.left (record { writer = writer; end = e }) work flash) (λ e. refl) (writes.runOf payload course (writes.world writer work flash))
-
-    wrote-came : WriteCame
+    write-driven : length flash ≡ 8192 → soundOf course ≡ true → Same (writer .call .task .lent) (length payload) (length work)
+        → GivesOneOf wrote-own (writes.runOf payload course (writes.world writer work flash) .run .end)
     unfolding writes.leftOf writes.endedOf
-    wrote-came = by (eqb (length flash) 8192) refl (soundOf course) refl (fitsOf (writer .call .task .lent) (length payload) (length work)) refl
-      where
-        by : (t : Bool) → eqb (length flash) 8192 ≡ t → (s : Bool) → soundOf course ≡ s → (u : Bool) → fitsOf (writer .call .task .lent) (length payload) (length work) ≡ u → WriteCame
-        by false t s q u r = let other = eqb-false (length flash) 8192 t in refuses answer.WrongBuffer (by-flash other) (figures .write-flash payload course work flash writer other)
-        by true t false q u r =
-            let whole = eqb-true (length flash) 8192 t in
-            let b = bad-of course q in
-            refuses answer.BadLine (by-course whole b) (figures .write-course payload course work flash writer whole b)
-        by true t true q false r =
-            let whole = eqb-true (length flash) 8192 t in
-            refuses answer.WrongBuffer (by-lengths whole (figures .sound course .0 q) (other-fits _ _ _ r)) (figures .write-lent payload course work flash writer whole q waits (other-fits _ _ _ r))
-        by true t true q true r =
-            let whole = eqb-true (length flash) 8192 t in
-            let same = fits-same (writer .call .task .lent) (length payload) (length work) r in
-            let k = write-drive (writer .call .task .lent) (length work) (eventsOf course) (writes.world writer work flash) (record { among = rw waits tt; started = refl; long = refl }) in
-            drives (record {
-              whole = whole;
-              good = figures .sound course .0 q;
-              same = same;
-              own-answer = rw (write-admitted whole q) (end-own wrote-own _ _ (length payload) _ (k .among) (rw (k .started, k .long) same));
-            })
+    write-driven whole sound same =
+        let k = write-drive (writer .call .task .lent) (length work) (eventsOf course) (writes.world writer work flash) (record { among = rw waits tt; started = refl; long = refl }) in
+        rw (admitted-write payload (writes.world writer work flash) course whole sound) (end-own wrote-own _ _ (length payload) _ (k .among) (rw (k .started, k .long) same))
+
+    write-came : Came (length flash) course (writer .call .task .lent) (length payload) (length work) wrote-own refl refl (λ (l : writes.Left). l .run .end)
+        (λ (e : End). writes.left (record { writer = writer; end = e }) work flash) (λ e. refl) (writes.runOf payload course (writes.world writer work flash))
+    write-came =
+        came _ _ _ _ _ _ refl refl _ _ _ _ (figures .write-flash payload course work flash writer) (figures .write-course payload course work flash writer)
+        (λ whole sound. figures .write-lent payload course work flash writer whole sound waits) write-driven
 
     write-rows : WriteRows payload course work flash writer (writes.runOf payload course (writes.world writer work flash))
     write-rows = record {
-      rows = rows-of _ _ _ _ _ _ refl refl _ _ _ _ wrote-came;
-      kept = kept-of _ _ _ _ _ _ refl refl _ _ _ _ wrote-came;
+      rows = rows-of _ _ _ _ _ _ refl refl _ _ _ _ write-came;
+      kept = kept-of _ _ _ _ _ _ refl refl _ _ _ _ write-came;
     }
 
 -- ---- a reading run
@@ -205,38 +193,18 @@ module _ (lent : Lent) (n w : ℕ) where
   read-drive (e ∷ es) now k = read-drive es (reads.stepOf e now) (read-step e now k)
 
 module _ (course buffer work flash : List ℕ) (reader : Reader) (waits : reader .call .phase ≡ phase.Waiting) where
-  read-admitted : length flash ≡ 8192 → soundOf course ≡ true
-      → reads.runOf course (reads.world reader buffer work flash) ≡ reads.leftOf (reads.driveOf (eventsOf course) (reads.world reader buffer work flash))
-  unfolding reads.runOf admitOf case_refused_admitted_ if_then_else_
-  read-admitted whole sound = rw (eq-eqb (length flash) 8192 whole, sound)
-
-  abbrev ReadCame : Type 0
-  ReadCame = Came (length flash) course (reader .call .task .lent) (length buffer) (length work) read-own refl refl (λ (l : reads.Left). l .run .end)
-      (λ (e : End). reads.left (record { reader = reader; end = e }) buffer work flash) (λ e. refl) (reads.runOf course (reads.world reader buffer work flash))
-
-  read-came : ReadCame
+  read-driven : length flash ≡ 8192 → soundOf course ≡ true → Same (reader .call .task .lent) (length buffer) (length work)
+      → GivesOneOf read-own (reads.runOf course (reads.world reader buffer work flash) .run .end)
   unfolding reads.leftOf reads.endedOf
-  read-came = by (eqb (length flash) 8192) refl (soundOf course) refl (fitsOf (reader .call .task .lent) (length buffer) (length work)) refl
-    where
-      by : (t : Bool) → eqb (length flash) 8192 ≡ t → (s : Bool) → soundOf course ≡ s → (u : Bool) → fitsOf (reader .call .task .lent) (length buffer) (length work) ≡ u → ReadCame
-      by false t s q u r = let other = eqb-false (length flash) 8192 t in refuses answer.WrongBuffer (by-flash other) (figures .read-flash course buffer work flash reader other)
-      by true t false q u r =
-          let whole = eqb-true (length flash) 8192 t in
-          let b = bad-of course q in
-          refuses answer.BadLine (by-course whole b) (figures .read-course course buffer work flash reader whole b)
-      by true t true q false r =
-          let whole = eqb-true (length flash) 8192 t in
-          refuses answer.WrongBuffer (by-lengths whole (figures .sound course .0 q) (other-fits _ _ _ r)) (figures .read-lent course buffer work flash reader whole q waits (other-fits _ _ _ r))
-      by true t true q true r =
-          let whole = eqb-true (length flash) 8192 t in
-          let same = fits-same (reader .call .task .lent) (length buffer) (length work) r in
-          let k = read-drive (reader .call .task .lent) (length buffer) (length work) (eventsOf course) (reads.world reader buffer work flash) (record { among = rw waits tt; started = refl; size = refl; long = refl }) in
-          drives (record {
-            whole = whole;
-            good = figures .sound course .0 q;
-            same = same;
-            own-answer = rw (read-admitted whole q) (end-own read-own _ _ _ _ (k .among) (rw (k .started, k .size, k .long) same));
-          })
+  read-driven whole sound same =
+      let k = read-drive (reader .call .task .lent) (length buffer) (length work) (eventsOf course) (reads.world reader buffer work flash) (record { among = rw waits tt; started = refl; size = refl; long = refl }) in
+      rw (admitted-read (reads.world reader buffer work flash) course whole sound) (end-own read-own _ _ _ _ (k .among) (rw (k .started, k .size, k .long) same))
+
+  read-came : Came (length flash) course (reader .call .task .lent) (length buffer) (length work) read-own refl refl (λ (l : reads.Left). l .run .end)
+      (λ (e : End). reads.left (record { reader = reader; end = e }) buffer work flash) (λ e. refl) (reads.runOf course (reads.world reader buffer work flash))
+  read-came =
+      came _ _ _ _ _ _ refl refl _ _ _ _ (figures .read-flash course buffer work flash reader) (figures .read-course course buffer work flash reader)
+      (λ whole sound. figures .read-lent course buffer work flash reader whole sound waits) read-driven
 
   read-rows : ReadRows course buffer work flash reader (reads.runOf course (reads.world reader buffer work flash))
   read-rows = record {

@@ -27,8 +27,8 @@ use Rattle.model_gauge.specs.Gauge.{takes, pointed, flashAfter, actedOf, gaugeA
 use Rattle.model_gauge.specs.declared.gauge.Event.{Event as ModelEvent}
 use Rattle.model_gauge.specs.declared.gauge.Event.the-variants as model
 use Rattle.model_gauge.specs.declared.gauge.Gauge.{Gauge}
-use Rattle.courses.specs.Pick.{case_write_read_none_, case_refused_admitted_}
-use Rattle.courses.specs.Course.{eventOf, eventsOf, soundOf, admitOf, endOf}
+use Rattle.courses.specs.Pick.{case_write_read_none_}
+use Rattle.courses.specs.Course.{eventOf, eventsOf, soundOf, endOf}
 use Rattle.courses.specs.WriteRun.{World as ModelWorld, Left, left, takenOf, reportedOf, sentOf, sentFlash, stepOf, driveOf, endedOf, leftOf, runOf}
 use Rattle.courses.specs.declared.course.End.{End}
 use Rattle.courses.proofs.Cases.{at-write}
@@ -42,6 +42,7 @@ use Rattle.promises.proofs.Window.{within}
 use Rattle.promises.proofs.Frames.{takes-block, block-points}
 use Rattle.promises.proofs.Machine.{worldAt, frameOf, shows-block, shows-ended, lays, hands-out, laid-long, is-taken, nothing-lent, made-sent, made-ended}
 use Rattle.promises.proofs.Stopped.{ToldAt, Going, going-step, going, run-empty, stopped}
+use Rattle.promises.proofs.CourseRows.{admitted-write}
 use Rattle.promises.proofs.Resumed.{LeftBy, goes, unbroken as whole-write}
 
 -- a transfer that is heard is acknowledged; one that is lost is a timeout, with nothing done or with the full work done
@@ -149,12 +150,7 @@ module _ (config : Config) (address : ℕ) (payload old : List ℕ) (n : ℕ) (r
       → leftOf (length payload) (beside gauge w) .run .end ≡ endIn (shows payload w)
   ended-going w g = rw (g .is) (ended-at config address payload n gauge room (g .i) (g .b) (g .t) (g .work) (g .flash) (g .at) (g .long))
 
--- a run that is admitted drives the call over its course
-pub admitted-run : (payload : List ℕ) (w : ModelWorld) (course : List ℕ) → length (w .flash) ≡ 8192 → soundOf course ≡ true
-    → runOf payload course w ≡ leftOf (length payload) (driveOf payload (eventsOf course) w)
-unfolding runOf admitOf case_refused_admitted_ if_then_else_
-admitted-run payload w course whole sound = rw (eq-eqb (length (w .flash)) 8192 whole, sound)
-
+-- a write starts over the whole flash
 began-whole : (config : Config) (address : ℕ) (payload work flash : List ℕ) → Accepted address payload work flash → length (began config address payload work flash .flash) ≡ 8192
 unfolding began
 began-whole config address payload work flash a = a .whole
@@ -191,7 +187,7 @@ module _ (config : Config) (address : ℕ) (payload work flash : List ℕ) (a : 
       → ran config address payload work flash gauge course ≡ stoppedAt payload gauge (ranIn config address payload work flash course)
   unfolding leftOf endedOf
   run-same course sound =
-      admitted-run payload (beside gauge (began config address payload work flash)) course (began-whole config address payload work flash a) sound
+      admitted-write payload (beside gauge (began config address payload work flash)) course (began-whole config address payload work flash a) sound
       ∙ ap (leftOf (length payload)) (drive-same (eventsOf course) ∙ ap (λ (es : List written.Event). beside gauge (run payload es (began config address payload work flash))) (events-at course))
       ∙ ap (λ (e : End). left (record { writer = beside gauge (ranIn config address payload work flash course) .writer; end = e }) (ranIn config address payload work flash course .work) (ranIn config address payload work flash course .flash)) (by (eqb (length payload) 0) refl)
     where
@@ -257,10 +253,10 @@ module _ (config : Config) (address : ℕ) (payload work flash : List ℕ) (a : 
       let whole : length (driveOf payload (eventsOf course) w .flash) ≡ 8192 =
       ap (λ (v : ModelWorld). length (v .flash)) (drive-same config address payload work flash a gauge (eventsOf course))
       ∙ stopped config address payload work flash a (eventsIn (eventsOf course)) .bytes .size ∙ a .whole in
-      admitted-run payload w (course ++ further) (began-whole config address payload work flash a) (sound-both course further p q)
+      admitted-write payload w (course ++ further) (began-whole config address payload work flash a) (sound-both course further p q)
       ∙ ap (leftOf (length payload)) (ap (λ (es : List ModelEvent). driveOf payload es w) (events-both course further) ∙ drive-both payload (eventsOf course) (eventsOf further) w)
-      ∙ sym (ap (λ (l : Left). runOf payload further (left-over l)) (admitted-run payload w course (began-whole config address payload work flash a) p)
-      ∙ admitted-run payload (driveOf payload (eventsOf course) w) further whole q)
+      ∙ sym (ap (λ (l : Left). runOf payload further (left-over l)) (admitted-write payload w course (began-whole config address payload work flash a) p)
+      ∙ admitted-write payload (driveOf payload (eventsOf course) w) further whole q)
 
   -- ---- going on
 

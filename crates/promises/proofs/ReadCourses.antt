@@ -27,8 +27,8 @@ use Rattle.model_gauge.specs.Gauge.{pointed, gaugeAfter, actedOf, heardOf, repl
 use Rattle.model_gauge.specs.declared.gauge.Event.{Event as ModelEvent}
 use Rattle.model_gauge.specs.declared.gauge.Event.the-variants as model
 use Rattle.model_gauge.specs.declared.gauge.Gauge.{Gauge}
-use Rattle.courses.specs.Pick.{case_write_read_none_, case_refused_admitted_}
-use Rattle.courses.specs.Course.{eventsOf, soundOf, admitOf, endOf}
+use Rattle.courses.specs.Pick.{case_write_read_none_}
+use Rattle.courses.specs.Course.{eventsOf, soundOf, endOf}
 use Rattle.courses.specs.ReadRun.{World, Left, world, left, reportedOf, sentOf, sentBuffer, askedOf, askedBuffer, stepOf, driveOf, endedOf, leftOf, runOf}
 use Rattle.courses.specs.declared.course.End.{End}
 use Rattle.courses.proofs.Cases.{at-write, at-read}
@@ -39,7 +39,7 @@ use Rattle.promises.specs.Reads.{ReadWorld, readBegan, heard, readShows,
 use Rattle.promises.specs.Reading.{inModel, readRan, readRanIn, readStoppedAt, read-over}
 use Rattle.promises.proofs.Window.{within}
 use Rattle.promises.proofs.Courses.{eventIn, eventsIn, events-at, events-both, sound-both}
-use Rattle.promises.proofs.CourseRows.{read-taken}
+use Rattle.promises.proofs.CourseRows.{admitted-read, read-taken}
 use Rattle.promises.proofs.Frames.{takes-address}
 use Rattle.promises.proofs.ReadSteps.{ask-small, readWorld, headOf, shows-head, lays-head, head-long, made-head, shows-read, lays-none, countAt, broughtAt, made-read, heard-same, made-over}
 use Rattle.promises.proofs.Reading.{Kept, Reading, buffer-long, reading-step}
@@ -140,11 +140,7 @@ module _ (config : Config) (address n : ℕ) (old flash : List ℕ) (room : 39 �
   model-run (e ∷ es) w r =
       ap (driveOf es) (model-step e w r) ∙ model-run es (readStep (eventIn e) w) (reading-step false config address n old flash room whole low high (eventIn e) w r)
 
--- a run that is admitted drives the call over its course
-pub admitted-run : (w : World) (course : List ℕ) → length (w .flash) ≡ 8192 → soundOf course ≡ true → runOf course w ≡ leftOf (driveOf (eventsOf course) w)
-unfolding runOf admitOf case_refused_admitted_ if_then_else_
-admitted-run w course whole sound = rw (eq-eqb (length (w .flash)) 8192 whole, sound)
-
+-- over two lists of events one after the other
 drive-both : (es further : List ModelEvent) (w : World) → driveOf (es ++ further) w ≡ driveOf further (driveOf es w)
 unfolding driveOf
 drive-both [] further w = refl
@@ -195,7 +191,7 @@ module _ (config : Config) (address : ℕ) (buffer work flash : List ℕ) (a : A
       → readRan config address buffer work flash gauge course ≡ readStoppedAt (readRanIn config address buffer work flash gauge course)
   unfolding leftOf endedOf
   same course sound =
-      admitted-run (inModel first) course first-whole sound
+      admitted-read (inModel first) course first-whole sound
       ∙ ap leftOf (drive-same (eventsOf course) ∙ ap (λ (es : List Event). inModel (readRun es first)) (events-at course))
       ∙ ap (λ (e : End). left (record { reader = inModel (readRanIn config address buffer work flash gauge course) .reader; end = e }) (readRanIn config address buffer work flash gauge course .buffer) (readRanIn config address buffer work flash gauge course .work) (readRanIn config address buffer work flash gauge course .flash)) (by (eqb (length buffer) 0) refl)
     where
@@ -225,6 +221,6 @@ module _ (config : Config) (address : ℕ) (buffer work flash : List ℕ) (a : A
       let w : World = inModel first in
       let whole : length (driveOf (eventsOf course) w .flash) ≡ 8192 =
       ap (λ (v : World). length (v .flash)) (drive-same (eventsOf course)) ∙ ap length (stopped config address buffer work flash a gauge (eventsIn (eventsOf course)) .kept) ∙ a .whole in
-      admitted-run w (course ++ further) first-whole (sound-both course further p q)
+      admitted-read w (course ++ further) first-whole (sound-both course further p q)
       ∙ ap leftOf (ap (λ (es : List ModelEvent). driveOf es w) (events-both course further) ∙ drive-both (eventsOf course) (eventsOf further) w)
-      ∙ sym (ap (λ (l : Left). runOf further (read-over l)) (admitted-run w course first-whole p) ∙ admitted-run (driveOf (eventsOf course) w) further whole q)
+      ∙ sym (ap (λ (l : Left). runOf further (read-over l)) (admitted-read w course first-whole p) ∙ admitted-read (driveOf (eventsOf course) w) further whole q)

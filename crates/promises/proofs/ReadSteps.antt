@@ -207,12 +207,13 @@ module _ (config : Config) (address size n : ℕ) where
         let asks : countAt ≡ 36 = rw pec (count-of true (size - i * 32)) in
         rw (shows-read, lays-none, asks, long, disbelieved-buffer (front ++ (last ∷ [])) wrong, fits, disbelieved (front ++ (last ∷ [])) wrong)
 
--- an ended call stays as it is
+-- an ended call stays as it is, whatever reply is damaged
 pub damaged-over : (config : Config) (address size n : ℕ) (front : List ℕ) (last : ℕ) (a : Answer) (h : Bool) (i : ℕ) (b : Budget) (t : Tally) (g : Gauge) (buffer work flash : List ℕ)
     → readOver (damaged front last) (readWorld config address size n (phase.Ended a) h i b t g buffer work flash) ≡ readWorld config address size n (phase.Ended a) h i b t g buffer work flash
 unfolding readOver nextOf workAfter case_waiting_ended_ makes
 damaged-over config address size n front last a h i b t g buffer work flash = refl
 
+-- whatever becomes of a transfer that it does not make
 pub made-over : (config : Config) (address size n : ℕ) (e : Event) (beside : List ℕ) (a : Answer) (h : Bool) (i : ℕ) (b : Budget) (t : Tally) (g : Gauge) (buffer work flash : List ℕ)
     → readMade e beside (readWorld config address size n (phase.Ended a) h i b t g buffer work flash) ≡ readWorld config address size n (phase.Ended a) h i b t g buffer work flash
 unfolding readMade nextOf workAfter case_waiting_ended_ makes

@@ -3,7 +3,7 @@
 use Prim.Native.Nat.{ℕ, _+_, _≤_, _<_}
 use mathlib.Core.Path.{_≡_, refl, sym}
 use mathlib.Core.Bool.{Bool, true, false, false≢true}
-use mathlib.Core.List.{List, [], _∷_}
+use mathlib.Core.List.{List, []}
 use native.Mathlib.Omega.{arith}
 use lib.Dec.{eqb}
 use lib.ListN.{length}
@@ -24,30 +24,30 @@ use Rattle.reading.specs.Parts.{hasHead}
 use Rattle.reading.specs.Reading.{startOf, nextOf}
 use Rattle.r5.specs.Plans.{readDataflash}
 use Rattle.model_gauge.specs.declared.gauge.Gauge.{Gauge}
-use Rattle.promises.specs.Events.{Event, each}
-use Rattle.promises.specs.Reads.{ReadWorld, readBegan, readShows, readRun, Coming, comes, damaged as spoilt, readOver, Damages, readNoisily}
+use Rattle.promises.specs.Events.{Event}
+use Rattle.promises.specs.Reads.{ReadWorld, readBegan, readShows, readStep, readRun, Coming, comes, damaged as spoilt, readOver, Damages, readNoisily}
 use Rattle.promises.specs.Reading.{all-got, ReadTold, ReadPromised}
 use Rattle.promises.specs.Demand3.{Accepted}
 use Rattle.promises.proofs.Window.{within}
+use Rattle.promises.proofs.Stopped.{stays}
 use Rattle.promises.proofs.ReadSteps.{readWorld, shows-head, shows-read, made-over, damaged-over}
 use Rattle.promises.proofs.Reading.{Kept, Reading, buffer-long, reading-run, reading-noise}
 
 -- an ended call stays as it is over every list of events
 pub read-ended : (config : Config) (address size n : ℕ) (es : List Event) (a : Answer) (h : Bool) (i : ℕ) (b : Budget) (t : Tally) (g : Gauge) (buffer work flash : List ℕ)
     → readRun es (readWorld config address size n (phase.Ended a) h i b t g buffer work flash) ≡ readWorld config address size n (phase.Ended a) h i b t g buffer work flash
-unfolding each
-read-ended config address size n [] a h i b t g buffer work flash = refl
-read-ended config address size n (e ∷ es) a h i b t g buffer work flash =
-    rw (made-over config address size n e [] a h i b t g buffer work flash) (read-ended config address size n es a h i b t g buffer work flash)
+read-ended config address size n es a h i b t g buffer work flash =
+    stays readStep (readWorld config address size n (phase.Ended a) h i b t g buffer work flash) (λ e. made-over config address size n e [] a h i b t g buffer work flash) es
 
-pub noise-ended : (config : Config) (address size n : ℕ) (cs : List Coming) (a : Answer) (h : Bool) (i : ℕ) (b : Budget) (t : Tally) (g : Gauge) (buffer work flash : List ℕ)
+-- also where replies are damaged
+noise-ended : (config : Config) (address size n : ℕ) (cs : List Coming) (a : Answer) (h : Bool) (i : ℕ) (b : Budget) (t : Tally) (g : Gauge) (buffer work flash : List ℕ)
     → readNoisily cs (readWorld config address size n (phase.Ended a) h i b t g buffer work flash) ≡ readWorld config address size n (phase.Ended a) h i b t g buffer work flash
-unfolding each readOver
-noise-ended config address size n [] a h i b t g buffer work flash = refl
-noise-ended config address size n (comes e ∷ cs) a h i b t g buffer work flash =
-    rw (made-over config address size n e [] a h i b t g buffer work flash) (noise-ended config address size n cs a h i b t g buffer work flash)
-noise-ended config address size n (spoilt front last ∷ cs) a h i b t g buffer work flash =
-    rw (damaged-over config address size n front last a h i b t g buffer work flash) (noise-ended config address size n cs a h i b t g buffer work flash)
+unfolding readOver
+noise-ended config address size n cs a h i b t g buffer work flash = stays readOver (readWorld config address size n (phase.Ended a) h i b t g buffer work flash) by cs
+  where
+    by : (c : Coming) → readOver c (readWorld config address size n (phase.Ended a) h i b t g buffer work flash) ≡ readWorld config address size n (phase.Ended a) h i b t g buffer work flash
+    by (comes e) = made-over config address size n e [] a h i b t g buffer work flash
+    by (spoilt front last) = damaged-over config address size n front last a h i b t g buffer work flash
 
 module _ (config : Config) (address : ℕ) (buffer work flash : List ℕ) (a : Accepted address buffer work flash) (gauge : Gauge) where
   abbrev pub start : ReadWorld

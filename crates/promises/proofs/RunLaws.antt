@@ -33,9 +33,7 @@ use Rattle.answers.specs.Rows.{Same}
 use Rattle.answers.proofs.Kept.{stored-length}
 use Rattle.answers.proofs.Laws.{same-fits}
 use Rattle.promises.specs.RunLaws.{Means, heard, lost-before, lost-after, wroteTo, headTo, readFrom, RunLaws}
-use Rattle.promises.proofs.Courses.{admitted-run as admitted-write}
-use Rattle.promises.proofs.CourseRows.{wrote-taken, read-taken}
-use Rattle.promises.proofs.ReadCourses.{admitted-run as admitted-read}
+use Rattle.promises.proofs.CourseRows.{admitted-write, admitted-read, wrote-taken, read-taken}
 
 -- ---- a transfer keeps the flash's length
 

@@ -7,21 +7,23 @@ use mathlib.Core.List.{List, [], _∷_, _++_}
 use mathlib.Core.Logic.{_⊎_, inl, inr}
 use native.Mathlib.Omega.{arith}
 use lib.Dec.{eqb}
-use borrow.Author.Tests.{eq-eqb}
+use borrow.Author.Tests.{eq-eqb, eqb-true, eqb-false}
 use Rattle.protocol.specs.Pick.{if_then_else_}
 use Rattle.protocol.specs.Answer.{numberOf}
 use Rattle.protocol.specs.declared.error.Answer.{Answer}
 use Rattle.protocol.specs.declared.error.Answer.the-variants as answer
 use Rattle.engine.specs.Pick.{case_waiting_ended_}
+use Rattle.engine.specs.Bus.{fitsOf}
 use Rattle.engine.specs.declared.bus.Lent.{Lent}
 use Rattle.engine.specs.declared.bus.Phase.{Phase}
 use Rattle.engine.specs.declared.bus.Phase.the-variants as phase
-use Rattle.courses.specs.Course.{endOf}
+use Rattle.courses.specs.Course.{soundOf, endOf}
 use Rattle.courses.specs.Figures.{BadByte}
 use Rattle.courses.specs.declared.course.End.{End}
 use Rattle.courses.specs.declared.course.End.the-variants as end
+use Rattle.courses.proofs.Figures.{bad-of, figures}
 use Rattle.answers.specs.Rows.{OneOf, Among, Same}
-use Rattle.answers.proofs.Laws.{same-fits}
+use Rattle.answers.proofs.Laws.{fits-same, same-fits, other-fits}
 use Rattle.promises.specs.CourseRows.{Gives, GivesOneOf, RunRows}
 
 -- ---- numbers in lists
@@ -111,6 +113,28 @@ module _ (f : ℕ) (course : List ℕ) (lent : Lent) (n w : ℕ) where
       pub data Came : Type 0 where
         refuses : (a : Answer) → Refused a → result ≡ nothing (end.Answered a) → Came
         drives : Driven own (endIn result) → Came
+
+      -- by the flash's length, the course and the lent lengths
+      pub came : ((f ≡ 8192 → ⊥) → result ≡ nothing (end.Answered answer.WrongBuffer))
+          → (f ≡ 8192 → BadByte course → result ≡ nothing (end.Answered answer.BadLine))
+          → (f ≡ 8192 → soundOf course ≡ true → (Same lent n w → ⊥) → result ≡ nothing (end.Answered answer.WrongBuffer))
+          → (f ≡ 8192 → soundOf course ≡ true → Same lent n w → GivesOneOf own (endIn result)) → Came
+      came short bad other driven = by (eqb f 8192) refl (soundOf course) refl (fitsOf lent n w) refl
+        where
+          by : (t : Bool) → eqb f 8192 ≡ t → (s : Bool) → soundOf course ≡ s → (u : Bool) → fitsOf lent n w ≡ u → Came
+          by false t s q u r = let no = eqb-false f 8192 t in refuses answer.WrongBuffer (by-flash no) (short no)
+          by true t false q u r =
+              let whole = eqb-true f 8192 t in
+              let b = bad-of course q in
+              refuses answer.BadLine (by-course whole b) (bad whole b)
+          by true t true q false r =
+              let whole = eqb-true f 8192 t in
+              let differ = other-fits lent n w r in
+              refuses answer.WrongBuffer (by-lengths whole (figures .sound course .0 q) differ) (other whole q differ)
+          by true t true q true r =
+              let whole = eqb-true f 8192 t in
+              let same = fits-same lent n w r in
+              drives (record { whole = whole; good = figures .sound course .0 q; same = same; own-answer = driven whole q same })
 
       pub rows-of : Came → RunRows f course lent n w own (endIn result)
       rows-of (refuses a why is) = subst (RunRows f course lent n w own) (sym (ap endIn is ∙ told (end.Answered a))) (refused-rows own a why)

@@ -161,13 +161,17 @@ pub began-is : (config : Config) (address : ℕ) (payload work flash : List ℕ)
 unfolding began startOf admitted measured windowed planOf writeDataflash if_then_else_
 began-is config address payload work flash a t e = rw (le-ltb (length work) 39 (a .room), a .window, e)
 
+-- what nothing in a list changes stays as it is over all of it
+pub stays : {A W : Type 0} (does : A → W → W) (w : W) → ((one : A) → does one w ≡ w) → (all : List A) → each does all w ≡ w
+unfolding each
+stays does w same [] = refl
+stays does w same (one ∷ all) = rw (same one) (stays does w same all)
+
 -- an ended call stays as it is over every list of events
 pub run-ended : (config : Config) (address : ℕ) (payload : List ℕ) (n : ℕ) (es : List Event) (a : Answer) (i : ℕ) (b : Budget) (t : Tally) (work flash : List ℕ)
     → run payload es (worldAt config address payload n (phase.Ended a) i b t work flash) ≡ worldAt config address payload n (phase.Ended a) i b t work flash
-unfolding each
-run-ended config address payload n [] a i b t work flash = refl
-run-ended config address payload n (e ∷ es) a i b t work flash =
-    rw (made-ended config address payload n e [] a i b t work flash) (run-ended config address payload n es a i b t work flash)
+run-ended config address payload n es a i b t work flash =
+    stays (step payload) (worldAt config address payload n (phase.Ended a) i b t work flash) (λ e. made-ended config address payload n e [] a i b t work flash) es
 
 -- an empty write has ended before its first transfer
 pub run-empty : (config : Config) (address : ℕ) (payload work flash : List ℕ) → Accepted address payload work flash → length payload ≡ 0 → (es : List Event)

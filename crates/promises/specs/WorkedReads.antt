@@ -1,7 +1,7 @@
 -- The reader's promise is about something: worked runs of a read of 33 bytes with one retry, that reach each answer such a call can give.
 -- Assumes nothing.
 use mathlib.Core.Path.{_≡_, refl}
-use mathlib.Core.Bool.{true, false}
+use mathlib.Core.Bool.{Bool, true, false}
 use mathlib.Core.List.{List, [], _∷_, _++_}
 use lib.ListN.{replicate}
 use Rattle.smbus_pec.specs.Pec.{bitStep, bitSteps, byteStep, pecOf}
@@ -27,19 +27,19 @@ use Rattle.promises.specs.Events.{busError, timedOut, Event, acknowledge
 use Rattle.promises.specs.Host.{makes}
 use Rattle.promises.specs.Reads.{ReadWorld, readBegan, heard, headSent, asked, readShows, readMade, readRun, Coming, comes, damaged, readOver, readNoisily}
 
--- a read of 33 bytes at 4000 hex, without a PEC, into a buffer of A5; the flash has a block of 1 there and then 2, and the pointer stands elsewhere
-abbrev pub workedRead : List Event → ReadWorld
-workedRead es =
-    readRun es
-    (readBegan (record { pointer = 0x5000 }) (record { «max_bus_retries» = 1; «pec_write» = false; «pec_read» = false }) 0x4000 (replicate 33 0xA5) (replicate 39 0)
-    (replicate 32 1 ++ replicate 8160 2))
+-- a read of 33 bytes at 4000 hex into a buffer of A5; the flash has a block of 1 there and then 2, and the pointer stands elsewhere
+abbrev pub workedStart : (pec : Bool) → ReadWorld
+workedStart pec =
+    readBegan (record { pointer = 0x5000 }) (record { «max_bus_retries» = 1; «pec_write» = false; «pec_read» = pec }) 0x4000 (replicate 33 0xA5) (replicate 39 0)
+    (replicate 32 1 ++ replicate 8160 2)
 
--- the same with a PEC, on a bus that damages replies
+-- without a PEC
+abbrev pub workedRead : List Event → ReadWorld
+workedRead es = readRun es (workedStart false)
+
+-- with one, on a bus that damages replies
 abbrev pub workedNoise : List Coming → ReadWorld
-workedNoise cs =
-    readNoisily cs
-    (readBegan (record { pointer = 0x5000 }) (record { «max_bus_retries» = 1; «pec_write» = false; «pec_read» = true }) 0x4000 (replicate 33 0xA5) (replicate 39 0)
-    (replicate 32 1 ++ replicate 8160 2))
+workedNoise cs = readNoisily cs (workedStart true)
 
 -- the second block comes damaged, and then as it is
 abbrev pub damagedLater : List Coming
