@@ -37,8 +37,8 @@ fn bus() {
     say::words(b"\n");
 }
 
-// Ten bytes, their five figures, and the bytes of those; then the settings and the bus.
-pub(crate) fn all() {
+// Ten bytes, their five figures, and the bytes of those.
+fn voltages() {
     let v = ChargingVoltageOverride::from_bytes(b"\xFF\xFF\x00\x80\xFF\x7F\x00\x01\x01\x00");
     say::words(b"FFFF0080FF7F00010100 :");
     figure(v.low_temp_chrg_mv);
@@ -52,6 +52,11 @@ pub(crate) fn all() {
     say::words(b" ");
     say::words(&digits);
     say::words(b"\n");
+}
+
+// Everything.
+pub(crate) fn all() {
+    voltages();
     settings();
     bus();
 }
