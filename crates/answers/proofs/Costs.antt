@@ -116,13 +116,13 @@ module _ (call : ReadCall) where
   block-comes : (bytes : List ℕ) → call .heading ≡ false → Comes outcome.Acknowledged bytes (reading.heardBlock (reading.dueAsk call) bytes)
   unfolding reading.heardBlock reading.verdictOf reply.heardOf if_then_else_
   block-comes bytes h =
-      by (eqb (reply.countOf (reading.dueAsk call)) (length bytes)) refl (reading.dueAsk call .pec) refl
+      by (eqb (reply.bytesAsked (reading.dueAsk call)) (length bytes)) refl (reading.dueAsk call .pec) refl
       (reply.checkedOf (reading.dueAsk call .covered) bytes) refl
     where
       heard : Verdict
       heard = reading.heardBlock (reading.dueAsk call) bytes
 
-      by : (t : Bool) → eqb (reply.countOf (reading.dueAsk call)) (length bytes) ≡ t → (p : Bool) → reading.dueAsk call .pec ≡ p
+      by : (t : Bool) → eqb (reply.bytesAsked (reading.dueAsk call)) (length bytes) ≡ t → (p : Bool) → reading.dueAsk call .pec ≡ p
           → (k : Bool) → reply.checkedOf (reading.dueAsk call .covered) bytes ≡ k → Comes outcome.Acknowledged bytes heard
       by false t p x k y = let q : heard ≡ verdict.Refused answer.WrongReply = rw t in subst (Comes outcome.Acknowledged bytes) (sym q) tt
       by true t false x k y =
@@ -135,14 +135,14 @@ module _ (call : ReadCall) where
           let q : heard ≡ verdict.Failed answer.Pec = rw (t, x, y) in
           subst (Comes outcome.Acknowledged bytes) (sym q) (inr (h, x, y))
 
-  outcome-comes : (o : Outcome) (bytes : List ℕ) → Comes o bytes (reading.outcomeOf call o bytes)
-  unfolding reading.outcomeOf reading.acknowledgedOf reading.heardHead case_acknowledged_error_timeout_ if_then_else_
+  outcome-comes : (o : Outcome) (bytes : List ℕ) → Comes o bytes (reading.weighOf call o bytes)
+  unfolding reading.weighOf reading.acknowledgedOf reading.heardHead case_acknowledged_error_timeout_ if_then_else_
   outcome-comes (outcome.BusError code) bytes = inl tt
   outcome-comes outcome.Timeout bytes = inl tt
   outcome-comes outcome.Acknowledged bytes = by (call .heading) refl (eqb (length bytes) 0) refl
     where
       heard : Verdict
-      heard = reading.outcomeOf call outcome.Acknowledged bytes
+      heard = reading.weighOf call outcome.Acknowledged bytes
 
       by : (h : Bool) → call .heading ≡ h → (t : Bool) → eqb (length bytes) 0 ≡ t → Comes outcome.Acknowledged bytes heard
       by true h true t = let q : heard ≡ verdict.Head = rw (h, t) in subst (Comes outcome.Acknowledged bytes) (sym q) (refl, h)
@@ -161,7 +161,7 @@ module _ (call : ReadCall) where
       by : (p : Phase) → call .phase ≡ p → (t : Bool) → fitsOf (call .task .lent) n w ≡ t → Comes o bytes verdict-of
       by (phase.Ended a) e t f = let q : verdict-of ≡ verdict.Refused answer.NothingOutstanding = rw e in subst (Comes o bytes) (sym q) tt
       by phase.Waiting e false f = let q : verdict-of ≡ verdict.Refused answer.WrongBuffer = rw (f, e) in subst (Comes o bytes) (sym q) tt
-      by phase.Waiting e true f = let q : verdict-of ≡ reading.outcomeOf call o bytes = rw (f, e) in subst (Comes o bytes) (sym q) (outcome-comes o bytes)
+      by phase.Waiting e true f = let q : verdict-of ≡ reading.weighOf call o bytes = rw (f, e) in subst (Comes o bytes) (sym q) (outcome-comes o bytes)
 
   -- a failed attempt, by what came of it
   pays-miss : (o : Outcome) (bytes : List ℕ) (next : ReadCall) → Failure o ⊎ Damaged call bytes → MissedR call next → PaidR call o bytes next
@@ -244,41 +244,41 @@ module _ (call : ReadCall) (buffer : List ℕ) where
   by-same bytes verdict.Head h = refl
   by-same bytes verdict.Block h = absurd h
 
-  judged : (o : Outcome) (bytes : List ℕ) (n w : ℕ) → NoBlock (reading.outcomeOf call o bytes) → NoBlock (reading.judgeOf call o bytes n w)
+  judged : (o : Outcome) (bytes : List ℕ) (n w : ℕ) → NoBlock (reading.weighOf call o bytes) → NoBlock (reading.judgeOf call o bytes n w)
   unfolding reading.judgeOf case_waiting_ended_ if_then_else_
   judged o bytes n w h = by (call .phase) refl (fitsOf (call .task .lent) n w) refl
     where
       by : (p : Phase) → call .phase ≡ p → (t : Bool) → fitsOf (call .task .lent) n w ≡ t → NoBlock (reading.judgeOf call o bytes n w)
       by (phase.Ended a) e t f = let q : reading.judgeOf call o bytes n w ≡ verdict.Refused answer.NothingOutstanding = rw e in subst NoBlock (sym q) tt
       by phase.Waiting e false f = let q : reading.judgeOf call o bytes n w ≡ verdict.Refused answer.WrongBuffer = rw (f, e) in subst NoBlock (sym q) tt
-      by phase.Waiting e true f = let q : reading.judgeOf call o bytes n w ≡ reading.outcomeOf call o bytes = rw (f, e) in subst NoBlock (sym q) h
+      by phase.Waiting e true f = let q : reading.judgeOf call o bytes n w ≡ reading.weighOf call o bytes = rw (f, e) in subst NoBlock (sym q) h
 
-  head-none : (o : Outcome) (bytes : List ℕ) → call .heading ≡ true → NoBlock (reading.outcomeOf call o bytes)
-  unfolding reading.outcomeOf reading.acknowledgedOf reading.heardHead case_acknowledged_error_timeout_ if_then_else_
+  head-none : (o : Outcome) (bytes : List ℕ) → call .heading ≡ true → NoBlock (reading.weighOf call o bytes)
+  unfolding reading.weighOf reading.acknowledgedOf reading.heardHead case_acknowledged_error_timeout_ if_then_else_
   head-none outcome.Acknowledged bytes h = by (eqb (length bytes) 0) refl
     where
-      by : (t : Bool) → eqb (length bytes) 0 ≡ t → NoBlock (reading.outcomeOf call outcome.Acknowledged bytes)
-      by true t = let q : reading.outcomeOf call outcome.Acknowledged bytes ≡ verdict.Head = rw (h, t) in subst NoBlock (sym q) tt
-      by false t = let q : reading.outcomeOf call outcome.Acknowledged bytes ≡ verdict.Refused answer.WrongReply = rw (h, t) in subst NoBlock (sym q) tt
+      by : (t : Bool) → eqb (length bytes) 0 ≡ t → NoBlock (reading.weighOf call outcome.Acknowledged bytes)
+      by true t = let q : reading.weighOf call outcome.Acknowledged bytes ≡ verdict.Head = rw (h, t) in subst NoBlock (sym q) tt
+      by false t = let q : reading.weighOf call outcome.Acknowledged bytes ≡ verdict.Refused answer.WrongReply = rw (h, t) in subst NoBlock (sym q) tt
   head-none (outcome.BusError code) bytes h = tt
   head-none outcome.Timeout bytes h = tt
 
-  failure-none : (o : Outcome) (bytes : List ℕ) → Failure o → NoBlock (reading.outcomeOf call o bytes)
-  unfolding reading.outcomeOf case_acknowledged_error_timeout_
+  failure-none : (o : Outcome) (bytes : List ℕ) → Failure o → NoBlock (reading.weighOf call o bytes)
+  unfolding reading.weighOf case_acknowledged_error_timeout_
   failure-none outcome.Acknowledged bytes h = absurd h
   failure-none (outcome.BusError code) bytes h = tt
   failure-none outcome.Timeout bytes h = tt
 
-  damaged-none : (o : Outcome) (bytes : List ℕ) → Damaged call bytes → NoBlock (reading.outcomeOf call o bytes)
-  unfolding reading.outcomeOf reading.acknowledgedOf reading.heardBlock reading.verdictOf reply.heardOf reply.countOf reading.dueAsk case_acknowledged_error_timeout_ if_then_else_
-  damaged-none outcome.Acknowledged bytes (head, pec, wrong) = by (eqb (reply.countOf (reading.dueAsk call)) (length bytes)) refl
+  damaged-none : (o : Outcome) (bytes : List ℕ) → Damaged call bytes → NoBlock (reading.weighOf call o bytes)
+  unfolding reading.weighOf reading.acknowledgedOf reading.heardBlock reading.verdictOf reply.heardOf reply.bytesAsked reading.dueAsk case_acknowledged_error_timeout_ if_then_else_
+  damaged-none outcome.Acknowledged bytes (head, pec, wrong) = by (eqb (reply.bytesAsked (reading.dueAsk call)) (length bytes)) refl
     where
-      by : (t : Bool) → eqb (reply.countOf (reading.dueAsk call)) (length bytes) ≡ t → NoBlock (reading.outcomeOf call outcome.Acknowledged bytes)
+      by : (t : Bool) → eqb (reply.bytesAsked (reading.dueAsk call)) (length bytes) ≡ t → NoBlock (reading.weighOf call outcome.Acknowledged bytes)
       by true t =
-          let q : reading.outcomeOf call outcome.Acknowledged bytes ≡ verdict.Failed answer.Pec = rw (head, t, pec, wrong) in
+          let q : reading.weighOf call outcome.Acknowledged bytes ≡ verdict.Failed answer.Pec = rw (head, t, pec, wrong) in
           subst NoBlock (sym q) tt
       by false t =
-          let q : reading.outcomeOf call outcome.Acknowledged bytes ≡ verdict.Refused answer.WrongReply = rw (head, t) in
+          let q : reading.weighOf call outcome.Acknowledged bytes ≡ verdict.Refused answer.WrongReply = rw (head, t) in
           subst NoBlock (sym q) tt
   damaged-none (outcome.BusError code) bytes h = tt
   damaged-none outcome.Timeout bytes h = tt

@@ -28,7 +28,7 @@ use Rattle.engine.specs.declared.bus.Phase.{Phase}
 use Rattle.engine.specs.declared.bus.Phase.the-variants as phase
 use Rattle.reading.specs.Pick.{case_refused_fault_headed_block_}
 use Rattle.reading.specs.Parts as parts
-use Rattle.reading.specs.Reading.{startOf, dueAsk, headedOf, advanceOf, retryOf, endOf, failOf, heardHead, verdictOf, heardBlock, acknowledgedOf, outcomeOf, judgeOf, storedOf, reportOf, bufferAfter}
+use Rattle.reading.specs.Reading.{startOf, dueAsk, headedOf, advanceOf, retryOf, endOf, failOf, heardHead, verdictOf, heardBlock, acknowledgedOf, weighOf, judgeOf, storedOf, reportOf, bufferAfter}
 use Rattle.reading.specs.declared.parts.Reads.{Reads}
 use Rattle.reading.specs.declared.parts.Reads.the-variants as reads
 use Rattle.reading.specs.declared.call.ReadPlan.{ReadPlan}
@@ -105,16 +105,16 @@ module _ (call : ReadCall) where
       by true t = let q : heardHead r ≡ verdict.Head = rw t in subst (Means call) (sym q) p
       by false t = let q : heardHead r ≡ verdict.Refused answer.WrongReply = rw t in subst (Means call) (sym q) tt
 
-  outcome-means : (o : Outcome) (bytes : List ℕ) → call .phase ≡ phase.Waiting → Means call (outcomeOf call o bytes)
-  unfolding outcomeOf acknowledgedOf heardBlock case_acknowledged_error_timeout_ if_then_else_
+  outcome-means : (o : Outcome) (bytes : List ℕ) → call .phase ≡ phase.Waiting → Means call (weighOf call o bytes)
+  unfolding weighOf acknowledgedOf heardBlock case_acknowledged_error_timeout_ if_then_else_
   outcome-means outcome.Acknowledged bytes p = by (call .heading) refl
     where
-      by : (t : Bool) → call .heading ≡ t → Means call (outcomeOf call outcome.Acknowledged bytes)
+      by : (t : Bool) → call .heading ≡ t → Means call (weighOf call outcome.Acknowledged bytes)
       by true h =
-          let q : outcomeOf call outcome.Acknowledged bytes ≡ heardHead (length bytes) = rw h in
+          let q : weighOf call outcome.Acknowledged bytes ≡ heardHead (length bytes) = rw h in
           subst (Means call) (sym q) (head-means (length bytes) p)
       by false h =
-          let q : outcomeOf call outcome.Acknowledged bytes ≡ heardBlock (dueAsk call) bytes = rw h in
+          let q : weighOf call outcome.Acknowledged bytes ≡ heardBlock (dueAsk call) bytes = rw h in
           subst (Means call) (sym q) (block-means (reply.heardOf (dueAsk call) bytes) p h)
   outcome-means (outcome.BusError code) bytes p = p
   outcome-means outcome.Timeout bytes p = p
@@ -131,7 +131,7 @@ module _ (call : ReadCall) where
           let q : judgeOf call o bytes n w ≡ verdict.Refused answer.WrongBuffer = rw (e, f) in
           subst (Means call) (sym q) tt
       by phase.Waiting e true f =
-          let q : judgeOf call o bytes n w ≡ outcomeOf call o bytes = rw (e, f) in
+          let q : judgeOf call o bytes n w ≡ weighOf call o bytes = rw (e, f) in
           subst (Means call) (sym q) (outcome-means o bytes e)
 
   fails : (buffer : List ℕ) (why : Answer) → call .phase ≡ phase.Waiting → Step call buffer (failOf call why) buffer
@@ -171,7 +171,7 @@ Front count start call buffer =
     ⊎ ((drop (call .received * 32) buffer ≡ drop (call .received * 32) start) × ((call .received ≡ 0) ⊎ (call .received < count)))
 
 pub record Sound (count : ℕ) (start : List ℕ) (r : Reader) : Type 0 where
-  counts : parts.countOf (r .call .task .plan .reads) (r .call .task .lent .length) ≡ count
+  counts : parts.readCount (r .call .task .plan .reads) (r .call .task .lent .length) ≡ count
   pub due : r .call .phase ≡ phase.Waiting → r .call .heading ≡ false → r .call .received < count
   pub more : r .call .phase ≡ phase.Waiting → 0 < count → r .call .received < count
   bare : r .call .phase ≡ phase.Waiting → parts.hasHead (r .call .task .plan .head) ≡ false → r .call .received < count
@@ -197,10 +197,10 @@ waiting-front count start call buffer e (inr f) = f
 
 -- a block that was handed over: the last one, or one of 32 bytes with others to come
 block-front : (count : ℕ) (start : List ℕ) (call : ReadCall) (bytes buffer : List ℕ) → count ≤ 256
-    → parts.countOf (call .task .plan .reads) (call .task .lent .length) ≡ count → call .received < count
+    → parts.readCount (call .task .plan .reads) (call .task .lent .length) ≡ count → call .received < count
     → drop (call .received * 32) buffer ≡ drop (call .received * 32) start
     → Front count start (advanceOf call) (storedOf call bytes buffer)
-unfolding advanceOf storedOf phaseAfter parts.mostOf parts.countOf if_then_else_
+unfolding advanceOf storedOf phaseAfter parts.mostOf parts.readCount if_then_else_
 block-front count start call bytes buffer few counts below same = by (call .task .plan .reads) refl (leb count (moreOf (call .received))) refl
   where
     next : moreOf (call .received) ≡ call .received + 1
@@ -284,15 +284,15 @@ module _ (count : ℕ) (start : List ℕ) (few : count ≤ 256) where
   fed (e ∷ es) r s =
       fed es (reportedR r e) (keeps (r .call) (reportedR r e .call) (r .buffer) (reportedR r e .buffer) (steps (r .call) (e .outcome) (e .reply) (r .buffer) (e .work)) s)
 
-module _ (plan : ReadPlan) (w : ℕ) (buffer : List ℕ) (r : plan .retries ≤ 65535) (bare : parts.hasHead (plan .head) ≡ false → 0 < parts.countOf (plan .reads) (length buffer))
-    (few : parts.countOf (plan .reads) (length buffer) ≤ 256) (es : List ReadReport) where
+module _ (plan : ReadPlan) (w : ℕ) (buffer : List ℕ) (r : plan .retries ≤ 65535) (bare : parts.hasHead (plan .head) ≡ false → 0 < parts.readCount (plan .reads) (length buffer))
+    (few : parts.readCount (plan .reads) (length buffer) ≤ 256) (es : List ReadReport) where
   abbrev pub after : Reader
   after = feedR (record { call = startOf plan (length buffer) w; buffer = buffer }) es
 
-  pub sound : Sound (parts.countOf (plan .reads) (length buffer)) buffer after
+  pub sound : Sound (parts.readCount (plan .reads) (length buffer)) buffer after
   unfolding startOf nothing
   sound =
-      fed (parts.countOf (plan .reads) (length buffer)) buffer few es (record { call = startOf plan (length buffer) w; buffer = buffer })
+      fed (parts.readCount (plan .reads) (length buffer)) buffer few es (record { call = startOf plan (length buffer) w; buffer = buffer })
       (record {
         counts = refl;
         due = λ e h. bare h;
@@ -313,16 +313,16 @@ module _ (plan : ReadPlan) (w : ℕ) (buffer : List ℕ) (r : plan .retries ≤ 
   pub kept : (after .call .phase ≡ phase.Ended answer.Done → ⊥) → drop (after .call .received * 32) (after .buffer) ≡ drop (after .call .received * 32) buffer
   kept undone = by (sound .front)
     where
-      by : Front (parts.countOf (plan .reads) (length buffer)) buffer (after .call) (after .buffer)
+      by : Front (parts.readCount (plan .reads) (length buffer)) buffer (after .call) (after .buffer)
           → drop (after .call .received * 32) (after .buffer) ≡ drop (after .call .received * 32) buffer
       by (inl d) = absurd (undone d)
       by (inr f) = f .0
 
   -- with a single read it is as it was altogether
-  pub untouched : parts.countOf (plan .reads) (length buffer) ≤ 1 → (after .call .phase ≡ phase.Ended answer.Done → ⊥) → after .buffer ≡ buffer
+  pub untouched : parts.readCount (plan .reads) (length buffer) ≤ 1 → (after .call .phase ≡ phase.Ended answer.Done → ⊥) → after .buffer ≡ buffer
   untouched one undone = by (sound .front)
     where
-      by : Front (parts.countOf (plan .reads) (length buffer)) buffer (after .call) (after .buffer) → after .buffer ≡ buffer
+      by : Front (parts.readCount (plan .reads) (length buffer)) buffer (after .call) (after .buffer) → after .buffer ≡ buffer
       by (inl d) = absurd (undone d)
       by (inr (same, inl none)) = rw none at same
       by (inr (same, inr less)) = let none : after .call .received ≡ 0 = omega arith in rw none at same

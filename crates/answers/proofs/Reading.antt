@@ -22,7 +22,7 @@ use Rattle.engine.specs.declared.bus.Phase.{Phase}
 use Rattle.engine.specs.declared.bus.Phase.the-variants as phase
 use Rattle.reading.specs.Pick.{case_refused_fault_headed_block_}
 use Rattle.reading.specs.Parts as parts
-use Rattle.reading.specs.Reading.{dueAsk, headedOf, advanceOf, retryOf, endOf, failOf, heardHead, verdictOf, heardBlock, acknowledgedOf, outcomeOf, judgeOf, reportOf}
+use Rattle.reading.specs.Reading.{dueAsk, headedOf, advanceOf, retryOf, endOf, failOf, heardHead, verdictOf, heardBlock, acknowledgedOf, weighOf, judgeOf, reportOf}
 use Rattle.reading.specs.declared.call.ReadCall.{ReadCall}
 use Rattle.reading.specs.declared.call.Verdict.{Verdict}
 use Rattle.reading.specs.declared.call.Verdict.the-variants as verdict
@@ -63,12 +63,12 @@ module _ (call : ReadCall) (o : Outcome) (bytes : List ℕ) (n w : ℕ) where
       by false t = let q : failOf call why .phase ≡ phase.Waiting = rw t in subst Holds (sym q) tt
 
   -- all reads are made, or some are left
-  after-holds : (m : ℕ) (p : Phase) → p ≡ phaseAfter (parts.countOf (call .task .plan .reads) (call .task .lent .length)) m
-      → (parts.countOf (call .task .plan .reads) (call .task .lent .length) ≤ m → Reads call o bytes n w 0 0) → Holds p
+  after-holds : (m : ℕ) (p : Phase) → p ≡ phaseAfter (parts.readCount (call .task .plan .reads) (call .task .lent .length)) m
+      → (parts.readCount (call .task .plan .reads) (call .task .lent .length) ≤ m → Reads call o bytes n w 0 0) → Holds p
   unfolding phaseAfter if_then_else_
-  after-holds m p is row = by (leb (parts.countOf (call .task .plan .reads) (call .task .lent .length)) m) refl
+  after-holds m p is row = by (leb (parts.readCount (call .task .plan .reads) (call .task .lent .length)) m) refl
     where
-      by : (t : Bool) → leb (parts.countOf (call .task .plan .reads) (call .task .lent .length)) m ≡ t → Holds p
+      by : (t : Bool) → leb (parts.readCount (call .task .plan .reads) (call .task .lent .length)) m ≡ t → Holds p
       by true t = let q : p ≡ phase.Ended answer.Done = is ∙ rw t in subst Holds (sym q) (row (leb-true _ _ t))
       by false t = let q : p ≡ phase.Waiting = is ∙ rw t in subst Holds (sym q) tt
 
@@ -93,16 +93,16 @@ module _ (call : ReadCall) (o : Outcome) (bytes : List ℕ) (n w : ℕ) where
   -- a read that was acknowledged
   block-holds : OpenR call n w → o ≡ outcome.Acknowledged → call .heading ≡ false → Holds (leads (heardBlock (dueAsk call) bytes))
   unfolding heardBlock verdictOf reply.heardOf advanceOf asked made if_then_else_
-  block-holds ready ack h = by (eqb (reply.countOf (dueAsk call)) (length bytes)) refl (dueAsk call .pec) refl (reply.checkedOf (dueAsk call .covered) bytes) refl
+  block-holds ready ack h = by (eqb (reply.bytesAsked (dueAsk call)) (length bytes)) refl (dueAsk call .pec) refl (reply.checkedOf (dueAsk call .covered) bytes) refl
     where
-      some : asked call ≡ reply.countOf (dueAsk call)
+      some : asked call ≡ reply.bytesAsked (dueAsk call)
       some = rw h
 
       good : leads (heardBlock (dueAsk call) bytes) ≡ advanceOf call .phase → length bytes ≡ asked call → (Damaged call bytes → ⊥) → Holds (leads (heardBlock (dueAsk call) bytes))
       good q size fine =
           subst Holds (sym q) (after-holds (moreOf (call .received)) (advanceOf call .phase) refl (λ all. done ready ack size fine (rw h all)))
 
-      by : (t : Bool) → eqb (reply.countOf (dueAsk call)) (length bytes) ≡ t → (p : Bool) → dueAsk call .pec ≡ p
+      by : (t : Bool) → eqb (reply.bytesAsked (dueAsk call)) (length bytes) ≡ t → (p : Bool) → dueAsk call .pec ≡ p
           → (k : Bool) → reply.checkedOf (dueAsk call .covered) bytes ≡ k → Holds (leads (heardBlock (dueAsk call) bytes))
       by false t p x k y =
           let q : leads (heardBlock (dueAsk call) bytes) ≡ phase.Ended answer.WrongReply = rw t in
@@ -113,22 +113,22 @@ module _ (call : ReadCall) (o : Outcome) (bytes : List ℕ) (n w : ℕ) where
           let q : leads (heardBlock (dueAsk call) bytes) ≡ failOf call answer.Pec .phase = rw (t, x, y) in
           subst Holds (sym q) (fail-holds answer.Pec (wrong-pec ready ack (sym (some ∙ eqb-true _ _ t)) (h, x, y)))
 
-  outcome-holds : OpenR call n w → (x : Outcome) → o ≡ x → Holds (leads (outcomeOf call o bytes))
-  unfolding outcomeOf acknowledgedOf case_acknowledged_error_timeout_ if_then_else_
+  outcome-holds : OpenR call n w → (x : Outcome) → o ≡ x → Holds (leads (weighOf call o bytes))
+  unfolding weighOf acknowledgedOf case_acknowledged_error_timeout_ if_then_else_
   outcome-holds ready outcome.Acknowledged e = by (call .heading) refl
     where
-      by : (t : Bool) → call .heading ≡ t → Holds (leads (outcomeOf call o bytes))
+      by : (t : Bool) → call .heading ≡ t → Holds (leads (weighOf call o bytes))
       by true h =
-          let q : outcomeOf call o bytes ≡ heardHead (length bytes) = rw (e, h) in
+          let q : weighOf call o bytes ≡ heardHead (length bytes) = rw (e, h) in
           subst (λ (v : Verdict). Holds (leads v)) (sym q) (head-holds ready e h)
       by false h =
-          let q : outcomeOf call o bytes ≡ heardBlock (dueAsk call) bytes = rw (e, h) in
+          let q : weighOf call o bytes ≡ heardBlock (dueAsk call) bytes = rw (e, h) in
           subst (λ (v : Verdict). Holds (leads v)) (sym q) (block-holds ready e h)
   outcome-holds ready (outcome.BusError code) e =
-      let q : outcomeOf call o bytes ≡ verdict.Failed (answer.I2c code) = rw e in
+      let q : weighOf call o bytes ≡ verdict.Failed (answer.I2c code) = rw e in
       subst (λ (v : Verdict). Holds (leads v)) (sym q) (fail-holds (answer.I2c code) (bus-error code ready e))
   outcome-holds ready outcome.Timeout e =
-      let q : outcomeOf call o bytes ≡ verdict.Failed answer.Timeout = rw e in
+      let q : weighOf call o bytes ≡ verdict.Failed answer.Timeout = rw e in
       subst (λ (v : Verdict). Holds (leads v)) (sym q) (fail-holds answer.Timeout (timed-out ready e))
 
   judge-holds : Holds (leads (judgeOf call o bytes n w))
@@ -143,12 +143,12 @@ module _ (call : ReadCall) (o : Outcome) (bytes : List ℕ) (n w : ℕ) where
           let q : judgeOf call o bytes n w ≡ verdict.Refused answer.WrongBuffer = rw (e, f) in
           subst (λ (v : Verdict). Holds (leads v)) (sym q) (wrong-buffer e (other-fits (call .task .lent) n w f))
       by phase.Waiting e true f =
-          let q : judgeOf call o bytes n w ≡ outcomeOf call o bytes = rw (e, f) in
+          let q : judgeOf call o bytes n w ≡ weighOf call o bytes = rw (e, f) in
           subst (λ (v : Verdict). Holds (leads v)) (sym q) (outcome-holds (e, fits-same (call .task .lent) n w f) o refl)
 
   -- ---- and a row that holds is answered
 
-  looked : OpenR call n w → judgeOf call o bytes n w ≡ outcomeOf call o bytes
+  looked : OpenR call n w → judgeOf call o bytes n w ≡ weighOf call o bytes
   unfolding judgeOf case_waiting_ended_ if_then_else_
   looked (e, same) = rw (e, same-fits (call .task .lent) n w same)
 
@@ -157,7 +157,7 @@ module _ (call : ReadCall) (o : Outcome) (bytes : List ℕ) (n w : ℕ) where
   gives-up why last = rw (eq-eqb (call .budget .left) 0 last)
 
   heard : OpenR call n w → o ≡ outcome.Acknowledged → judgeOf call o bytes n w ≡ acknowledgedOf call bytes
-  unfolding outcomeOf case_acknowledged_error_timeout_
+  unfolding weighOf case_acknowledged_error_timeout_
   heard ready ack = looked ready ∙ rw ack
 
   -- a read, and not a head
@@ -165,12 +165,12 @@ module _ (call : ReadCall) (o : Outcome) (bytes : List ℕ) (n w : ℕ) where
   unfolding acknowledgedOf if_then_else_
   reading h = rw h
 
-  asked-some : call .heading ≡ false → asked call ≡ reply.countOf (dueAsk call)
+  asked-some : call .heading ≡ false → asked call ≡ reply.bytesAsked (dueAsk call)
   unfolding asked if_then_else_
   asked-some h = rw h
 
   done-row : OpenR call n w → o ≡ outcome.Acknowledged → length bytes ≡ asked call → (Damaged call bytes → ⊥)
-      → parts.countOf (call .task .plan .reads) (call .task .lent .length) ≤ made call → leads (judgeOf call o bytes n w) ≡ phase.Ended answer.Done
+      → parts.readCount (call .task .plan .reads) (call .task .lent .length) ≤ made call → leads (judgeOf call o bytes n w) ≡ phase.Ended answer.Done
   unfolding acknowledgedOf heardHead heardBlock verdictOf reply.heardOf headedOf advanceOf phaseAfter asked made if_then_else_
   done-row ready ack size fine all = ap leads (heard ready ack) ∙ by (call .heading) refl (dueAsk call .pec) refl (reply.checkedOf (dueAsk call .covered) bytes) refl
     where
@@ -178,11 +178,11 @@ module _ (call : ReadCall) (o : Outcome) (bytes : List ℕ) (n w : ℕ) where
           → leads (acknowledgedOf call bytes) ≡ phase.Ended answer.Done
       by true h p x k y = let none : length bytes ≡ 0 = size ∙ rw h in let every = rw h at all in rw (h, eq-eqb (length bytes) 0 none, le-leb _ _ every)
       by false h false x k y =
-          let t = eq-eqb (reply.countOf (dueAsk call)) (length bytes) (sym (size ∙ asked-some h)) in
+          let t = eq-eqb (reply.bytesAsked (dueAsk call)) (length bytes) (sym (size ∙ asked-some h)) in
           let every = rw h at all in
           ap leads (reading h) ∙ rw (t, x, le-leb _ _ every)
       by false h true x true y =
-          let t = eq-eqb (reply.countOf (dueAsk call)) (length bytes) (sym (size ∙ asked-some h)) in
+          let t = eq-eqb (reply.bytesAsked (dueAsk call)) (length bytes) (sym (size ∙ asked-some h)) in
           let every = rw h at all in
           ap leads (reading h) ∙ rw (t, x, y, le-leb _ _ every)
       by false h true x false y = absurd (fine (h, x, y))
@@ -191,7 +191,7 @@ module _ (call : ReadCall) (o : Outcome) (bytes : List ℕ) (n w : ℕ) where
       → leads (judgeOf call o bytes n w) ≡ phase.Ended answer.Pec
   unfolding acknowledgedOf heardBlock verdictOf reply.heardOf asked if_then_else_
   pec-row ready ack size (h, x, y) last =
-      let t = eq-eqb (reply.countOf (dueAsk call)) (length bytes) (sym (size ∙ asked-some h)) in
+      let t = eq-eqb (reply.bytesAsked (dueAsk call)) (length bytes) (sym (size ∙ asked-some h)) in
       ap leads (heard ready ack ∙ reading h) ∙ rw (t, x, y) (gives-up answer.Pec last)
 
   wrong-row : OpenR call n w → o ≡ outcome.Acknowledged → (length bytes ≡ asked call → ⊥) → leads (judgeOf call o bytes n w) ≡ phase.Ended answer.WrongReply
@@ -201,11 +201,11 @@ module _ (call : ReadCall) (o : Outcome) (bytes : List ℕ) (n w : ℕ) where
       by : (t : Bool) → call .heading ≡ t → leads (acknowledgedOf call bytes) ≡ phase.Ended answer.WrongReply
       by true h = let z : asked call ≡ 0 = rw h in rw (h, ne-eqb (length bytes) 0 (λ e. other (e ∙ sym z)))
       by false h =
-          let t = ne-eqb (reply.countOf (dueAsk call)) (length bytes) (λ e. other (sym e ∙ sym (asked-some h))) in
+          let t = ne-eqb (reply.bytesAsked (dueAsk call)) (length bytes) (λ e. other (sym e ∙ sym (asked-some h))) in
           ap leads (reading h) ∙ rw t
 
   report-row : (k d : ℕ) → Reads call o bytes n w k d → Says k d (leads (judgeOf call o bytes n w))
-  unfolding judgeOf outcomeOf case_waiting_ended_ case_acknowledged_error_timeout_ if_then_else_
+  unfolding judgeOf weighOf case_waiting_ended_ case_acknowledged_error_timeout_ if_then_else_
   report-row k d (done ready ack size fine all) = says-of answer.Done (leads (judgeOf call o bytes n w)) (done-row ready ack size fine all)
   report-row k d (bus-error code ready e last) =
       says-of (answer.I2c code) (leads (judgeOf call o bytes n w)) (ap leads (looked ready) ∙ rw e (gives-up (answer.I2c code) last))

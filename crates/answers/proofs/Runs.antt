@@ -65,7 +65,7 @@ module _ (call : WriteCall) where
 
 -- what stays true: a waiting call has frames left, and each frame so far had at most 65,535 waits
 pub record Sound (count : ℕ) (call : WriteCall) : Type 0 where
-  counts : frames.countOf (call .task .plan .frames) (call .task .lent .length) ≡ count
+  counts : frames.frameCount (call .task .plan .frames) (call .task .lent .length) ≡ count
   retries : call .task .plan .retries ≤ 65535
   pub due : call .phase ≡ phase.Waiting → call .sent < count
   sent : call .sent ≤ 256
@@ -122,11 +122,11 @@ module _ (count : ℕ) (few : count ≤ 256) where
 
 -- a call with at most 256 frames, if it waits at its start, keeps this
 pub sound : (plan : WritePlan) (n w : ℕ) → plan .retries ≤ 65535
-    → (startOf plan n w .phase ≡ phase.Waiting → 0 < frames.countOf (plan .frames) n) → frames.countOf (plan .frames) n ≤ 256
-    → (es : List WriteReport) → Sound (frames.countOf (plan .frames) n) (feedW (startOf plan n w) es)
+    → (startOf plan n w .phase ≡ phase.Waiting → 0 < frames.frameCount (plan .frames) n) → frames.frameCount (plan .frames) n ≤ 256
+    → (es : List WriteReport) → Sound (frames.frameCount (plan .frames) n) (feedW (startOf plan n w) es)
 unfolding startOf nothing
 sound plan n w r some few es =
-    fed (frames.countOf (plan .frames) n) few es (startOf plan n w)
+    fed (frames.frameCount (plan .frames) n) few es (startOf plan n w)
     (record { counts = refl; retries = r; due = some; sent = omega arith; spare = r; waits = omega arith })
 
 -- so it never gets near the end of a counter

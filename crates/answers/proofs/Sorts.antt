@@ -175,16 +175,16 @@ module _ (call : ReadCall) where
       by true t = let q : reading.heardHead r ≡ verdict.Head = rw t in subst Fit (sym q) p
       by false t = let q : reading.heardHead r ≡ verdict.Refused answer.WrongReply = rw t in subst Fit (sym q) (inr (inl refl))
 
-  outcome-fit : (o : Outcome) (bytes : List ℕ) → call .phase ≡ phase.Waiting → Fit (reading.outcomeOf call o bytes)
-  unfolding reading.outcomeOf reading.acknowledgedOf reading.heardBlock case_acknowledged_error_timeout_ if_then_else_
+  outcome-fit : (o : Outcome) (bytes : List ℕ) → call .phase ≡ phase.Waiting → Fit (reading.weighOf call o bytes)
+  unfolding reading.weighOf reading.acknowledgedOf reading.heardBlock case_acknowledged_error_timeout_ if_then_else_
   outcome-fit outcome.Acknowledged bytes p = by (call .heading) refl
     where
-      by : (t : Bool) → call .heading ≡ t → Fit (reading.outcomeOf call outcome.Acknowledged bytes)
+      by : (t : Bool) → call .heading ≡ t → Fit (reading.weighOf call outcome.Acknowledged bytes)
       by true h =
-          let q : reading.outcomeOf call outcome.Acknowledged bytes ≡ reading.heardHead (length bytes) = rw h in
+          let q : reading.weighOf call outcome.Acknowledged bytes ≡ reading.heardHead (length bytes) = rw h in
           subst Fit (sym q) (head-fit (length bytes) p)
       by false h =
-          let q : reading.outcomeOf call outcome.Acknowledged bytes ≡ reading.heardBlock (reading.dueAsk call) bytes = rw h in
+          let q : reading.weighOf call outcome.Acknowledged bytes ≡ reading.heardBlock (reading.dueAsk call) bytes = rw h in
           subst Fit (sym q) (heard-fit (reply.heardOf (reading.dueAsk call) bytes) p)
   outcome-fit (outcome.BusError code) bytes p = (p, inr (inl refl))
   outcome-fit outcome.Timeout bytes p = (p, inr (inr (inl refl)))
@@ -201,7 +201,7 @@ module _ (call : ReadCall) where
           let q : reading.judgeOf call o bytes n w ≡ verdict.Refused answer.WrongBuffer = rw (e, f) in
           subst Fit (sym q) (inl refl)
       by phase.Waiting e true f =
-          let q : reading.judgeOf call o bytes n w ≡ reading.outcomeOf call o bytes = rw (e, f) in
+          let q : reading.judgeOf call o bytes n w ≡ reading.weighOf call o bytes = rw (e, f) in
           subst Fit (sym q) (outcome-fit o bytes e)
 
   -- a call that goes on or is done
@@ -216,9 +216,9 @@ module _ (call : ReadCall) where
   -- once a block is handed over the call waits or is done
   block-kept : (before after : List ℕ) → Kept (reading.advanceOf call .phase) before after
   unfolding reading.advanceOf phaseAfter if_then_else_
-  block-kept before after going undone = by (leb (parts.countOf (call .task .plan .reads) (call .task .lent .length)) (moreOf (call .received))) refl
+  block-kept before after going undone = by (leb (parts.readCount (call .task .plan .reads) (call .task .lent .length)) (moreOf (call .received))) refl
     where
-      by : (t : Bool) → leb (parts.countOf (call .task .plan .reads) (call .task .lent .length)) (moreOf (call .received)) ≡ t → after ≡ before
+      by : (t : Bool) → leb (parts.readCount (call .task .plan .reads) (call .task .lent .length)) (moreOf (call .received)) ≡ t → after ≡ before
       by true t = absurd (undone (rw t (refl, refl)))
       by false t = absurd (going (rw t))
 
@@ -284,7 +284,7 @@ module _ (call : ReadCall) where
           → At (reading.workAfter call n work) (reading.nextOf call n (length work))
       by (phase.Ended a) e t f s g k h = both work (transfer.Ended a) (rw e) (rw e) (e, refl)
       by phase.Waiting e false f s g k h = both work (transfer.Refused answer.WrongBuffer) (rw (f, e)) (rw (f, e)) (e, refl, refl)
-      by phase.Waiting e true f false g k h = both work (transfer.Read (reading.dueAsk call .command) (reply.countOf (reading.dueAsk call))) (rw (g, f, e)) (rw (g, f, e)) (e, fits-same _ _ _ f, (g, refl, rw g), refl)
+      by phase.Waiting e true f false g k h = both work (transfer.Read (reading.dueAsk call .command) (reply.bytesAsked (reading.dueAsk call))) (rw (g, f, e)) (rw (g, f, e)) (e, fits-same _ _ _ f, (g, refl, rw g), refl)
       by phase.Waiting e true f true g true h =
           both (over sent work) (transfer.Write (length sent)) (rw (h, g, f, e)) (due e f g ∙ ap writeOf (has-room h)) (e, fits-same _ _ _ f, g, drop-over (length sent) sent work (omega arith))
       by phase.Waiting e true f true g false h = both work (transfer.Refused answer.WrongBuffer) (rw (h, g, f, e)) (due e f g ∙ ap writeOf (no-room h)) (e, refl, refl)

@@ -21,7 +21,7 @@ unlooked-w call (outcome.BusError code) bad r r′ n w = refl
 unlooked-w call outcome.Timeout bad r r′ n w = refl
 
 same-report : (call : ReadCall) (o : Outcome) → Failure o → (bytes bytes′ : List ℕ) (n w : ℕ) → reading.reportOf call o bytes n w ≡ reading.reportOf call o bytes′ n w
-unfolding reading.reportOf reading.judgeOf reading.outcomeOf case_acknowledged_error_timeout_
+unfolding reading.reportOf reading.judgeOf reading.weighOf case_acknowledged_error_timeout_
 same-report call outcome.Acknowledged bad bytes bytes′ n w = absurd bad
 same-report call (outcome.BusError code) bad bytes bytes′ n w = refl
 same-report call outcome.Timeout bad bytes bytes′ n w = refl

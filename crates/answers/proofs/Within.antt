@@ -47,10 +47,10 @@ use Rattle.answers.proofs.Kept as kept
 
 -- what a plan gives for a payload that fits: one frame or more, at most 256, each with room or the caller's own, each in the window
 record Sane (plan : WritePlan) (payload : List ℕ) : Type 0 where
-  some : 0 < frames.countOf (plan .frames) (length payload)
-  few : frames.countOf (plan .frames) (length payload) ≤ 256
+  some : 0 < frames.frameCount (plan .frames) (length payload)
+  few : frames.frameCount (plan .frames) (length payload) ≤ 256
   room : (i : ℕ) → ((frames.isPlain (plan .frames) ≡ true) × (plan .pec ≡ false)) ⊎ (length (frames.bytesAt (plan .frames) i payload) ≤ 38)
-  inside : (i : ℕ) → i < frames.countOf (plan .frames) (length payload) → Inside (plan .limit) (length payload) i
+  inside : (i : ℕ) → i < frames.frameCount (plan .frames) (length payload) → Inside (plan .limit) (length payload) i
 
 length-half : (lower upper i : ℕ) → length (frames.halfBytes lower upper i) ≤ 38
 unfolding frames.halfBytes macBytes pairOf if_then_else_
@@ -81,12 +81,12 @@ length-mac mac.MfgInfoC payload h = omega arith
 
 module _ (config : Config) (payload : List ℕ) where
   -- one frame that has room
-  one-frame : (plan : WritePlan) → frames.countOf (plan .frames) (length payload) ≡ 1 → ((i : ℕ) → length (frames.bytesAt (plan .frames) i payload) ≤ 38)
+  one-frame : (plan : WritePlan) → frames.frameCount (plan .frames) (length payload) ≡ 1 → ((i : ℕ) → length (frames.bytesAt (plan .frames) i payload) ≤ 38)
       → ((i : ℕ) → Inside (plan .limit) (length payload) i) → Sane plan payload
   one-frame plan one room at = record { some = omega (arith, one); few = omega (arith, one); room = λ i. inr (room i); inside = λ i h. at i }
 
   plain-sane : (pec : Bool) → config .«pec_write» ≡ pec → Fits (writeWithRetries config .limit) (length payload) → Sane (writeWithRetries config) payload
-  unfolding writeWithRetries plainLimit writing.planOf frames.countOf frames.isPlain frames.bytesAt if_then_else_
+  unfolding writeWithRetries plainLimit writing.planOf frames.frameCount frames.isPlain frames.bytesAt if_then_else_
   plain-sane true e h =
       let q : writeWithRetries config .limit ≡ limit.AtMost 38 = rw e in
       let k : length payload ≤ 38 = subst (λ (l : Limit). Fits l (length payload)) q h in
@@ -96,11 +96,11 @@ module _ (config : Config) (payload : List ℕ) where
       record { some = omega arith; few = omega arith; room = λ i. inl (refl, e); inside = λ i h. subst (λ (l : Limit). Inside l (length payload) i) (sym q) tt }
 
   key-sane : (lower upper : ℕ) → Sane (sendAccessKey config lower upper) payload
-  unfolding sendAccessKey writing.planOf frames.countOf frames.bytesAt
+  unfolding sendAccessKey writing.planOf frames.frameCount frames.bytesAt
   key-sane lower upper = record { some = omega arith; few = omega arith; room = λ i. inr (length-half lower upper i); inside = λ i h. tt }
 
   sane : (plan : WritePlan) → WritesBy config plan → Fits (plan .limit) (length payload) → Sane plan payload
-  unfolding writeRegister writeBuffer macWrite sendAccessKey writeMfgInfoC writeMfgInfo writeDataflash writing.planOf frames.countOf frames.isPlain frames.bytesAt registerBytes infoBytes
+  unfolding writeRegister writeBuffer macWrite sendAccessKey writeMfgInfoC writeMfgInfo writeDataflash writing.planOf frames.frameCount frames.isPlain frames.bytesAt registerBytes infoBytes
   sane plan (write-with-retries) h = plain-sane (config .«pec_write») refl h
   sane plan (write-register address) h = one-frame plan refl (λ i. omega arith) (λ i. tt)
   sane plan (write-buffer address) h = one-frame plan refl (λ i. omega arith) (λ i. tt)
@@ -149,7 +149,7 @@ module _ (plan : WritePlan) (payload : List ℕ) (w : ℕ) (s : Sane plan payloa
       by (inl (p, q)) = let z : _≡_ {A = ℕ} 0 1 = cc (rw (t, p, q) at o) in absurd (omega arith)
       by (inr h) = rw t (omega arith)
 
-  writes-on : call .phase ≡ phase.Waiting → call .sent < frames.countOf (plan .frames) (length payload) → WritesOn plan payload w call
+  writes-on : call .phase ≡ phase.Waiting → call .sent < frames.frameCount (plan .frames) (length payload) → WritesOn plan payload w call
   writes-on e due = record { due = due; inside = s .inside (call .sent) due; shows = shows-write call payload w e fits-start has-room }
 
 -- refused or done at its start, a call stays so
@@ -196,7 +196,7 @@ writes-within config r plan name payload w es = by (writing.startOf plan (length
         let few = retries-write config plan name in
         let sound = runs.sound plan (length payload) w (omega arith) (λ h. s .some) (s .few) es in
         record {
-          counters = runs.tame (frames.countOf (plan .frames) (length payload)) (feedW begun es) sound;
+          counters = runs.tame (frames.frameCount (plan .frames) (length payload)) (feedW begun es) sound;
           goes-on = λ h. writes-on plan payload w s (open-fits .0) (feedW begun es) (runs.same-task es begun) h (sound .due h);
         }
 
@@ -212,13 +212,13 @@ length-head (head.DataFlash start) i = omega arith
 
 -- what a plan gives for a buffer that fits
 record SaneRead (plan : ReadPlan) (n : ℕ) : Type 0 where
-  few : parts.countOf (plan .reads) n ≤ 256
-  bare : parts.hasHead (plan .head) ≡ false → 0 < parts.countOf (plan .reads) n
-  inside : (i : ℕ) → (0 < parts.countOf (plan .reads) n → i < parts.countOf (plan .reads) n) → Inside (plan .limit) n i
+  few : parts.readCount (plan .reads) n ≤ 256
+  bare : parts.hasHead (plan .head) ≡ false → 0 < parts.readCount (plan .reads) n
+  inside : (i : ℕ) → (0 < parts.readCount (plan .reads) n → i < parts.readCount (plan .reads) n) → Inside (plan .limit) n i
   asks : (i : ℕ) → parts.askOf (plan .reads) n i .wanted ≤ n + 33
 
 module _ (config : Config) (n : ℕ) where
-  one-read : (plan : ReadPlan) → parts.countOf (plan .reads) n ≡ 1 → ((i : ℕ) → Inside (plan .limit) n i) → ((i : ℕ) → parts.askOf (plan .reads) n i .wanted ≤ n + 33) → SaneRead plan n
+  one-read : (plan : ReadPlan) → parts.readCount (plan .reads) n ≡ 1 → ((i : ℕ) → Inside (plan .limit) n i) → ((i : ℕ) → parts.askOf (plan .reads) n i .wanted ≤ n + 33) → SaneRead plan n
   one-read plan one at asks = record { few = omega (arith, one); bare = λ h. omega (arith, one); inside = λ i h. at i; asks = asks }
 
   whole-asks : (pec : Bool) (size : ℕ) → size ≤ 33 → wholeAsk pec size n ≤ n + 33
@@ -232,7 +232,7 @@ module _ (config : Config) (n : ℕ) where
   block-asks left false = omega arith
 
   command-sane : (address input : ℕ) → SaneRead (dispatchCommand config address input n) n
-  unfolding dispatchCommand commandReads parts.countOf parts.askOf parts.hasHead reply.macAsk if_then_else_
+  unfolding dispatchCommand commandReads parts.readCount parts.askOf parts.hasHead reply.macAsk if_then_else_
   command-sane address input = by (eqb n 0) refl
     where
       by : (t : Bool) → eqb n 0 ≡ t → SaneRead (dispatchCommand config address input n) n
@@ -240,7 +240,7 @@ module _ (config : Config) (n : ℕ) where
       by false t = record { few = rw t (omega arith); bare = λ h. rw t (omega arith); inside = λ i h. tt; asks = λ i. rw t (omega arith) }
 
   sane-read : (plan : ReadPlan) → ReadsBy config n plan → Fits (plan .limit) n → SaneRead plan n
-  unfolding readRegister readBuffer macRead readMfgInfoC readMfgInfo readDataflash reading.plainPlan reading.macPlan parts.countOf parts.askOf parts.hasHead reply.plainAsk reply.macAsk
+  unfolding readRegister readBuffer macRead readMfgInfoC readMfgInfo readDataflash reading.plainPlan reading.macPlan parts.readCount parts.askOf parts.hasHead reply.plainAsk reply.macAsk
   sane-read plan (read-register address) h = one-read plan refl (λ i. tt) (λ i. omega arith)
   sane-read plan (read-buffer address) h = one-read plan refl (λ i. tt) (λ i. omega arith)
   sane-read plan (dispatch-command address input) h = command-sane address input
@@ -283,7 +283,7 @@ module _ (plan : ReadPlan) (n w : ℕ) (s : SaneRead plan n) (k : 39 ≤ w) (cal
         rw (e, fits-begun, h) (laid-shown (call .task .plan .«head_pec») (parts.headBytes (call .task .plan .head) (call .received)) w (omega arith)),
       )
 
-  shows-its-read : call .heading ≡ false → reading.nextOf call n w ≡ transfer.Read (reading.dueAsk call .command) (reply.countOf (reading.dueAsk call))
+  shows-its-read : call .heading ≡ false → reading.nextOf call n w ≡ transfer.Read (reading.dueAsk call .command) (reply.bytesAsked (reading.dueAsk call))
   unfolding reading.nextOf reading.shownOf case_waiting_ended_ if_then_else_
   shows-its-read h = rw (h, fits-begun, e)
 
@@ -297,8 +297,8 @@ module _ (plan : ReadPlan) (n w : ℕ) (s : SaneRead plan n) (k : 39 ≤ w) (cal
       by false true = omega arith
       by false false = omega arith
 
-  asks-whole : n ≤ 9223372036854775807 → reply.countOf (reading.dueAsk call) ≡ reading.dueAsk call .wanted + reply.aroundOf (reading.dueAsk call)
-  unfolding reply.countOf reading.dueAsk reading.startOf
+  asks-whole : n ≤ 9223372036854775807 → reply.bytesAsked (reading.dueAsk call) ≡ reading.dueAsk call .wanted + reply.aroundOf (reading.dueAsk call)
+  unfolding reply.bytesAsked reading.dueAsk reading.startOf
   asks-whole h =
       let few : parts.askOf (call .task .plan .reads) (call .task .lent .length) (call .received) .wanted ≤ n + 33 = rw t (s .asks (call .received)) in
       let around = around-few in

@@ -86,9 +86,9 @@ module _ (call : WriteCall) (o : Outcome) (r n w : ℕ) where
 
   sent-holds : OpenW call n w → o ≡ outcome.Acknowledged → r ≡ 0 → Holds (advanceOf call .phase)
   unfolding advanceOf phaseAfter if_then_else_
-  sent-holds ready ack none = by (leb (frames.countOf (call .task .plan .frames) (call .task .lent .length)) (moreOf (call .sent))) refl
+  sent-holds ready ack none = by (leb (frames.frameCount (call .task .plan .frames) (call .task .lent .length)) (moreOf (call .sent))) refl
     where
-      by : (t : Bool) → leb (frames.countOf (call .task .plan .frames) (call .task .lent .length)) (moreOf (call .sent)) ≡ t → Holds (advanceOf call .phase)
+      by : (t : Bool) → leb (frames.frameCount (call .task .plan .frames) (call .task .lent .length)) (moreOf (call .sent)) ≡ t → Holds (advanceOf call .phase)
       by true t =
           let q : advanceOf call .phase ≡ phase.Ended answer.Done = rw t in
           subst Holds (sym q) (done ready ack none (leb-true _ _ t))

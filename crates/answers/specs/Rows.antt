@@ -119,7 +119,7 @@ Partial call = ((start : ℕ) × (call .task .plan .frames ≡ sent.DataFlash st
 pub data Writes (call : WriteCall) (o : Outcome) (r n w : ℕ) : ℕ → ℕ → Type 0 where
   -- 0: its last frame is acknowledged
   done : OpenW call n w → o ≡ outcome.Acknowledged → r ≡ 0
-      → frames.countOf (call .task .plan .frames) (call .task .lent .length) ≤ moreOf (call .sent) → Writes call o r n w 0 0
+      → frames.frameCount (call .task .plan .frames) (call .task .lent .length) ≤ moreOf (call .sent) → Writes call o r n w 0 0
   -- 1, 2: the last allowed attempt failed, with no block of data flash before it
   bus-error : (code : ℕ) → OpenW call n w → o ≡ outcome.BusError code → call .budget .left ≡ 0 → (Partial call → ⊥) → Writes call o r n w 1 code
   timed-out : OpenW call n w → o ≡ outcome.Timeout → call .budget .left ≡ 0 → (Partial call → ⊥) → Writes call o r n w 2 0
@@ -136,7 +136,7 @@ pub data Writes (call : WriteCall) (o : Outcome) (r n w : ℕ) : ℕ → ℕ →
 
 -- the number of bytes asked: none by a head
 unfoldable pub asked : ReadCall → ℕ
-asked call = if call .heading then 0 else reply.countOf (dueAsk call)
+asked call = if call .heading then 0 else reply.bytesAsked (dueAsk call)
 
 -- a read's PEC differs
 abbrev pub Damaged : ReadCall → List ℕ → Type 0
@@ -149,7 +149,7 @@ made call = if call .heading then call .received else moreOf (call .received)
 pub data Reads (call : ReadCall) (o : Outcome) (bytes : List ℕ) (n w : ℕ) : ℕ → ℕ → Type 0 where
   -- 0: all reads are made, or its head where it has none
   done : OpenR call n w → o ≡ outcome.Acknowledged → length bytes ≡ asked call → (Damaged call bytes → ⊥)
-      → parts.countOf (call .task .plan .reads) (call .task .lent .length) ≤ made call → Reads call o bytes n w 0 0
+      → parts.readCount (call .task .plan .reads) (call .task .lent .length) ≤ made call → Reads call o bytes n w 0 0
   -- 1, 2, 3: the last allowed attempt failed
   bus-error : (code : ℕ) → OpenR call n w → o ≡ outcome.BusError code → call .budget .left ≡ 0 → Reads call o bytes n w 1 code
   timed-out : OpenR call n w → o ≡ outcome.Timeout → call .budget .left ≡ 0 → Reads call o bytes n w 2 0

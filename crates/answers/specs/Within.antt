@@ -52,7 +52,7 @@ pub data WritesBy (config : Config) : WritePlan → Type 0 where
 
 -- a call that waits has a frame left, inside the window, and shows it where the lengths of the start are lent
 pub record WritesOn (plan : WritePlan) (payload : List ℕ) (w : ℕ) (call : WriteCall) : Type 0 where
-  pub due : call .sent < frames.countOf (plan .frames) (length payload)
+  pub due : call .sent < frames.frameCount (plan .frames) (length payload)
   pub inside : Inside (plan .limit) (length payload) (call .sent)
   pub shows : (n : ℕ) × (writing.nextOf call payload w ≡ transfer.Write n)
 
@@ -76,19 +76,19 @@ pub data ReadsBy (config : Config) (n : ℕ) : ReadPlan → Type 0 where
 
 -- a call that waits has a read left, or its head alone where it has none; it shows its head or a read, and the number asked is what is wanted and what stands around it
 pub record ReadsOn (plan : ReadPlan) (n w : ℕ) (call : ReadCall) : Type 0 where
-  pub due : (call .heading ≡ false) ⊎ (0 < parts.countOf (plan .reads) n) → call .received < parts.countOf (plan .reads) n
+  pub due : (call .heading ≡ false) ⊎ (0 < parts.readCount (plan .reads) n) → call .received < parts.readCount (plan .reads) n
   pub inside : Inside (plan .limit) n (call .received)
   pub shows-head : call .heading ≡ true → (m : ℕ) × (reading.nextOf call n w ≡ transfer.Write m)
-  pub shows-read : call .heading ≡ false → reading.nextOf call n w ≡ transfer.Read (reading.dueAsk call .command) (reply.countOf (reading.dueAsk call))
+  pub shows-read : call .heading ≡ false → reading.nextOf call n w ≡ transfer.Read (reading.dueAsk call .command) (reply.bytesAsked (reading.dueAsk call))
   -- for every buffer that a machine has: 2^63 - 1 bytes
-  pub asks : n ≤ 9223372036854775807 → reply.countOf (reading.dueAsk call) ≡ reading.dueAsk call .wanted + reply.aroundOf (reading.dueAsk call)
+  pub asks : n ≤ 9223372036854775807 → reply.bytesAsked (reading.dueAsk call) ≡ reading.dueAsk call .wanted + reply.aroundOf (reading.dueAsk call)
 
 -- until it has ended well, the buffer past the whole blocks is as it was; with a single read, all of it
 pub record ReadsWithin (plan : ReadPlan) (buffer : List ℕ) (w : ℕ) (now : Reader) : Type 0 where
   pub counters : TameR (now .call)
   pub goes-on : now .call .phase ≡ phase.Waiting → ReadsOn plan (length buffer) w (now .call)
   pub kept : (now .call .phase ≡ phase.Ended answer.Done → ⊥) → drop (now .call .received * 32) (now .buffer) ≡ drop (now .call .received * 32) buffer
-  pub untouched : parts.countOf (plan .reads) (length buffer) ≤ 1 → (now .call .phase ≡ phase.Ended answer.Done → ⊥) → now .buffer ≡ buffer
+  pub untouched : parts.readCount (plan .reads) (length buffer) ≤ 1 → (now .call .phase ≡ phase.Ended answer.Done → ⊥) → now .buffer ≡ buffer
 
 -- ---- for each of them, however it is fed
 

@@ -23,14 +23,14 @@ commanded input output =
     if ltb 32 output then phase.Ended answer.DataTooLarge else
     if eqb input 0 then phase.Waiting else phase.Ended answer.NotACommand
 
--- what n lent bytes come to
-unfoldable pub measured : Limit → ℕ → Phase
-measured limit.Free n = phase.Waiting
-measured (limit.AtMost most) n = if ltb most n then phase.Ended answer.DataTooLarge else phase.Waiting
-measured (limit.Exactly size) n = if eqb n size then phase.Waiting else phase.Ended answer.WrongBuffer
-measured (limit.Window address) n = windowed address n
-measured (limit.Command input) n = commanded input n
+-- what n lent bytes come to, of data flash from an address on
+unfoldable pub measured : Limit → ℕ → ℕ → Phase
+measured limit.Free start n = phase.Waiting
+measured (limit.AtMost most) start n = if ltb most n then phase.Ended answer.DataTooLarge else phase.Waiting
+measured (limit.Exactly size) start n = if eqb n size then phase.Waiting else phase.Ended answer.WrongBuffer
+measured limit.Window start n = windowed start n
+measured (limit.Command input) start n = commanded input n
 
 -- first of all, the work buffer has at least 39 bytes
-unfoldable pub admitted : Limit → ℕ → ℕ → Phase
-admitted l n w = if ltb w 39 then phase.Ended answer.WrongBuffer else measured l n
+unfoldable pub admitted : Limit → ℕ → ℕ → ℕ → Phase
+admitted l start n w = if ltb w 39 then phase.Ended answer.WrongBuffer else measured l start n

@@ -15,8 +15,8 @@ pub enum Limit {
     AtMost(usize),
     // Exactly so many bytes.
     Exactly(usize),
-    // A transfer inside the data-flash window, from this address on.
-    Window(u16),
+    // A transfer inside the data-flash window.
+    Window,
     // A command's output, beside an input of so many bytes.
     Command(usize),
 }
@@ -54,9 +54,9 @@ fn commanded(input: usize, output: usize) -> Phase
 }
 
 impl Limit {
-    // What a length comes to.
-    fn measure(self, length: usize) -> Phase
-        ensures { λ r. ⌜ r ≡ measured self length ⌝ }
+    // What a length comes to, of data flash from this address on.
+    fn measure(self, start: u16, length: usize) -> Phase
+        ensures { λ r. ⌜ r ≡ measured self start length ⌝ }
     {
         match self {
             Limit::Free => Phase::Waiting,
@@ -74,19 +74,19 @@ impl Limit {
                     Phase::Ended(Answer::WrongBuffer)
                 }
             }
-            Limit::Window(address) => windowed(address, length),
+            Limit::Window => windowed(start, length),
             Limit::Command(input) => commanded(input, length),
         }
     }
 
-    // A call with so many lent bytes and such a work buffer: it waits, is done at once, or is refused.
-    pub fn admit(self, length: usize, work: usize) -> Phase
-        ensures { λ r. ⌜ r ≡ admitted self length work ⌝ }
+    // A call with so many lent bytes and such a work buffer, of data flash from this address on: it waits, is done at once, or is refused.
+    pub fn admit(self, start: u16, length: usize, work: usize) -> Phase
+        ensures { λ r. ⌜ r ≡ admitted self start length work ⌝ }
     {
         if work < LEAST_WORK_BUFFER {
             Phase::Ended(Answer::WrongBuffer)
         } else {
-            self.measure(length)
+            self.measure(start, length)
         }
     }
 }

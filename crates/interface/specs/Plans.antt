@@ -11,7 +11,7 @@ use Rattle.engine.specs.declared.limit.Limit.the-variants as limit
 use Rattle.writing.specs.Writing.{planOf}
 use Rattle.writing.specs.declared.frames.Frames.the-variants as frames
 use Rattle.writing.specs.declared.call.WritePlan.{WritePlan}
-use Rattle.reading.specs.Reading.{plainPlan}
+use Rattle.reading.specs.Reading as reading
 use Rattle.reading.specs.declared.parts.Head.the-variants as head
 use Rattle.reading.specs.declared.parts.Reads.{Reads}
 use Rattle.reading.specs.declared.parts.Reads.the-variants as reads
@@ -31,7 +31,7 @@ writeRegister config address = planOf config (limit.AtMost 32) (frames.Register 
 
 -- at most 32 bytes, into a buffer of n
 unfoldable pub readRegister : Config → ℕ → ℕ → ReadPlan
-readRegister config address n = plainPlan config (limit.AtMost 32) (plainAsk address n (config .«pec_read»))
+readRegister config address n = reading.plainPlan config (limit.AtMost 32) (plainAsk address n (config .«pec_read»))
 
 -- a command with no output is a write, by `pec_write`; otherwise its frame goes by `pec_read`
 unfoldable pub commandPec : Config → ℕ → Bool
@@ -44,17 +44,12 @@ commandReads config address n =
 
 -- a command beside an input of so many bytes, with an output of n
 unfoldable pub dispatchCommand : Config → ℕ → ℕ → ℕ → ReadPlan
-dispatchCommand config address input n = record {
-  retries = config .«max_bus_retries»;
-  limit = limit.Command input;
-  head = head.Command address;
-  «head_pec» = commandPec config n;
-  reads = commandReads config address n;
-}
+dispatchCommand config address input n =
+    reading.planOf config (limit.Command input) (head.Command address) (commandPec config n) (commandReads config address n)
 
 -- any length, never with PEC
 unfoldable pub readBuffer : Config → ℕ → ℕ → ReadPlan
-readBuffer config address n = plainPlan config limit.Free (plainAsk address n false)
+readBuffer config address n = reading.plainPlan config limit.Free (plainAsk address n false)
 
 -- at most 33 bytes after the buffer's address
 unfoldable pub writeBuffer : Config → ℕ → WritePlan

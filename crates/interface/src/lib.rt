@@ -5,17 +5,12 @@ use protocol::consts::LARGEST_BUF_SIZE_BYTES;
 use protocol::consts::LARGEST_PLAIN_SIZE_BYTES;
 use protocol::consts::LARGEST_REG_SIZE_BYTES;
 use protocol::reply::Ask;
-use reading::call::ReadCall;
 use reading::call::ReadPlan;
 use reading::parts::Head;
 use reading::parts::Reads;
-use writing::call::WriteCall;
 use writing::call::WritePlan;
 use writing::frames::Frames;
 ghost use mathlib.Core.Path.{_≡_};
-ghost use lib.ListN.{length};
-ghost use Rattle.writing.specs.Writing.{startOf as writing-of};
-ghost use Rattle.reading.specs.Reading.{startOf as reading-of};
 ghost use Rattle.interface.specs.Plans.{plainLimit, writeWithRetries, writeRegister, readRegister, commandPec, commandReads, dispatchCommand, readBuffer, writeBuffer};
 
 // What a plain write asks of its length: with a PEC it has to leave room for it.
@@ -30,35 +25,32 @@ fn plain_limit(pec_write: bool) -> Limit
 }
 
 // The plain write: a frame that the caller built, sent from the caller's own bytes where no PEC goes after it.
-pub fn write_with_retries(config: Config, write: &[u8], work: &[u8]) -> WriteCall
-    ensures { λ r. ⌜ r ≡ writing-of (writeWithRetries config) (length (now (write .entry))) (length (now (work .entry))) ⌝ }
+pub fn write_with_retries(config: Config) -> WritePlan
+    ensures { λ r. ⌜ r ≡ writeWithRetries config ⌝ }
 {
-    let plan = WritePlan::new(config, plain_limit(config.pec_write), Frames::Plain);
-    WriteCall::start(plan, write, work)
+    WritePlan::new(config, plain_limit(config.pec_write), Frames::Plain)
 }
 
 // Writes a register of at most 32 bytes.
-pub fn write_register(config: Config, address: u8, payload: &[u8], work: &[u8]) -> WriteCall
-    ensures { λ r. ⌜ r ≡ writing-of (writeRegister config address) (length (now (payload .entry))) (length (now (work .entry))) ⌝ }
+pub fn write_register(config: Config, address: u8) -> WritePlan
+    ensures { λ r. ⌜ r ≡ writeRegister config address ⌝ }
 {
-    let plan = WritePlan::new(
+    WritePlan::new(
         config,
         Limit::AtMost(LARGEST_REG_SIZE_BYTES),
         Frames::Register(address),
-    );
-    WriteCall::start(plan, payload, work)
+    )
 }
 
-// Reads a register of at most 32 bytes.
-pub fn read_register(config: Config, address: u8, buffer: &[u8], work: &[u8]) -> ReadCall
-    ensures { λ r. ⌜ r ≡ reading-of (readRegister config address (length (now (buffer .entry)))) (length (now (buffer .entry))) (length (now (work .entry))) ⌝ }
+// Reads a register of at most 32 bytes, here n.
+pub fn read_register(config: Config, address: u8, n: usize) -> ReadPlan
+    ensures { λ r. ⌜ r ≡ readRegister config address n ⌝ }
 {
-    let plan = ReadPlan::plain(
+    ReadPlan::plain(
         config,
         Limit::AtMost(LARGEST_REG_SIZE_BYTES),
-        Ask::plain(address, buffer.len(), config.pec_read),
-    );
-    ReadCall::start(plan, buffer, work)
+        Ask::plain(address, n, config.pec_read),
+    )
 }
 
 // Whether a command's frame carries a PEC: with no output it is a write, otherwise it opens a read.
@@ -83,46 +75,33 @@ fn command_reads(config: Config, address: u32, output: usize) -> Reads
     }
 }
 
-// Dispatches a command, and reads its output where there is any. Input has to be empty.
-pub fn dispatch_command(
-    config: Config,
-    address: u32,
-    input: &[u8],
-    output: &[u8],
-    work: &[u8],
-) -> ReadCall
-    ensures { λ r. ⌜ r ≡ reading-of (dispatchCommand config address (length (now (input .entry))) (length (now (output .entry)))) (length (now (output .entry))) (length (now (work .entry))) ⌝ }
+// Dispatches a command with so many bytes of input, and reads so many of output. Input has to be empty.
+pub fn dispatch_command(config: Config, address: u32, input: usize, output: usize) -> ReadPlan
+    ensures { λ r. ⌜ r ≡ dispatchCommand config address input output ⌝ }
 {
-    let plan = ReadPlan {
-        retries: config.max_bus_retries,
-        limit: Limit::Command(input.len()),
-        head: Head::Command(address),
-        head_pec: command_pec(config, output.len()),
-        reads: command_reads(config, address, output.len()),
-    };
-    ReadCall::start(plan, output, work)
+    ReadPlan::new(
+        config,
+        Limit::Command(input),
+        Head::Command(address),
+        command_pec(config, output),
+        command_reads(config, address, output),
+    )
 }
 
-// Reads a buffer of any length, never with a PEC.
-pub fn read_buffer(config: Config, address: u8, buffer: &[u8], work: &[u8]) -> ReadCall
-    ensures { λ r. ⌜ r ≡ reading-of (readBuffer config address (length (now (buffer .entry)))) (length (now (buffer .entry))) (length (now (work .entry))) ⌝ }
+// Reads a buffer of any length, here n, never with a PEC.
+pub fn read_buffer(config: Config, address: u8, n: usize) -> ReadPlan
+    ensures { λ r. ⌜ r ≡ readBuffer config address n ⌝ }
 {
-    let plan = ReadPlan::plain(
-        config,
-        Limit::Free,
-        Ask::plain(address, buffer.len(), false),
-    );
-    ReadCall::start(plan, buffer, work)
+    ReadPlan::plain(config, Limit::Free, Ask::plain(address, n, false))
 }
 
 // Writes a buffer of at most 33 bytes.
-pub fn write_buffer(config: Config, address: u8, payload: &[u8], work: &[u8]) -> WriteCall
-    ensures { λ r. ⌜ r ≡ writing-of (writeBuffer config address) (length (now (payload .entry))) (length (now (work .entry))) ⌝ }
+pub fn write_buffer(config: Config, address: u8) -> WritePlan
+    ensures { λ r. ⌜ r ≡ writeBuffer config address ⌝ }
 {
-    let plan = WritePlan::new(
+    WritePlan::new(
         config,
         Limit::AtMost(LARGEST_BUF_SIZE_BYTES),
         Frames::Register(address),
-    );
-    WriteCall::start(plan, payload, work)
+    )
 }

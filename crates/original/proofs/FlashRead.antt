@@ -13,7 +13,7 @@ use Rattle.smbus_pec.specs.Pec.{pecOf}
 use Rattle.protocol.specs.Pick.{if_then_else_}
 use Rattle.protocol.specs.Answer.{numberOf}
 use Rattle.protocol.specs.Frame.{sealed, macBytes, pairOf}
-use Rattle.protocol.specs.Reply.{macAsk, leadOf, aroundOf, countOf, dataOf}
+use Rattle.protocol.specs.Reply.{macAsk, leadOf, aroundOf, bytesAsked, dataOf}
 use Rattle.protocol.specs.declared.error.Answer.{Answer}
 use Rattle.protocol.specs.declared.error.Answer.the-variants as answer
 use Rattle.engine.specs.declared.limit.Limit.{Limit}
@@ -116,8 +116,8 @@ module _ (start : ℕ) where
     unfolding headAt parts.headBytes macBytes pairOf sealed withPec toLeBytes
     framed pec i = refl
 
-    counted : (pec : Bool) (i : ℕ) → countOf (askAt (plan pec) n w i) ≡ count pec (n - i * 32)
-    unfolding parts.askOf parts.blockAsk macAsk countOf aroundOf leadOf if_then_else_
+    counted : (pec : Bool) (i : ℕ) → bytesAsked (askAt (plan pec) n w i) ≡ count pec (n - i * 32)
+    unfolding parts.askOf parts.blockAsk macAsk bytesAsked aroundOf leadOf if_then_else_
     counted true i = refl
     counted false i = omega arith
 
@@ -171,7 +171,7 @@ module _ (start : ℕ) where
     next-chunk : (pec : Bool) (outcomes : List BusOutcome) → Same pec outcomes → (i left waits : ℕ) (buffer : List ℕ) (done : List Made) → length buffer ≡ n → i * 32 < n → waits + left ≤ 65535
         → (t : Bool) → ltb (suc i * 32) n ≡ t
         → fedRead (reading.advanceOf (at (plan pec) n w false i left waits)) buffer lent done outcomes ≡ loop pec left buffer (i * 32 + min 32 (n - i * 32)) false (record { transfers = done; waits = waits }) outcomes
-    unfolding parts.countOf
+    unfolding parts.readCount
     next-chunk pec outcomes ih i left waits buffer done b h c true t =
         let m : suc i * 32 < n = ltb-true (suc i * 32) n t in
         let k : i * 32 + min 32 (n - i * 32) ≡ suc i * 32 = omega arith in
@@ -187,7 +187,7 @@ module _ (start : ℕ) where
         ≡ (busOp o
         err (λ e. fedRead (reading.failOf (at (plan pec) n w true i left waits) e) buffer lent (done ++ (write (address pec (i * 32)) ∷ [])) outcomes)
         ok (λ bytes. fedRead (at (plan pec) n w false i left waits) buffer lent (done ++ (write (address pec (i * 32)) ∷ [])) outcomes))
-    unfolding parts.countOf
+    unfolding parts.readCount
     turn-address pec i left waits buffer done o outcomes b h =
         rw (← framed pec i, ← after-head (plan pec) n w i left waits (omega arith)) (turn-head (plan pec) n w lent steady i left waits buffer done o outcomes b (fits-head i))
 

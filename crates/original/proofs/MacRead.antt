@@ -12,7 +12,7 @@ use Rattle.smbus_pec.specs.Pec.{pecOf}
 use Rattle.protocol.specs.Pick.{if_then_else_}
 use Rattle.protocol.specs.Answer.{numberOf}
 use Rattle.protocol.specs.Frame.{sealed}
-use Rattle.protocol.specs.Reply.{macAsk, leadOf, countOf, dataOf}
+use Rattle.protocol.specs.Reply.{macAsk, leadOf, bytesAsked, dataOf}
 use Rattle.protocol.specs.declared.error.Answer.{Answer}
 use Rattle.protocol.specs.declared.error.Answer.the-variants as answer
 use Rattle.engine.specs.declared.limit.Limit.{Limit}
@@ -37,7 +37,7 @@ module _ (retries : ℕ) (limit : Limit) (head : Head) (first : ℕ) (frame buff
   abbrev count : Bool → ℕ
   count pec = if pec then 1 + 2 + length inner + 1 else 1 + 2 + length inner
 
-  counted : (pec : Bool) → countOf (askAt (plan pec) (length buffer) w 0) ≡ count pec
+  counted : (pec : Bool) → bytesAsked (askAt (plan pec) (length buffer) w 0) ≡ count pec
   unfolding parts.askOf
   counted pec = count-mac first (length inner) pec least
 
@@ -76,7 +76,7 @@ module _ (retries : ℕ) (limit : Limit) (head : Head) (first : ℕ) (frame buff
   filled : (pec : Bool) (left waits : ℕ) (done : List Made) (reply : List ℕ) (outcomes : List BusOutcome) → length reply ≡ count pec
       → fedRead (reading.advanceOf (at (plan pec) (length buffer) w false 0 left waits)) (reading.storedOf (at (plan pec) (length buffer) w false 0 left waits) reply buffer) lent done outcomes
       ≡ Ok (record { transfers = done; waits = waits }) outcomes leaving take (length buffer) (take (length inner) (drop (1 + 2) reply))
-  unfolding reading.storedOf reading.dueAsk parts.askOf parts.mostOf parts.countOf dataOf leadOf macAsk if_then_else_
+  unfolding reading.storedOf reading.dueAsk parts.askOf parts.mostOf parts.readCount dataOf leadOf macAsk if_then_else_
   filled pec left waits done reply outcomes e =
       after-last (plan pec) (length buffer) w lent 0 left waits _ done outcomes (omega arith) (omega arith)
       ∙ ap (λ (b : List ℕ). Ok (record { transfers = done; waits = waits }) outcomes leaving b) (stored-whole (take (length inner) (drop 3 reply)) buffer (rw (length-take, length-drop) (by pec e)))
@@ -124,7 +124,7 @@ module _ (retries : ℕ) (limit : Limit) (head : Head) (first : ℕ) (frame buff
       ≡ (busOp o
       err (λ e. fedRead (reading.failOf (at (plan pec) (length buffer) w true 0 left waits) e) buffer lent (done ++ (write (out pec) ∷ [])) outcomes)
       ok (λ bytes. fedRead (at (plan pec) (length buffer) w false 0 left waits) buffer lent (done ++ (write (out pec) ∷ [])) outcomes))
-  unfolding parts.countOf
+  unfolding parts.readCount
   turn-frame pec left waits done o outcomes =
       rw (← framed pec, ← after-head (plan pec) (length buffer) w 0 left waits (omega arith)) (turn-head (plan pec) (length buffer) w lent steady 0 left waits buffer done o outcomes refl fits-head)
 

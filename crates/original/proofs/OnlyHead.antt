@@ -34,7 +34,7 @@ module _ (plan : ReadPlan) (buffer : List ℕ) (w : ℕ) (lent : ℕ → Lending
   -- the head was heard, and that is all
   after : (left waits : ℕ) (done : List Made) (outcomes : List BusOutcome)
       → fedRead (reading.headedOf (at plan (length buffer) w true 0 left waits)) buffer lent done outcomes ≡ Ok (record { transfers = done; waits = waits }) outcomes leaving buffer
-  unfolding reading.headedOf phaseAfter parts.countOf answered if_then_else_
+  unfolding reading.headedOf phaseAfter parts.readCount answered if_then_else_
   after left waits done outcomes =
       let p : reading.headedOf (at plan (length buffer) w true 0 left waits) .phase ≡ phase.Ended answer.Done = rw alone in
       at-end (reading.headedOf (at plan (length buffer) w true 0 left waits)) buffer lent done answer.Done p outcomes

@@ -11,7 +11,7 @@ use borrow.Author.Tests.{eqb-false}
 use Rattle.smbus_pec.specs.Pec.{pecOf}
 use Rattle.protocol.specs.Pick.{if_then_else_}
 use Rattle.protocol.specs.Answer.{numberOf}
-use Rattle.protocol.specs.Reply.{plainAsk, leadOf, countOf, dataOf}
+use Rattle.protocol.specs.Reply.{plainAsk, leadOf, bytesAsked, dataOf}
 use Rattle.protocol.specs.declared.common.Config.{Config}
 use Rattle.protocol.specs.declared.error.Answer.{Answer}
 use Rattle.protocol.specs.declared.error.Answer.the-variants as answer
@@ -34,7 +34,7 @@ module _ (config : Config) (limit : Limit) (command : ℕ) (buffer inner : List 
   count pec = if pec then length inner + 1 else length inner
 
   -- the read that goes out
-  counted : (pec : Bool) → count pec ≤ 18446744073709551615 → countOf (askAt (plan pec) (length buffer) w 0) ≡ count pec
+  counted : (pec : Bool) → count pec ≤ 18446744073709551615 → bytesAsked (askAt (plan pec) (length buffer) w 0) ≡ count pec
   unfolding reading.plainPlan parts.askOf
   counted pec h = count-plain command (length inner) pec h
 
@@ -59,7 +59,7 @@ module _ (config : Config) (limit : Limit) (command : ℕ) (buffer inner : List 
   filled : (pec : Bool) (left waits : ℕ) (done : List Made) (reply : List ℕ) (outcomes : List BusOutcome) → length reply ≡ count pec
       → fedRead (reading.advanceOf (at (plan pec) (length buffer) w false 0 left waits)) (reading.storedOf (at (plan pec) (length buffer) w false 0 left waits) reply buffer) lent (done ++ (read command (count pec) ∷ [])) outcomes
       ≡ Ok (now pec waits done) outcomes leaving take (length buffer) (take (length inner) reply)
-  unfolding reading.plainPlan reading.storedOf reading.dueAsk parts.askOf parts.mostOf parts.countOf dataOf leadOf plainAsk if_then_else_
+  unfolding reading.plainPlan reading.storedOf reading.dueAsk parts.askOf parts.mostOf parts.readCount dataOf leadOf plainAsk if_then_else_
   filled pec left waits done reply outcomes e =
       after-last (plan pec) (length buffer) w lent 0 left waits _ _ outcomes (omega arith) (omega arith)
       ∙ ap (λ (b : List ℕ). Ok (now pec waits done) outcomes leaving b) (stored-whole (take (length inner) reply) buffer (rw length-take (by pec e)))

@@ -11,7 +11,7 @@ use borrow.Author.Tests.{le-ltb, eq-eqb, ltb-false, eqb-true, eqb-false}
 use Rattle.protocol.specs.Pick.{if_then_else_}
 use Rattle.protocol.specs.Frame.{macBytes, fixedPair, commandBytes, sealed}
 use Rattle.protocol.specs.Reply.{plainAsk}
-use Rattle.protocol.specs.Voltage.{figureOf, overrideOf}
+use Rattle.r5.specs.Voltage.{figureOf, overrideOf}
 use Rattle.protocol.specs.Window.{inWindow}
 use Rattle.protocol.specs.declared.common.Config.{Config}
 use Rattle.protocol.specs.declared.error.Answer.the-variants as answer

@@ -11,7 +11,7 @@ use borrow.Author.Tests.{lt-ltb, eq-eqb, le-leb, lt-leb}
 use Rattle.protocol.specs.Pick.{if_then_else_}
 use Rattle.protocol.specs.Answer.{numberOf}
 use Rattle.protocol.specs.Frame.{sealed, laidOf, workLaid}
-use Rattle.protocol.specs.Reply.{countOf, checkedOf, heardOf}
+use Rattle.protocol.specs.Reply.{bytesAsked, checkedOf, heardOf}
 use Rattle.protocol.proofs.Laws.{take-over, length-over, length-sealed}
 use Rattle.protocol.specs.declared.error.Answer.{Answer}
 use Rattle.protocol.specs.declared.error.Answer.the-variants as answer
@@ -72,7 +72,7 @@ module _ (plan : ReadPlan) (n w : ℕ) where
   shown-head i left waits buffer work f g b e h = rw (b, e, fits n w refl refl, lt-ltb _ _ h, take-over)
 
   pub shown-read : {A : Type 0} (i left waits : ℕ) (buffer work : List ℕ) (part : ℕ → List ℕ) (f : Made → A) (g : Answer → A) → length buffer ≡ n → length work ≡ w
-      → (shows reading.nextOf (at false i left waits) (length buffer) (length work) sending part transfer f answer g) ≡ f (read (askAt i .command) (countOf (askAt i)))
+      → (shows reading.nextOf (at false i left waits) (length buffer) (length work) sending part transfer f answer g) ≡ f (read (askAt i .command) (bytesAsked (askAt i)))
   unfolding reading.nextOf reading.shownOf reading.dueAsk case_waiting_ended_ shows_sending_transfer_answer_ if_then_else_
   shown-read i left waits buffer work part f g b e = rw (b, e, fits n w refl refl)
 
@@ -96,30 +96,30 @@ module _ (plan : ReadPlan) (n w : ℕ) where
   with-head i done = done ++ (write (headAt i) ∷ [])
 
   abbrev pub with-read : ℕ → List Made → List Made
-  with-read i done = done ++ (read (askAt i .command) (countOf (askAt i)) ∷ [])
+  with-read i done = done ++ (read (askAt i .command) (bytesAsked (askAt i)) ∷ [])
 
   -- what a head's outcome comes to
   judged-head : (i left waits : ℕ) (frame beside : List ℕ) (o : BusOutcome) (m v : ℕ) → m ≡ n → v ≡ w
       → reading.judgeOf (at true i left waits) (told o) (reply (write frame) beside o) m v ≡ (busOp o err (λ e. verdict.Failed e) ok (λ bytes. verdict.Head))
-  unfolding reading.judgeOf reading.outcomeOf reading.acknowledgedOf reading.heardHead told reply brings case_waiting_ended_ case_acknowledged_error_timeout_ busOp_err_ok_ if_then_else_
+  unfolding reading.judgeOf reading.weighOf reading.acknowledgedOf reading.heardHead told reply brings case_waiting_ended_ case_acknowledged_error_timeout_ busOp_err_ok_ if_then_else_
   judged-head i left waits frame beside (Acknowledged bytes) m v e q = rw (fits m v e q)
   judged-head i left waits frame beside (BusError code) m v e q = rw (fits m v e q)
   judged-head i left waits frame beside Timeout m v e q = rw (fits m v e q)
 
   -- what a read brings
   abbrev pub brought : ℕ → List ℕ → List ℕ
-  brought i bytes = delivered (countOf (askAt i)) bytes
+  brought i bytes = delivered (bytesAsked (askAt i)) bytes
 
   -- whether it is believed
   unfoldable pub believed : ℕ → List ℕ → Bool
   believed i answered = if askAt i .pec then checkedOf (askAt i .covered) answered else true
 
   judged-read : (i left waits : ℕ) (beside : List ℕ) (o : BusOutcome) (m v : ℕ) → m ≡ n → v ≡ w
-      → reading.judgeOf (at false i left waits) (told o) (reply (read (askAt i .command) (countOf (askAt i))) beside o) m v
+      → reading.judgeOf (at false i left waits) (told o) (reply (read (askAt i .command) (bytesAsked (askAt i))) beside o) m v
       ≡ (busOp o err (λ e. verdict.Failed e) ok (λ bytes. if believed i (brought i bytes) then verdict.Block else verdict.Failed answer.Pec))
-  unfolding reading.judgeOf reading.outcomeOf reading.acknowledgedOf reading.heardBlock reading.verdictOf reading.dueAsk heardOf believed told reply brings case_waiting_ended_ case_acknowledged_error_timeout_ busOp_err_ok_ if_then_else_
+  unfolding reading.judgeOf reading.weighOf reading.acknowledgedOf reading.heardBlock reading.verdictOf reading.dueAsk heardOf believed told reply brings case_waiting_ended_ case_acknowledged_error_timeout_ busOp_err_ok_ if_then_else_
   judged-read i left waits beside (Acknowledged bytes) m v e q =
-      rw (fits m v e q, eq-eqb (countOf (askAt i)) (length (brought i bytes)) (sym (length-delivered (countOf (askAt i)) bytes))) (by (askAt i .pec) (checkedOf (askAt i .covered) (brought i bytes)))
+      rw (fits m v e q, eq-eqb (bytesAsked (askAt i)) (length (brought i bytes)) (sym (length-delivered (bytesAsked (askAt i)) bytes))) (by (askAt i .pec) (checkedOf (askAt i .covered) (brought i bytes)))
     where
       by : (pec good : Bool) → reading.verdictOf (if pec then (if good then heard.Good else heard.WrongPec) else heard.Good) ≡ (if (if pec then good else true) then verdict.Block else verdict.Failed answer.Pec)
       by true true = refl
@@ -129,16 +129,16 @@ module _ (plan : ReadPlan) (n w : ℕ) where
   judged-read i left waits beside Timeout m v e q = rw (fits m v e q)
 
   -- a head was heard, and a read is due
-  pub after-head : (i left waits : ℕ) → i < parts.countOf (plan .reads) n → reading.headedOf (at true i left waits) ≡ at false i left waits
+  pub after-head : (i left waits : ℕ) → i < parts.readCount (plan .reads) n → reading.headedOf (at true i left waits) ≡ at false i left waits
   unfolding reading.headedOf phaseAfter if_then_else_
-  after-head i left waits h = rw (lt-leb (parts.countOf (plan .reads) n) i h)
+  after-head i left waits h = rw (lt-leb (parts.readCount (plan .reads) n) i h)
 
   -- a block was handed over, and another is due
-  pub after-block : (i left waits : ℕ) → suc i < parts.countOf (plan .reads) n → i ≤ 256 → reading.advanceOf (at false i left waits) ≡ at false (suc i) left waits
+  pub after-block : (i left waits : ℕ) → suc i < parts.readCount (plan .reads) n → i ≤ 256 → reading.advanceOf (at false i left waits) ≡ at false (suc i) left waits
   unfolding reading.advanceOf phaseAfter if_then_else_
   after-block i left waits h few =
       let m : moreOf i ≡ suc i = omega arith in
-      rw (m, lt-leb (parts.countOf (plan .reads) n) (suc i) h)
+      rw (m, lt-leb (parts.readCount (plan .reads) n) (suc i) h)
 
   module _ (lent : ℕ → Lending) where
     -- a failed attempt: the head is due again, or none is left
@@ -155,12 +155,12 @@ module _ (plan : ReadPlan) (n w : ℕ) where
         rw (e, m)
 
     -- it was the last one
-    pub after-last : (i left waits : ℕ) (buffer : List ℕ) (done : List Made) (outcomes : List BusOutcome) → parts.countOf (plan .reads) n ≤ suc i → i ≤ 256
+    pub after-last : (i left waits : ℕ) (buffer : List ℕ) (done : List Made) (outcomes : List BusOutcome) → parts.readCount (plan .reads) n ≤ suc i → i ≤ 256
         → fedRead (reading.advanceOf (at false i left waits)) buffer lent done outcomes ≡ Ok (record { transfers = done; waits = waits }) outcomes leaving buffer
     unfolding reading.advanceOf phaseAfter if_then_else_ answered
     after-last i left waits buffer done outcomes h few =
         let m : moreOf i ≡ suc i = omega arith in
-        let p : reading.advanceOf (at false i left waits) .phase ≡ phase.Ended answer.Done = rw (m, le-leb (parts.countOf (plan .reads) n) (suc i) h) in
+        let p : reading.advanceOf (at false i left waits) .phase ≡ phase.Ended answer.Done = rw (m, le-leb (parts.readCount (plan .reads) n) (suc i) h) in
         at-end (reading.advanceOf (at false i left waits)) buffer lent done answer.Done p outcomes
 
     -- a call that is admitted

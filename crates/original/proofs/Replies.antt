@@ -14,7 +14,7 @@ use Rattle.protocol.specs.Pick.{if_then_else_}
 use Rattle.protocol.specs.Bytes.{over, blockIn, storedAt}
 use Rattle.protocol.specs.declared.error.Answer.{Answer}
 use Rattle.original.specs.Bus.{BusOutcome, Log, Ok, Err, Waiting, Read, _leaving_, copied}
-use Rattle.protocol.specs.Reply.{plainAsk, macAsk, leadOf, aroundOf, countOf, checkedOf}
+use Rattle.protocol.specs.Reply.{plainAsk, macAsk, leadOf, aroundOf, bytesAsked, checkedOf}
 
 eqb-swap : (a b : ℕ) (t : Bool) → eqb a b ≡ t → eqb b a ≡ eqb a b
 eqb-swap a b true e = eq-eqb b a (sym (eqb-true a b e)) ∙ sym e
@@ -29,13 +29,13 @@ checked-last covered m reply e =
     let k : m + 1 - 1 ≡ m = omega arith in
     rw (e, l, k) (eqb-swap (getD reply m 0) (pecOf 0 (0x16 ∷ covered ∷ 0x17 ∷ take m reply)) _ refl)
 
-pub count-plain : (command wanted : ℕ) (pec : Bool) → (if pec then wanted + 1 else wanted) ≤ 18446744073709551615 → countOf (plainAsk command wanted pec) ≡ (if pec then wanted + 1 else wanted)
-unfolding countOf aroundOf leadOf plainAsk if_then_else_
+pub count-plain : (command wanted : ℕ) (pec : Bool) → (if pec then wanted + 1 else wanted) ≤ 18446744073709551615 → bytesAsked (plainAsk command wanted pec) ≡ (if pec then wanted + 1 else wanted)
+unfolding bytesAsked aroundOf leadOf plainAsk if_then_else_
 count-plain command wanted true h = omega arith
 count-plain command wanted false h = omega arith
 
-pub count-mac : (command wanted : ℕ) (pec : Bool) → wanted ≤ 32 → countOf (macAsk command wanted pec) ≡ (if pec then 1 + 2 + wanted + 1 else 1 + 2 + wanted)
-unfolding countOf aroundOf leadOf macAsk if_then_else_
+pub count-mac : (command wanted : ℕ) (pec : Bool) → wanted ≤ 32 → bytesAsked (macAsk command wanted pec) ≡ (if pec then 1 + 2 + wanted + 1 else 1 + 2 + wanted)
+unfolding bytesAsked aroundOf leadOf macAsk if_then_else_
 count-mac command wanted true h = omega arith
 count-mac command wanted false h = omega arith
 

@@ -21,7 +21,7 @@ use Rattle.engine.specs.Budget.{failed, moreOf, nothing, waited}
 use Rattle.engine.specs.Bus.{writeOf, phaseAfter, fitsOf}
 use Rattle.engine.specs.Limit.{admitted}
 use Rattle.engine.specs.declared.bus.Phase.the-variants as phase
-use Rattle.writing.specs.Frames.{isFlash, bytesAt, countOf}
+use Rattle.writing.specs.Frames.{isFlash, bytesAt, frameCount}
 use Rattle.writing.specs.Writing as writing
 use Rattle.writing.specs.declared.frames.Frames.{Frames}
 use Rattle.writing.specs.declared.call.WritePlan.{WritePlan}
@@ -127,28 +127,28 @@ module _ (plan : WritePlan) (payload : List ℕ) (w : ℕ) where
         shown i left waits (lent (length done) .work) _ _ (steady (length done)) h own refl
         ∙ reported i left waits (frameAt i) (lent (length done) .beside) o _ _ _ (kept i left waits (lent (length done) .work) (steady (length done)) h own refl)
 
-    module _ (room : (i : ℕ) → i < countOf (plan .frames) (length payload) → own ≡ false → length (bytesAt (plan .frames) i payload) < w)
-        (few : countOf (plan .frames) (length payload) ≤ 256) (small : plan .retries ≤ 65535) where
+    module _ (room : (i : ℕ) → i < frameCount (plan .frames) (length payload) → own ≡ false → length (bytesAt (plan .frames) i payload) < w)
+        (few : frameCount (plan .frames) (length payload) ≤ 256) (small : plan .retries ≤ 65535) where
       -- what a call does that waits
       abbrev Same : List BusOutcome → Type 0
-      Same outcomes = (todo i left waits : ℕ) (done : List Made) → suc (i + todo) ≡ countOf (plan .frames) (length payload) → left ≤ 65535 → waits + left ≤ suc i * 65535
+      Same outcomes = (todo i left waits : ℕ) (done : List Made) → suc (i + todo) ≡ frameCount (plan .frames) (length payload) → left ≤ 65535 → waits + left ≤ suc i * 65535
           → fedWrite (at i left waits) payload lent done outcomes
           ≡ settle (each todo (suc i)) (writing.gaveUp (plan .frames) i) (writeWithRetriesInternal left (frameAt i) (record { transfers = done; waits = waits }) outcomes)
 
-      after-frame : (outcomes : List BusOutcome) → Same outcomes → (todo i left waits : ℕ) (done : List Made) → suc (i + todo) ≡ countOf (plan .frames) (length payload) → waits ≤ suc i * 65535
+      after-frame : (outcomes : List BusOutcome) → Same outcomes → (todo i left waits : ℕ) (done : List Made) → suc (i + todo) ≡ frameCount (plan .frames) (length payload) → waits ≤ suc i * 65535
           → fedWrite (writing.advanceOf (at i left waits)) payload lent done outcomes ≡ each todo (suc i) (record { transfers = done; waits = waits }) outcomes
       unfolding each writing.advanceOf phaseAfter answered if_then_else_
       after-frame outcomes ih zero i left waits done c b =
           let m : moreOf i ≡ suc i = omega arith in
-          let p : writing.advanceOf (at i left waits) .phase ≡ phase.Ended answer.Done = rw (m, le-leb (countOf (plan .frames) (length payload)) (suc i) (omega arith)) in
+          let p : writing.advanceOf (at i left waits) .phase ≡ phase.Ended answer.Done = rw (m, le-leb (frameCount (plan .frames) (length payload)) (suc i) (omega arith)) in
           at-end (writing.advanceOf (at i left waits)) payload lent done answer.Done p outcomes
       after-frame outcomes ih (suc todo) i left waits done c b =
           let m : moreOf i ≡ suc i = omega arith in
-          let q : writing.advanceOf (at i left waits) ≡ at (suc i) (plan .retries) waits = rw (m, lt-leb (countOf (plan .frames) (length payload)) (suc i) (omega arith)) in
+          let q : writing.advanceOf (at i left waits) ≡ at (suc i) (plan .retries) waits = rw (m, lt-leb (frameCount (plan .frames) (length payload)) (suc i) (omega arith)) in
           rw q (ih todo (suc i) (plan .retries) waits done (omega arith) small (omega arith))
 
       after-fault : (outcomes : List BusOutcome) → Same outcomes → (todo i left waits : ℕ) (why : Answer) (done : List Made) → eqb (numberOf why) 0 ≡ false
-          → suc (i + todo) ≡ countOf (plan .frames) (length payload) → left ≤ 65535 → waits + left ≤ suc i * 65535 → (t : Bool) → eqb left 0 ≡ t
+          → suc (i + todo) ≡ frameCount (plan .frames) (length payload) → left ≤ 65535 → waits + left ≤ suc i * 65535 → (t : Bool) → eqb left 0 ≡ t
           → fedWrite (writing.failOf (at i left waits) why) payload lent (done ++ (write (frameAt i) ∷ [])) outcomes
           ≡ settle (each todo (suc i)) (writing.gaveUp (plan .frames) i)
           (if eqb left 0 then Err why (out i waits done) outcomes else writeWithRetriesInternal (left - 1) (frameAt i) (delayed (out i waits done)) outcomes)
@@ -178,7 +178,7 @@ module _ (plan : WritePlan) (payload : List ℕ) (w : ℕ) where
           ∙ after-fault outcomes (same outcomes) todo i left waits answer.Timeout done refl c l b (eqb left 0) refl
 
       -- a call that is admitted, fed, is its frames one after the other
-      pub frames-in-turn : (todo : ℕ) (outcomes : List BusOutcome) → countOf (plan .frames) (length payload) ≡ suc todo
+      pub frames-in-turn : (todo : ℕ) (outcomes : List BusOutcome) → frameCount (plan .frames) (length payload) ≡ suc todo
           → admitted (plan .limit) (length payload) w ≡ phase.Waiting
           → fedWrite (writing.startOf plan (length payload) w) payload lent [] outcomes ≡ each (suc todo) 0 begun outcomes
       unfolding each writing.startOf nothing

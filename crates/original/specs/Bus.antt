@@ -5,6 +5,7 @@ use mathlib.Core.List.{List, [], _∷_, _++_}
 use lib.ListN.{length, take, replicate}
 use Rattle.protocol.specs.declared.error.Answer.{Answer}
 use Rattle.protocol.specs.declared.error.Answer.the-variants as answer
+pub use Rattle.engine.specs.Made.{Made, write, read}
 
 -- what the bus does with one transfer: acknowledges it, with the bytes that a read brings; a bus error with its code; no answer in time
 pub data BusOutcome : Type 0 where
@@ -15,11 +16,6 @@ pub data BusOutcome : Type 0 where
 -- an acknowledged read of n brings exactly n bytes: a longer list is cut, a shorter one ends in zeros
 abbrev pub delivered : ℕ → List ℕ → List ℕ
 delivered n bytes = take n (bytes ++ replicate n 0)
-
--- a transfer: a write of a frame, or of one command byte followed by a read of so many bytes
-pub data Made : Type 0 where
-  write : List ℕ → Made
-  read : ℕ → ℕ → Made
 
 -- what a call has done so far: its transfers, first to last, and how often it has waited for 10 ms
 pub record Log : Type 0 where

@@ -7,10 +7,10 @@ use mathlib.Core.Bool.{true, false}
 use mathlib.Core.List.{List, []}
 use lib.ListN.{length}
 use Rattle.protocol.specs.Window.{inWindow}
-use Rattle.protocol.specs.Voltage.{overrideBytes, overrideOf}
+use Rattle.r5.specs.Voltage.{overrideBytes, overrideOf}
 use Rattle.protocol.specs.declared.common.Config.{Config}
 use Rattle.protocol.specs.declared.error.Answer.the-variants as answer
-use Rattle.protocol.specs.declared.voltage.ChargingVoltageOverride.{ChargingVoltageOverride}
+use Rattle.r5.specs.declared.voltage.ChargingVoltageOverride.{ChargingVoltageOverride}
 use Rattle.interface.specs.Plans as machine
 use Rattle.r5.specs.Plans as machine-r5
 use Rattle.original.specs.Bus.{BusOutcome, begun, Err, _leaving_}

@@ -13,16 +13,16 @@ use Rattle.protocol.specs.declared.error.Answer.the-variants as answer
 use Rattle.engine.specs.declared.bus.Transfer.the-variants as transfer
 use Rattle.promises.specs.Events.{Event}
 use Rattle.promises.specs.Writes.{began, shows, run}
-use Rattle.promises.specs.Demand3.{Answered, all-acked, some-acked, none-acked, Told, countOf, Accepted}
+use Rattle.promises.specs.Demand3.{Answered, all-acked, some-acked, none-acked, Told, givenCount, Accepted}
 use Rattle.promises.proofs.Stopped.{stopped}
 
 -- figures
-pub counts : (countOf (answer.PartialDataFlashWrite 64) ≡ 64) × (countOf (answer.I2c 5) ≡ 0) × (countOf answer.Timeout ≡ 0)
+pub counts : (givenCount (answer.PartialDataFlashWrite 64) ≡ 64) × (givenCount (answer.I2c 5) ≡ 0) × (givenCount answer.Timeout ≡ 0)
 unfolding if_then_else_
 counts = (refl, refl, refl)
 
 -- each answer but 0 counts what was acknowledged
-error-counts : (n i : ℕ) (a : Answer) → (numberOf a ≡ 0 → ⊥) → Answered 32 n i a → countOf a ≡ i * 32
+error-counts : (n i : ℕ) (a : Answer) → (numberOf a ≡ 0 → ⊥) → Answered 32 n i a → givenCount a ≡ i * 32
 unfolding if_then_else_
 error-counts n i a error (all-acked z h) = absurd (error z)
 error-counts n i a error (some-acked z e p h) = rw (z, e)
@@ -32,6 +32,6 @@ error-counts n i a error (none-acked (inr z) e) = rw (z, e)
 -- THE COUNT OF AN ERROR
 pub counted : (config : Config) (address : ℕ) (payload work flash : List ℕ) → Accepted address payload work flash → (es : List Event) (a : Answer)
     → shows payload (run payload es (began config address payload work flash)) ≡ transfer.Ended a → (numberOf a ≡ 0 → ⊥)
-    → countOf a ≡ run payload es (began config address payload work flash) .acked * 32
+    → givenCount a ≡ run payload es (began config address payload work flash) .acked * 32
 counted config address payload work flash c es a shown error =
     error-counts (length payload) _ a error (subst (Told 32 (length payload) _) shown (stopped config address payload work flash c es .told))

@@ -35,7 +35,7 @@ use Rattle.courses.proofs.Cases.{at-write}
 use Rattle.promises.specs.Flash.{placeOf, blockOf, Overlaid}
 use Rattle.promises.specs.Events as written
 use Rattle.promises.specs.Events.{each}
-use Rattle.promises.specs.Writes.{World, began, shows, step, run}
+use Rattle.promises.specs.Writes.{WriteWorld, began, shows, step, run}
 use Rattle.promises.specs.Demand3.{clean, Told, endIn, Tells, EndedWell, ended-well, Accepted}
 use Rattle.promises.specs.Courses.{eventAt, eventsAt, beside, ran, ranIn, stoppedAt, left-over, Leaves, Runs, started, ran-on, GoOnCourses, OnCourses}
 use Rattle.promises.proofs.Window.{within}
@@ -75,7 +75,7 @@ same-flash model.LostBefore frame flash = refl
 same-flash model.LostAfter frame flash = refl
 
 -- of a frame that it takes the host hears what the demand says
-same-outcome : (e : ModelEvent) (frame : List ℕ) → takes frame ≡ true → outcomeOf e frame ≡ written.outcomeOf (eventIn e)
+same-outcome : (e : ModelEvent) (frame : List ℕ) → takes frame ≡ true → outcomeOf e frame ≡ written.heardAs (eventIn e)
 unfolding outcomeOf heardOf if_then_else_
 same-outcome model.Heard frame t = rw t
 same-outcome model.LostBefore frame t = refl
@@ -118,7 +118,7 @@ module _ (config : Config) (address : ℕ) (payload : List ℕ) (n : ℕ) (gauge
         let left : pointed (frameOf config address payload n i) gauge ≡ gauge =
         block-points (config .«pec_write») (address + i * 32) (blockOf 32 i payload) (omega arith) (omega arith) (omega arith) (omega arith) gauge in
         sym (at-write _ _ _ _ _ _ _ refl (shows-block config address payload n i b t work long room)
-        (rw (lays config address payload n i b t work long room, hands-out config address payload n i b t work long room, laid-long config address payload n i b t work long room, same-outcome e (frameOf config address payload n i) taken, same-gauge e (frameOf config address payload n i) gauge left, same-flash, is-taken config address payload n i b t work long room (written.outcomeOf (eventIn e)) 0 (nothing-lent (written.outcomeOf (eventIn e))))
+        (rw (lays config address payload n i b t work long room, hands-out config address payload n i b t work long room, laid-long config address payload n i b t work long room, same-outcome e (frameOf config address payload n i) taken, same-gauge e (frameOf config address payload n i) gauge left, same-flash, is-taken config address payload n i b t work long room (written.heardAs (eventIn e)) 0 (nothing-lent (written.heardAs (eventIn e))))
         (ap (beside gauge) (made-sent config address payload n i b t work long room (eventIn e) [] flash))))
 
 -- a transfer of the model is a transfer of the demand
@@ -133,11 +133,11 @@ module _ (config : Config) (address : ℕ) (payload old : List ℕ) (n : ℕ) (r
       drive-ended config address payload n gauge (e ∷ []) a i b t work flash
       ∙ ap (beside gauge) (sym (made-ended config address payload n (eventIn e) [] a i b t work flash))
 
-  model-step : (e : ModelEvent) (w : World) → Going config address payload old n room whole low high w
+  model-step : (e : ModelEvent) (w : WriteWorld) → Going config address payload old n room whole low high w
       → stepOf payload e (beside gauge w) ≡ beside gauge (step payload (eventIn e) w)
   model-step e w g = rw (g .is) (model-at e (g .at) (g .i) (g .b) (g .t) (g .work) (g .flash) (g .long) (g .told))
 
-  model-run : (es : List ModelEvent) (w : World) → Going config address payload old n room whole low high w
+  model-run : (es : List ModelEvent) (w : WriteWorld) → Going config address payload old n room whole low high w
       → driveOf payload es (beside gauge w) ≡ beside gauge (run payload (eventsIn es) w)
   unfolding driveOf each
   model-run [] w g = refl
@@ -146,7 +146,7 @@ module _ (config : Config) (address : ℕ) (payload old : List ℕ) (n : ℕ) (r
       ∙ model-run es (step payload (eventIn e) w) (going-step config address payload old n room whole low high (eventIn e) w g)
 
   -- what a run that ends here says
-  ended-going : (w : World) → Going config address payload old n room whole low high w
+  ended-going : (w : WriteWorld) → Going config address payload old n room whole low high w
       → leftOf (length payload) (beside gauge w) .run .end ≡ endIn (shows payload w)
   ended-going w g = rw (g .is) (ended-at config address payload n gauge room (g .i) (g .b) (g .t) (g .work) (g .flash) (g .at) (g .long))
 
@@ -173,7 +173,7 @@ module _ (config : Config) (address : ℕ) (payload work flash : List ℕ) (a : 
           → driveOf payload es (beside gauge (began config address payload work flash)) ≡ beside gauge (run payload (eventsIn es) (began config address payload work flash))
       by true t =
           let empty : length payload ≡ 0 = eqb-true _ _ t in
-          ap (λ (w : World). driveOf payload es (beside gauge w)) (run-empty config address payload work flash a empty [])
+          ap (λ (w : WriteWorld). driveOf payload es (beside gauge w)) (run-empty config address payload work flash a empty [])
           ∙ drive-ended config address payload (length work) gauge es answer.Done 0 _ _ work flash
           ∙ ap (beside gauge) (sym (run-empty config address payload work flash a empty (eventsIn es)))
       by false t =

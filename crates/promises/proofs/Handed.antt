@@ -21,7 +21,7 @@ use Rattle.engine.specs.declared.bus.Transfer.the-variants as transfer
 use Rattle.writing.specs.Frames.{blockBytes}
 use Rattle.promises.specs.Flash.{blockFrame}
 use Rattle.promises.specs.Events.{Event}
-use Rattle.promises.specs.Writes.{World, began, shows, handed, run}
+use Rattle.promises.specs.Writes.{WriteWorld, began, shows, handed, run}
 use Rattle.promises.specs.Demand3.{Accepted}
 use Rattle.promises.proofs.Window.{within}
 use Rattle.promises.proofs.Machine.{worldAt, frameOf, shows-block, lays, hands-out, shows-ended}
@@ -50,7 +50,7 @@ framed pec address i payload =
     rw count
 
 module _ (config : Config) (address : ℕ) (payload : List ℕ) where
-  abbrev Hands : World → Type 0
+  abbrev Hands : WriteWorld → Type 0
   Hands w = (m : ℕ) → shows payload w ≡ transfer.Write m → handed payload m w ≡ blockFrame (config .«pec_write») address (w .acked) payload
 
   module _ (n : ℕ) (room : 39 ≤ n) where

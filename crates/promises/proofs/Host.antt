@@ -27,7 +27,7 @@ use Rattle.writing.specs.Writing.{repliedOf, reportOf}
 use Rattle.answers.specs.Runs.{callW}
 use Rattle.promises.specs.Events.{each}
 use Rattle.promises.specs.Host.{Doing, transfers, reports, events, Misplaced, has-ended, wrong-buffer, wrong-reply, Allowed}
-use Rattle.promises.specs.Writes.{World, began, holding, shows, step, run, does, May, hosted, Alike}
+use Rattle.promises.specs.Writes.{WriteWorld, began, holding, shows, step, run, does, May, hosted, Alike}
 use Rattle.promises.specs.Demand3.{Accepted}
 use Rattle.promises.proofs.Window.{within}
 use Rattle.promises.proofs.Machine.{worldAt, callAt, frameOf, shows-block, laid-long, made-sent, made-ended}
@@ -35,7 +35,7 @@ use Rattle.promises.proofs.Stopped.{Going, going-step, going, run-empty
 use Rattle.promises.proofs.Hosted.{answers, not-fits, hosted-run}
 
 -- the same but for the bytes of a work buffer of n
-abbrev Like : ℕ → World → World → Type 0
+abbrev Like : ℕ → WriteWorld → WriteWorld → Type 0
 Like n v w = (m : List ℕ) × (length m ≡ n) × (v ≡ holding m w)
 
 module _ (config : Config) (address : ℕ) (payload : List ℕ) (n : ℕ) (room : 39 ≤ n) where
@@ -89,7 +89,7 @@ module _ (config : Config) (address : ℕ) (payload : List ℕ) (n : ℕ) (room 
   does-at (reports o reply lent work′) m phase.Waiting i b t work flash long long′ may = (m, long, rw (misplaced i b t o (length reply) lent work′ m long may))
   does-at (reports o reply lent work′) m (phase.Ended a) i b t work flash long long′ may = (m, long, refl)
 
-  does-like : (d : Doing) (v w : World) (p : Phase) (i : ℕ) (b : Budget) (t : Tally) (work flash : List ℕ) → w ≡ worldAt config address payload n p i b t work flash → length work ≡ n
+  does-like : (d : Doing) (v w : WriteWorld) (p : Phase) (i : ℕ) (b : Budget) (t : Tally) (work flash : List ℕ) → w ≡ worldAt config address payload n p i b t work flash → length work ≡ n
       → May payload n d v → Like n v w → Like n (does payload d v) (run payload (events (d ∷ [])) w)
   does-like d v w p i b t work flash is long may like =
       let v-is : v ≡ worldAt config address payload n p i b t (like .0) flash = like .2 ∙ ap (holding (like .0)) is in
@@ -97,12 +97,12 @@ module _ (config : Config) (address : ℕ) (payload : List ℕ) (n : ℕ) (room 
       rw (v-is, is) (does-at d (like .0) p i b t work flash (like .1) long may-at)
 
 -- alike, but for the bytes of the work buffer
-alike : (n : ℕ) (v w : World) → length (w .work) ≡ n → Like n v w → Alike v w
+alike : (n : ℕ) (v w : WriteWorld) → length (w .work) ≡ n → Like n v w → Alike v w
 alike n v w long like = rw (like .2) (refl, like .1 ∙ sym long, refl, refl)
 
 module _ (config : Config) (address : ℕ) (payload work flash : List ℕ) (a : Accepted address payload work flash) (ds : List Doing)
     (allowed : Allowed (does payload) (May payload (length work)) ds (began config address payload work flash)) where
-  abbrev start : World
+  abbrev start : WriteWorld
   start = began config address payload work flash
 
   -- it starts with the same work buffer
@@ -114,14 +114,14 @@ module _ (config : Config) (address : ℕ) (payload work flash : List ℕ) (a : 
   host-empty : length payload ≡ 0 → Alike (hosted payload ds start) (run payload (events ds) start)
   unfolding each
   host-empty none =
-      let done : World =
+      let done : WriteWorld =
       worldAt config address payload (length work) (phase.Ended answer.Done) 0 (record { left = config .«max_bus_retries» }) nothing work flash in
       let r = hosted-run (step payload) (does payload) (May payload (length work)) (λ w. w ≡ done) (Like (length work))
       (λ e w k. ap (step payload e) k ∙ made-ended config address payload (length work) e [] answer.Done 0 _ nothing work flash)
       (λ d v w may k like. does-like config address payload (length work) (a .room) d v w (phase.Ended answer.Done) 0 _ nothing work flash k refl may like)
       ds start start allowed (run-empty config address payload work flash a none []) like-start in
       alike (length work) (hosted payload ds start) (run payload (events ds) start)
-      (ap (λ (w : World). length (w .work)) (run-empty config address payload work flash a none (events ds))) r
+      (ap (λ (w : WriteWorld). length (w .work)) (run-empty config address payload work flash a none (events ds))) r
 
   host-some : 0 < length payload → Alike (hosted payload ds start) (run payload (events ds) start)
   unfolding each
@@ -134,7 +134,7 @@ module _ (config : Config) (address : ℕ) (payload work flash : List ℕ) (a : 
       (going-step config address payload flash (length work) (a .room) (a .whole) (w .0) (w .1))
       (λ d v w may g like. does-like config address payload (length work) (a .room) d v w (g .at) (g .i) (g .b) (g .t) (g .work) (g .flash) (g .is) (g .long) may like)
       ds start start allowed (going config address payload work flash a some (w .0) (w .1) []) like-start in
-      alike (length work) (hosted payload ds start) (run payload (events ds) start) (ap (λ (v : World). length (v .work)) (kept .is) ∙ kept .long) r
+      alike (length work) (hosted payload ds start) (run payload (events ds) start) (ap (λ (v : WriteWorld). length (v .work)) (kept .is) ∙ kept .long) r
 
 -- ANY HOST
 pub any-host : (config : Config) (address : ℕ) (payload work flash : List ℕ) → Accepted address payload work flash

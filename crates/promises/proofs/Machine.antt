@@ -25,15 +25,15 @@ use Rattle.engine.specs.declared.bus.Outcome.the-variants as outcome
 use Rattle.engine.specs.declared.bus.Phase.{Phase}
 use Rattle.engine.specs.declared.bus.Phase.the-variants as phase
 use Rattle.engine.specs.declared.bus.Transfer.the-variants as transfer
-use Rattle.writing.specs.Frames.{isPlain, countOf, blockBytes, bytesAt}
+use Rattle.writing.specs.Frames.{isPlain, frameCount, blockBytes, bytesAt}
 use Rattle.writing.specs.Writing.{planOf, ownBytes, dueBytes, shownOf, workShown, nextOf, workAfter, partOf, advanceOf, failOf, settleOf, repliedOf, reportOf}
 use Rattle.writing.specs.declared.call.WriteCall.{WriteCall}
 use Rattle.writing.specs.declared.call.WriteTask.{WriteTask}
 use Rattle.r5.specs.Plans.{writeDataflash}
 use Rattle.writing.specs.declared.call.WriteReported.the-variants as reported
-use Rattle.promises.specs.Events.{Cause, busError, timedOut, Event, acknowledged, failed, unheard, causeOf, outcomeOf, lentOf, flashAfter, ackedAfter}
+use Rattle.promises.specs.Events.{Cause, busError, timedOut, Event, acknowledged, failed, unheard, causeOf, heardAs, lentOf, flashAfter, ackedAfter}
 use Rattle.promises.specs.Host.{makes}
-use Rattle.promises.specs.Writes.{World, sent, made, step}
+use Rattle.promises.specs.Writes.{WriteWorld, sent, made, step}
 
 -- a failed transfer, with the answer that it would end the call with
 abbrev pub whyOf : Cause → Answer
@@ -45,7 +45,7 @@ why-number (busError code) = inl refl
 why-number timedOut = inr refl
 
 -- a write brings no bytes, and those beside a failure are not looked at
-no-reply : (e : Event) (beside : List ℕ) → repliedOf (outcomeOf e) (length (lentOf e [] beside)) ≡ false
+no-reply : (e : Event) (beside : List ℕ) → repliedOf (heardAs e) (length (lentOf e [] beside)) ≡ false
 unfolding repliedOf case_acknowledged_error_timeout_ if_then_else_
 no-reply (acknowledged) beside = refl
 no-reply (failed (busError code)) beside = refl
@@ -72,7 +72,7 @@ module _ (config : Config) (address : ℕ) (payload : List ℕ) (n : ℕ) where
   abbrev pub callAt : Phase → ℕ → Budget → Tally → WriteCall
   callAt p i b t = record { task = taskOf; phase = p; sent = i; budget = b; tally = t }
 
-  abbrev pub worldAt : Phase → ℕ → Budget → Tally → List ℕ → List ℕ → World
+  abbrev pub worldAt : Phase → ℕ → Budget → Tally → List ℕ → List ℕ → WriteWorld
   worldAt p i b t work flash = record { call = callAt p i b t; work = work; flash = flash; acked = i }
 
   -- the frame of block i
@@ -114,20 +114,20 @@ module _ (config : Config) (address : ℕ) (payload : List ℕ) (n : ℕ) where
     -- what became of the frame is heard, whatever is lent beside a failure
     pub made-sent : (e : Event) (beside flash : List ℕ)
         → made payload e beside (worldAt phase.Waiting i b t work flash)
-        ≡ record { call = settleOf (callAt phase.Waiting i b t) (outcomeOf e); work = over (frameOf i) work; flash = flashAfter e (frameOf i) flash; acked = ackedAfter e i }
+        ≡ record { call = settleOf (callAt phase.Waiting i b t) (heardAs e); work = over (frameOf i) work; flash = flashAfter e (frameOf i) flash; acked = ackedAfter e i }
     unfolding made sent makes
     made-sent e beside flash =
         rw (shows-block, lays) (sym sent-is)
       where
-        sent-is : record { call = settleOf (callAt phase.Waiting i b t) (outcomeOf e); work = over (frameOf i) work; flash = flashAfter e (frameOf i) flash; acked = ackedAfter e i }
+        sent-is : record { call = settleOf (callAt phase.Waiting i b t) (heardAs e); work = over (frameOf i) work; flash = flashAfter e (frameOf i) flash; acked = ackedAfter e i }
             ≡ sent payload e beside (over (frameOf i) work) (length (frameOf i)) (worldAt phase.Waiting i b t work flash)
-        sent-is = rw (hands-out, laid-long, is-taken (outcomeOf e) (length (lentOf e [] beside)) (no-reply e beside))
+        sent-is = rw (hands-out, laid-long, is-taken (heardAs e) (length (lentOf e [] beside)) (no-reply e beside))
 
     -- acknowledged: the next block is due, with a budget of its own, or the call is done
     pub step-acknowledged : (flash : List ℕ) → i < 4294967295
         → step payload (acknowledged) (worldAt phase.Waiting i b t work flash)
         ≡ worldAt (phaseAfter (blocksOf (length payload)) (suc i)) (suc i) (record { left = config .«max_bus_retries» }) t (over (frameOf i) work) (flashAfter (acknowledged) (frameOf i) flash)
-    unfolding settleOf advanceOf countOf case_acknowledged_error_timeout_ planOf writeDataflash
+    unfolding settleOf advanceOf frameCount case_acknowledged_error_timeout_ planOf writeDataflash
     step-acknowledged flash h =
         let more : min (i + 1) 4294967295 ≡ suc i = omega arith in
         made-sent (acknowledged) [] flash ∙ rw more

@@ -26,9 +26,9 @@ use Rattle.original.specs.Bus.{BusOutcome, Made, write, Log, Came, Ok, Err, Wai
 use Rattle.original.specs.Fed.{told, brings, Lending, reply, answered, shows_sending_transfer_answer_, wrote_taken_refused_, fedWrite}
 use Rattle.original.specs.OriginalR5 as rust
 use Rattle.original.proofs.Equal.{equal}
-use Rattle.promises.specs.Events.{busError, timedOut, Event, acknowledged, failed, unheard, outcomeOf, each}
+use Rattle.promises.specs.Events.{busError, timedOut, Event, acknowledged, failed, unheard, heardAs, each}
 use Rattle.promises.specs.OverOriginal.{outcomeIn, outcomesIn, transfersOf, laidOver, stopOf}
-use Rattle.promises.specs.Writes.{World, began, shows, step, run}
+use Rattle.promises.specs.Writes.{WriteWorld, began, shows, step, run}
 use Rattle.promises.specs.Demand3.{endIn, Accepted}
 use Rattle.promises.proofs.Window.{within}
 use Rattle.promises.proofs.Machine.{worldAt, callAt, frameOf, shows-block, shows-ended, lays, hands-out, laid-long, is-taken, made-sent}
@@ -61,7 +61,7 @@ stop-answered answer.BadLine log os = refl
 
 -- ---- an event, in the Rust's words
 
-told-outcome : (e : Event) → told (outcomeIn e) ≡ outcomeOf e
+told-outcome : (e : Event) → told (outcomeIn e) ≡ heardAs e
 unfolding told
 told-outcome (acknowledged) = refl
 told-outcome (failed (busError code)) = refl
@@ -69,7 +69,7 @@ told-outcome (failed timedOut) = refl
 told-outcome (unheard (busError code)) = refl
 told-outcome (unheard timedOut) = refl
 
-brings-none : (e : Event) (frame beside : List ℕ) → repliedOf (outcomeOf e) (length (reply (write frame) beside (outcomeIn e))) ≡ false
+brings-none : (e : Event) (frame beside : List ℕ) → repliedOf (heardAs e) (length (reply (write frame) beside (outcomeIn e))) ≡ false
 unfolding reply brings repliedOf case_acknowledged_error_timeout_ if_then_else_
 brings-none (acknowledged) frame beside = refl
 brings-none (failed (busError code)) frame beside = refl
@@ -86,7 +86,7 @@ module _ (config : Config) (address : ℕ) (payload : List ℕ) (work : List ℕ
   fed call done es = fedWrite call payload host done (outcomesIn es)
 
   -- the call that is fed makes the transfers that the run lays over the flash, and stops as the run does
-  abbrev Follows : List Event → World → List Made → Type 0
+  abbrev Follows : List Event → WriteWorld → List Made → Type 0
   Follows es w done =
       (ts : List Made) × (transfersOf (fed (w .call) done es) ≡ done ++ ts) × (run payload es w .flash ≡ laidOver es ts (w .flash))
       × (endIn ((shows) payload (run payload es w)) ≡ stopOf (fed (w .call) done es))
@@ -112,10 +112,10 @@ module _ (config : Config) (address : ℕ) (payload : List ℕ) (work : List ℕ
 
     fed-on : (e : Event) (es : List Event) (done : List Made)
         → fed (callAt config address payload (length work) phase.Waiting i b t) done (e ∷ es)
-        ≡ fed (settleOf (callAt config address payload (length work) phase.Waiting i b t) (outcomeOf e)) (done ++ (frame ∷ [])) es
+        ≡ fed (settleOf (callAt config address payload (length work) phase.Waiting i b t) (heardAs e)) (done ++ (frame ∷ [])) es
     unfolding fedWrite shows_sending_transfer_answer_ wrote_taken_refused_
     fed-on e es done =
-        rw (shows-block config address payload (length work) i b t work refl room, lays config address payload (length work) i b t work refl room, hands-out config address payload (length work) i b t work refl room, laid-long config address payload (length work) i b t work refl room, told-outcome e, is-taken config address payload (length work) i b t work refl room (outcomeOf e) (length (reply frame [] (outcomeIn e))) (brings-none e _ []))
+        rw (shows-block config address payload (length work) i b t work refl room, lays config address payload (length work) i b t work refl room, hands-out config address payload (length work) i b t work refl room, laid-long config address payload (length work) i b t work refl room, told-outcome e, is-taken config address payload (length work) i b t work refl room (heardAs e) (length (reply frame [] (outcomeIn e))) (brings-none e _ []))
 
   follows-ended : (es : List Event) (a : Answer) (i : ℕ) (b : Budget) (t : Tally) (now flash : List ℕ) (done : List Made)
       → Follows es (worldAt config address payload (length work) (phase.Ended a) i b t now flash) done
@@ -141,10 +141,10 @@ module _ (config : Config) (address : ℕ) (payload : List ℕ) (work : List ℕ
       let s = made-sent config address payload (length work) i b t now long room e [] flash in
       let r = rest (done ++ (frame i b t ∷ [])) in
       let goes-on : fed (callAt config address payload (length work) phase.Waiting i b t) done (e ∷ es) ≡ fed (step payload e (worldAt config address payload (length work) phase.Waiting i b t now flash) .call) (done ++ (frame i b t ∷ [])) es =
-      fed-on i b t e es done ∙ ap (λ (v : World). fed (v .call) (done ++ (frame i b t ∷ [])) es) (sym s) in (
+      fed-on i b t e es done ∙ ap (λ (v : WriteWorld). fed (v .call) (done ++ (frame i b t ∷ [])) es) (sym s) in (
         frame i b t ∷ r .0,
         ap transfersOf goes-on ∙ r .1 ∙ append-assoc done (frame i b t ∷ []) (r .0),
-        r .2 ∙ ap (λ (v : World). laidOver es (r .0) (v .flash)) s,
+        r .2 ∙ ap (λ (v : WriteWorld). laidOver es (r .0) (v .flash)) s,
         r .3 ∙ ap stopOf (sym goes-on),
       )
 
@@ -160,7 +160,7 @@ module _ (config : Config) (address : ℕ) (payload : List ℕ) (work : List ℕ
   follows-here phase.Waiting i b t now flash long done = follows-cut i b t now flash long done
 
   module _ (flash : List ℕ) (whole : length flash ≡ 8192) (low : 0x4000 ≤ address) (high : address + length payload ≤ 0x6000) where
-    follows : (es : List Event) (w : World) → Going config address payload flash (length work) room whole low high w → (done : List Made) → Follows es w done
+    follows : (es : List Event) (w : WriteWorld) → Going config address payload flash (length work) room whole low high w → (done : List Made) → Follows es w done
     follows [] w g done = subst (λ v. Follows [] v done) (sym (g .is)) (follows-here (g .at) (g .i) (g .b) (g .t) (g .work) (g .flash) (g .long) done)
     follows (e ∷ es) w g done =
         subst (λ v. Follows (e ∷ es) v done) (sym (g .is))
@@ -169,7 +169,7 @@ module _ (config : Config) (address : ℕ) (payload : List ℕ) (work : List ℕ
         (follows es (step payload e w) (going-step config address payload flash (length work) room whole low high e w g))) done)
 
 module _ (config : Config) (address : ℕ) (payload work flash : List ℕ) (few : config .«max_bus_retries» ≤ 65535) (a : Accepted address payload work flash) (es : List Event) where
-  abbrev start : World
+  abbrev start : WriteWorld
   start = began config address payload work flash
 
   abbrev original : Came

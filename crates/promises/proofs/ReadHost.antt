@@ -10,7 +10,7 @@ use lib.ListN.{length, take}
 use borrow.Author.Tests.{ne-eqb, eqb-true, eqb-false}
 use Rattle.protocol.specs.Pick.{if_then_else_}
 use Rattle.protocol.specs.Bytes.{over}
-use Rattle.protocol.specs.Reply.{countOf, heardOf}
+use Rattle.protocol.specs.Reply.{bytesAsked, heardOf}
 use Rattle.protocol.specs.declared.common.Config.{Config}
 use Rattle.protocol.specs.declared.error.Answer.{Answer}
 use Rattle.protocol.specs.declared.error.Answer.the-variants as answer
@@ -26,7 +26,7 @@ use Rattle.engine.specs.declared.bus.Phase.the-variants as phase
 use Rattle.engine.specs.declared.bus.Transfer.the-variants as transfer
 use Rattle.reading.specs.Pick.{case_refused_fault_headed_block_}
 use Rattle.reading.specs.Parts.{blockAsk, askOf}
-use Rattle.reading.specs.Reading.{dueAsk, heardHead, verdictOf, heardBlock, acknowledgedOf, outcomeOf, judgeOf, reportOf, bufferAfter}
+use Rattle.reading.specs.Reading.{dueAsk, heardHead, verdictOf, heardBlock, acknowledgedOf, weighOf, judgeOf, reportOf, bufferAfter}
 use Rattle.reading.specs.declared.call.ReadCall.{ReadCall}
 use Rattle.reading.specs.declared.call.Verdict.the-variants as verdict
 use Rattle.r5.specs.Plans.{readDataflash}
@@ -78,12 +78,12 @@ module _ (config : Config) (address size n : ℕ) (room : 39 ≤ n) where
 
     -- an acknowledged head with a reply, and a read with another number of bytes than was asked
     refuses-head : fitsOf (record { length = size; work = n }) lent w ≡ true → (length bytes ≡ 0 → ⊥) → Refuses true outcome.Acknowledged
-    unfolding judgeOf outcomeOf acknowledgedOf heardHead case_waiting_ended_ case_acknowledged_error_timeout_ if_then_else_
+    unfolding judgeOf weighOf acknowledgedOf heardHead case_waiting_ended_ case_acknowledged_error_timeout_ if_then_else_
     refuses-head z some = (answer.WrongReply, rw (z, ne-eqb (length bytes) 0 some))
 
-    refuses-read : fitsOf (record { length = size; work = n }) lent w ≡ true → (length bytes ≡ countOf (blockAsk (size - i * 32) (config .«pec_read»)) → ⊥) → Refuses false outcome.Acknowledged
-    unfolding judgeOf outcomeOf acknowledgedOf heardBlock verdictOf heardOf dueAsk askOf readDataflash case_waiting_ended_ case_acknowledged_error_timeout_ if_then_else_
-    refuses-read z other = (answer.WrongReply, rw (z, ne-eqb (countOf (blockAsk (size - i * 32) (config .«pec_read»))) (length bytes) (λ e. other (sym e))))
+    refuses-read : fitsOf (record { length = size; work = n }) lent w ≡ true → (length bytes ≡ bytesAsked (blockAsk (size - i * 32) (config .«pec_read»)) → ⊥) → Refuses false outcome.Acknowledged
+    unfolding judgeOf weighOf acknowledgedOf heardBlock verdictOf heardOf dueAsk askOf readDataflash case_waiting_ended_ case_acknowledged_error_timeout_ if_then_else_
+    refuses-read z other = (answer.WrongReply, rw (z, ne-eqb (bytesAsked (blockAsk (size - i * 32) (config .«pec_read»))) (length bytes) (λ e. other (sym e))))
 
     refuses : (h : Bool) (o : Outcome) (g : Gauge) (now work flash : List ℕ) → length now ≡ size → length work ≡ n
         → Misplaced (readShows (readWorld config address size n phase.Waiting h i b t g now work flash)) size n o (length bytes) lent w → Refuses h o
@@ -91,7 +91,7 @@ module _ (config : Config) (address size n : ℕ) (room : 39 ≤ n) where
         let none : answers (transfer.Write (length (headOf config address size n i))) ≡ answers (transfer.Ended a) = ap answers (sym (shows-head config address size n i b t g now work flash fits long room) ∙ e) in
         absurd (omega arith)
     refuses false o g now work flash fits long (has-ended a e) =
-        let none : answers (transfer.Read 0x44 (countOf (blockAsk (size - i * 32) (config .«pec_read»)))) ≡ answers (transfer.Ended a) = ap answers (sym (shows-read config address size n i b t g now work flash fits long room) ∙ e) in
+        let none : answers (transfer.Read 0x44 (bytesAsked (blockAsk (size - i * 32) (config .«pec_read»)))) ≡ answers (transfer.Ended a) = ap answers (sym (shows-read config address size n i b t g now work flash fits long room) ∙ e) in
         absurd (omega arith)
     refuses h o g now work flash fits long (wrong-buffer other) = refuses-lengths h o (not-fits size n lent w other)
     refuses true o g now work flash fits long (wrong-reply e other) = rw e (by (fitsOf (record { length = size; work = n }) lent w) refl)

@@ -13,7 +13,7 @@ use Rattle.smbus_pec.specs.Pec.{pecOf}
 use Rattle.protocol.specs.Pick.{if_then_else_}
 use Rattle.protocol.specs.Bytes.{over, blockIn, storedAt, blocksOf}
 use Rattle.protocol.specs.Frame.{sealed, pairOf, macBytes, laidOf, workLaid}
-use Rattle.protocol.specs.Reply.{macAsk, countOf, heardOf, dataOf}
+use Rattle.protocol.specs.Reply.{macAsk, bytesAsked, heardOf, dataOf}
 use Rattle.protocol.specs.declared.common.Config.{Config}
 use Rattle.protocol.specs.declared.error.Answer.{Answer}
 use Rattle.protocol.specs.declared.error.Answer.the-variants as answer
@@ -30,7 +30,7 @@ use Rattle.engine.specs.declared.bus.Transfer.the-variants as transfer
 use Rattle.reading.specs.Pick.{case_refused_fault_headed_block_}
 use Rattle.reading.specs.Parts.{headBytes, blockAsk, askOf, mostOf}
 use Rattle.reading.specs.Parts as parts
-use Rattle.reading.specs.Reading.{dueAsk, shownHead, workHead, shownOf, workShown, nextOf, workAfter, headedOf, advanceOf, failOf, heardHead, verdictOf, heardBlock, acknowledgedOf, outcomeOf, judgeOf, storedOf, reportOf, bufferAfter}
+use Rattle.reading.specs.Reading.{dueAsk, shownHead, workHead, shownOf, workShown, nextOf, workAfter, headedOf, advanceOf, failOf, heardHead, verdictOf, heardBlock, acknowledgedOf, weighOf, judgeOf, storedOf, reportOf, bufferAfter}
 use Rattle.reading.specs.declared.call.ReadCall.{ReadCall}
 use Rattle.reading.specs.declared.call.ReadTask.{ReadTask}
 use Rattle.r5.specs.Plans.{readDataflash}
@@ -38,7 +38,7 @@ use Rattle.model_gauge.specs.Gauge.{stored, pointed, repliesTo, replyOf, replie
 use Rattle.model_gauge.specs.declared.gauge.Gauge.{Gauge}
 use Rattle.answers.specs.Runs.{callR}
 use Rattle.promises.specs.Flash.{blockOf}
-use Rattle.promises.specs.Events.{Cause, busError, timedOut, Event, acknowledged, failed, unheard, causeOf, outcomeOf as heardBy, lentOf, after, flashAfter, ackedAfter}
+use Rattle.promises.specs.Events.{Cause, busError, timedOut, Event, acknowledged, failed, unheard, causeOf, weighOf as heardBy, lentOf, after, flashAfter, ackedAfter}
 use Rattle.promises.specs.Host.{makes}
 use Rattle.promises.specs.Reads.{ReadWorld, heard, headSent, asked, lending, readMade, readStep, damaged, readOver}
 use Rattle.promises.proofs.Machine.{whyOf}
@@ -64,7 +64,7 @@ unfolding blockAsk macAsk if_then_else_
 ask-command true left = refl
 ask-command false left = refl
 
-pub ask-small : (pec : Bool) (left : ℕ) → countOf (blockAsk left pec) ≤ 36
+pub ask-small : (pec : Bool) (left : ℕ) → bytesAsked (blockAsk left pec) ≤ 36
 unfolding if_then_else_
 ask-small true left = rw count-of (omega arith)
 ask-small false left = rw count-of (omega arith)
@@ -106,7 +106,7 @@ module _ (config : Config) (address size n : ℕ) where
 
     -- ---- a read is due
 
-    pub shows-read : nextOf (readAt phase.Waiting false i b t) (length buffer) (length work) ≡ transfer.Read 0x44 (countOf (blockAsk (size - i * 32) (config .«pec_read»)))
+    pub shows-read : nextOf (readAt phase.Waiting false i b t) (length buffer) (length work) ≡ transfer.Read 0x44 (bytesAsked (blockAsk (size - i * 32) (config .«pec_read»)))
     unfolding nextOf case_waiting_ended_ fitsOf shownOf dueAsk askOf readDataflash if_then_else_
     shows-read = rw (eq-eqb (length buffer) size fits, eq-eqb (length work) n long, ask-command)
 
@@ -116,7 +116,7 @@ module _ (config : Config) (address size n : ℕ) where
 
     -- how many bytes it asks for, and those that the gauge brings
     abbrev pub countAt : ℕ
-    countAt = countOf (blockAsk (size - i * 32) (config .«pec_read»))
+    countAt = bytesAsked (blockAsk (size - i * 32) (config .«pec_read»))
 
     abbrev pub broughtAt : List ℕ
     broughtAt = take countAt (replyOf g flash)
@@ -131,12 +131,12 @@ module _ (config : Config) (address size n : ℕ) where
     -- ---- what the call hears
 
     reported-failed : (c : Cause) (h : Bool) (bytes : List ℕ) → callR (reportOf (readAt phase.Waiting h i b t) (causeOf c) bytes size n) ≡ failOf (readAt phase.Waiting h i b t) (whyOf c)
-    unfolding reportOf judgeOf outcomeOf case_waiting_ended_ case_acknowledged_error_timeout_ case_refused_fault_headed_block_ fitsOf if_then_else_
+    unfolding reportOf judgeOf weighOf case_waiting_ended_ case_acknowledged_error_timeout_ case_refused_fault_headed_block_ fitsOf if_then_else_
     reported-failed (busError code) h bytes = rw (eq-eqb size size refl, eq-eqb n n refl)
     reported-failed timedOut h bytes = rw (eq-eqb size size refl, eq-eqb n n refl)
 
     buffer-failed : (c : Cause) (h : Bool) (bytes : List ℕ) → bufferAfter (readAt phase.Waiting h i b t) (causeOf c) bytes buffer n ≡ buffer
-    unfolding bufferAfter judgeOf outcomeOf case_waiting_ended_ case_acknowledged_error_timeout_ case_refused_fault_headed_block_ fitsOf if_then_else_
+    unfolding bufferAfter judgeOf weighOf case_waiting_ended_ case_acknowledged_error_timeout_ case_refused_fault_headed_block_ fitsOf if_then_else_
     buffer-failed (busError code) h bytes = rw (eq-eqb (length buffer) size fits, eq-eqb n n refl)
     buffer-failed timedOut h bytes = rw (eq-eqb (length buffer) size fits, eq-eqb n n refl)
 
@@ -163,23 +163,23 @@ module _ (config : Config) (address size n : ℕ) where
         ∙ ap (lending laid′) (sym (heard-failed (unheard c) c refl h brought [] laid l g′ flash′ k))
 
     pub head-heard : callR (reportOf (readAt phase.Waiting true i b t) outcome.Acknowledged [] size n) ≡ readAt (phaseAfter (blocksOf size) i) false i b t
-    unfolding reportOf judgeOf outcomeOf acknowledgedOf heardHead headedOf parts.countOf readDataflash case_waiting_ended_ case_acknowledged_error_timeout_ case_refused_fault_headed_block_ fitsOf if_then_else_
+    unfolding reportOf judgeOf weighOf acknowledgedOf heardHead headedOf parts.readCount readDataflash case_waiting_ended_ case_acknowledged_error_timeout_ case_refused_fault_headed_block_ fitsOf if_then_else_
     head-heard = rw (eq-eqb size size refl, eq-eqb n n refl)
 
     pub head-heard-buffer : bufferAfter (readAt phase.Waiting true i b t) outcome.Acknowledged [] buffer n ≡ buffer
-    unfolding bufferAfter judgeOf outcomeOf acknowledgedOf heardHead case_waiting_ended_ case_acknowledged_error_timeout_ case_refused_fault_headed_block_ fitsOf if_then_else_
+    unfolding bufferAfter judgeOf weighOf acknowledgedOf heardHead case_waiting_ended_ case_acknowledged_error_timeout_ case_refused_fault_headed_block_ fitsOf if_then_else_
     head-heard-buffer = rw (eq-eqb (length buffer) size fits, eq-eqb n n refl)
 
     module _ (bytes : List ℕ) (good : heardOf (blockAsk (size - i * 32) (config .«pec_read»)) bytes ≡ reply.Good) where
       pub received : i < 4294967295 → callR (reportOf (readAt phase.Waiting false i b t) outcome.Acknowledged bytes size n) ≡ readAt (phaseAfter (blocksOf size) (suc i)) false (suc i) b t
-      unfolding reportOf judgeOf outcomeOf acknowledgedOf heardBlock verdictOf dueAsk askOf advanceOf parts.countOf readDataflash case_waiting_ended_ case_acknowledged_error_timeout_ case_refused_fault_headed_block_ fitsOf if_then_else_
+      unfolding reportOf judgeOf weighOf acknowledgedOf heardBlock verdictOf dueAsk askOf advanceOf parts.readCount readDataflash case_waiting_ended_ case_acknowledged_error_timeout_ case_refused_fault_headed_block_ fitsOf if_then_else_
       received h =
           let more : min (i + 1) 4294967295 ≡ suc i = omega arith in
           rw (eq-eqb size size refl, eq-eqb n n refl, good, more)
 
       pub received-buffer : bufferAfter (readAt phase.Waiting false i b t) outcome.Acknowledged bytes buffer n
           ≡ storedAt (i * 32) 32 (dataOf (blockAsk (size - i * 32) (config .«pec_read»)) bytes) buffer
-      unfolding bufferAfter judgeOf outcomeOf acknowledgedOf heardBlock verdictOf dueAsk askOf storedOf mostOf readDataflash case_waiting_ended_ case_acknowledged_error_timeout_ case_refused_fault_headed_block_ fitsOf if_then_else_
+      unfolding bufferAfter judgeOf weighOf acknowledgedOf heardBlock verdictOf dueAsk askOf storedOf mostOf readDataflash case_waiting_ended_ case_acknowledged_error_timeout_ case_refused_fault_headed_block_ fitsOf if_then_else_
       received-buffer = rw (eq-eqb (length buffer) size fits, eq-eqb n n refl, good)
 
     -- ---- the reply is damaged
@@ -191,11 +191,11 @@ module _ (config : Config) (address size n : ℕ) where
 
     module _ (bytes : List ℕ) (wrong : heardOf (blockAsk (size - i * 32) (config .«pec_read»)) bytes ≡ reply.WrongPec) where
       disbelieved : callR (reportOf (readAt phase.Waiting false i b t) outcome.Acknowledged bytes size n) ≡ failOf (readAt phase.Waiting false i b t) answer.Pec
-      unfolding reportOf judgeOf outcomeOf acknowledgedOf heardBlock verdictOf dueAsk askOf readDataflash case_waiting_ended_ case_acknowledged_error_timeout_ case_refused_fault_headed_block_ fitsOf if_then_else_
+      unfolding reportOf judgeOf weighOf acknowledgedOf heardBlock verdictOf dueAsk askOf readDataflash case_waiting_ended_ case_acknowledged_error_timeout_ case_refused_fault_headed_block_ fitsOf if_then_else_
       disbelieved = rw (eq-eqb size size refl, eq-eqb n n refl, wrong)
 
       disbelieved-buffer : bufferAfter (readAt phase.Waiting false i b t) outcome.Acknowledged bytes buffer n ≡ buffer
-      unfolding bufferAfter judgeOf outcomeOf acknowledgedOf heardBlock verdictOf dueAsk askOf readDataflash case_waiting_ended_ case_acknowledged_error_timeout_ case_refused_fault_headed_block_ fitsOf if_then_else_
+      unfolding bufferAfter judgeOf weighOf acknowledgedOf heardBlock verdictOf dueAsk askOf readDataflash case_waiting_ended_ case_acknowledged_error_timeout_ case_refused_fault_headed_block_ fitsOf if_then_else_
       disbelieved-buffer = rw (eq-eqb (length buffer) size fits, eq-eqb n n refl, wrong)
 
     pub made-damaged : config .«pec_read» ≡ true → (front : List ℕ) (last : ℕ) → length front ≡ 35 → (pecOf 0 (0x16 ∷ 0x44 ∷ 0x17 ∷ front) ≡ last → ⊥)

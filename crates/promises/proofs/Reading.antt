@@ -30,7 +30,7 @@ use Rattle.r5.specs.Plans.{readDataflash}
 use Rattle.model_gauge.specs.Gauge.{offsetOf, pointed, repliesTo, movedOf, repliedOf}
 use Rattle.model_gauge.specs.declared.gauge.Gauge.{Gauge}
 use Rattle.promises.specs.Flash.{placeOf, blockOf}
-use Rattle.promises.specs.Events.{Cause, Event, acknowledged, failed, unheard, causeOf, outcomeOf as heardBy, after, flashAfter, ackedAfter, each}
+use Rattle.promises.specs.Events.{Cause, Event, acknowledged, failed, unheard, causeOf, heardAs as heardBy, after, flashAfter, ackedAfter, each}
 use Rattle.promises.specs.Reads.{ReadWorld, heard, readStep, readRun, Coming, comes, damaged, readOver, Damages, readNoisily}
 use Rattle.promises.specs.Reading.{flashBytes, ReadAnswered, all-got, gave-up, disbelieved}
 use Rattle.promises.proofs.Machine.{whyOf, why-number}

@@ -10,7 +10,7 @@ use lib.Seq.{take-all, take-take, take-append-le, take-append-seam, getD-append-
 use borrow.Author.Tests.{eq-eqb, ne-eqb}
 use Rattle.smbus_pec.specs.Pec.{pecOf}
 use Rattle.protocol.specs.Pick.{if_then_else_}
-use Rattle.protocol.specs.Reply.{macAsk, leadOf, aroundOf, countOf, checkedOf, heardOf, dataOf}
+use Rattle.protocol.specs.Reply.{macAsk, leadOf, aroundOf, bytesAsked, checkedOf, heardOf, dataOf}
 use Rattle.protocol.specs.declared.reply.Heard.the-variants as heard
 use Rattle.protocol.proofs.Cases.{not-eq}
 use Rattle.protocol.proofs.Shared.{laws}
@@ -40,19 +40,19 @@ module _ (gauge : Gauge) (flash : List ℕ) where
           (sym (eq-eqb _ _ (ap (λ (l : List ℕ). pecOf 0 (0x16 ∷ 0x44 ∷ 0x17 ∷ l)) front ∙ sym last)))
 
 -- the number of bytes that a block's read asks for
-pub count-of : (pec : Bool) (left : ℕ) → countOf (blockAsk left pec) ≡ (if pec then 36 else min 32 left + 3)
-unfolding blockAsk macAsk countOf aroundOf leadOf if_then_else_
+pub count-of : (pec : Bool) (left : ℕ) → bytesAsked (blockAsk left pec) ≡ (if pec then 36 else min 32 left + 3)
+unfolding blockAsk macAsk bytesAsked aroundOf leadOf if_then_else_
 count-of true left = refl
 count-of false left = omega arith
 
 module _ (gauge : Gauge) (flash : List ℕ) (pec : Bool) (left : ℕ) where
   -- what is heard of a read
   abbrev pub cutReply : List ℕ
-  cutReply = take (countOf (blockAsk left pec)) (replyOf gauge flash)
+  cutReply = take (bytesAsked (blockAsk left pec)) (replyOf gauge flash)
 
 -- a reply that the gauge gives is believed
 pub reply-good : (gauge : Gauge) (flash : List ℕ) (pec : Bool) (left : ℕ) → heardOf (blockAsk left pec) (cutReply gauge flash pec left) ≡ heard.Good
-unfolding heardOf blockAsk macAsk countOf aroundOf leadOf if_then_else_
+unfolding heardOf blockAsk macAsk bytesAsked aroundOf leadOf if_then_else_
 reply-good gauge flash true left =
     let whole : take 36 (replyOf gauge flash) ≡ replyOf gauge flash = take-all 36 (replyOf gauge flash) (omega (arith, reply-long gauge flash)) in
     rw (whole, eq-eqb 36 (length (replyOf gauge flash)) (sym (reply-long gauge flash)), reply-checked gauge flash)
@@ -83,7 +83,7 @@ brought c d at flash end small few fits =
 -- the part of its data that is handed over is the flash's
 pub reply-data : (gauge : Gauge) (flash : List ℕ) (pec : Bool) (left : ℕ) → offsetOf (gauge .pointer) + min 32 left ≤ length flash
     → take (min 32 left) (dataOf (blockAsk left pec) (cutReply gauge flash pec left)) ≡ take (min 32 left) (drop (offsetOf (gauge .pointer)) flash)
-unfolding dataOf blockAsk macAsk countOf aroundOf leadOf if_then_else_
+unfolding dataOf blockAsk macAsk bytesAsked aroundOf leadOf if_then_else_
 reply-data gauge flash true left fits =
     rw (replied .reply gauge flash) (take-take (min 32 left) 32 _ (omega arith) ∙ brought (min 32 left) 33 (offsetOf (gauge .pointer)) flash _ (omega arith) (omega arith) fits)
 reply-data gauge flash false left fits =

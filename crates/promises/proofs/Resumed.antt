@@ -33,8 +33,8 @@ use Rattle.courses.specs.declared.course.End.{End}
 use Rattle.courses.specs.declared.course.End.the-variants as end
 use Rattle.promises.specs.Flash.{placeOf, Overlaid}
 use Rattle.promises.specs.Events.{acknowledged, each}
-use Rattle.promises.specs.Writes.{World, began, shows, run}
-use Rattle.promises.specs.Demand3.{clean, Answered, all-acked, some-acked, none-acked, Told, Promised, endIn, Tells, EndedWell, countOf, Goes, ended-well, went-on, started-over, GoOver, Accepted}
+use Rattle.promises.specs.Writes.{WriteWorld, began, shows, run}
+use Rattle.promises.specs.Demand3.{clean, Answered, all-acked, some-acked, none-acked, Told, Promised, endIn, Tells, EndedWell, givenCount, Goes, ended-well, went-on, started-over, GoOver, Accepted}
 use Rattle.promises.proofs.Overlay.{overlaid-all, overlaid-rest}
 use Rattle.promises.proofs.Store.{store-empty}
 use Rattle.promises.proofs.Window.{within, window-rest}
@@ -43,7 +43,7 @@ use Rattle.promises.proofs.Machine.{worldAt, frameOf, laid-long, step-a
 use Rattle.promises.proofs.Stopped.{began-is, run-ended, run-empty, stopped}
 
 -- the count that is given is of acknowledged bytes
-count-acked : (n i : ℕ) (a : Answer) → Answered 32 n i a → (countOf a ≤ i * 32) × (countOf a ≤ n)
+count-acked : (n i : ℕ) (a : Answer) → Answered 32 n i a → (givenCount a ≤ i * 32) × (givenCount a ≤ n)
 unfolding if_then_else_
 count-acked n i a (all-acked z h) = rw z (omega arith, omega arith)
 count-acked n i a (some-acked z e p h) = rw (z, e) (omega arith, omega arith)
@@ -83,12 +83,12 @@ clean-rest address payload flash win whole i b now h l v = by (eqb (length paylo
 -- the next go is inside the window, and a clean write of it is a clean write of all
 rest-goes : (address : ℕ) (payload flash : List ℕ) → inWindow address (length payload) ≡ true → length flash ≡ 8192
     → (i : ℕ) (a : Answer) (now : List ℕ) → Answered 32 (length payload) i a → Overlaid 32 (placeOf address) payload flash i now
-    → (inWindow (address + countOf a) (length (drop (countOf a) payload)) ≡ true)
-    × (clean (address + countOf a) (drop (countOf a) payload) now ≡ clean address payload flash)
+    → (inWindow (address + givenCount a) (length (drop (givenCount a) payload)) ≡ true)
+    × (clean (address + givenCount a) (drop (givenCount a) payload) now ≡ clean address payload flash)
 rest-goes address payload flash win whole i a now told v =
     let small = count-acked (length payload) i a told in (
-      rw (length-drop (countOf a) payload) (window-rest address (length payload) (countOf a) win (small .1)),
-      clean-rest address payload flash win whole i (countOf a) now (small .0) (small .1) v,
+      rw (length-drop (givenCount a) payload) (window-rest address (length payload) (givenCount a) win (small .1)),
+      clean-rest address payload flash win whole i (givenCount a) now (small .0) (small .1) v,
     )
 
 -- a write of all of it again
@@ -113,7 +113,7 @@ module _ (Go : ℕ → List ℕ → List ℕ → End → List ℕ → Type 0)
   goes {address} {payload} {flash} {after} win whole (went-on {now = now} a g on) =
       let l = leaves address payload flash (end.Answered a) now win whole g in
       let r = rest-goes address payload flash win whole (l .0) a now (l .3) (l .1) in
-      goes {address = address + countOf a} {payload = drop (countOf a) payload} {flash = now} (r .0) (l .2 ∙ whole) on ∙ r .1
+      goes {address = address + givenCount a} {payload = drop (givenCount a) payload} {flash = now} (r .0) (l .2 ∙ whole) on ∙ r .1
   goes {address} {payload} {flash} {after} win whole (started-over {now = now} g on) =
       let l = leaves address payload flash end.Cut now win whole g in
       goes {address = address} {payload = payload} {flash = now} win (l .2 ∙ whole) on ∙ over-goes address payload flash win whole (l .0) now (l .1)
@@ -128,7 +128,7 @@ told-end k n i (transfer.Ended a) h = h
 over-leaves : (address : ℕ) (payload flash : List ℕ) (e : End) (now : List ℕ) → inWindow address (length payload) ≡ true → length flash ≡ 8192
     → GoOver address payload flash e now → LeftBy address payload flash e now
 over-leaves address payload flash e now win whole g =
-    let w : World = run payload (g .es) (began (g .config) address payload (g .work) flash) in
+    let w : WriteWorld = run payload (g .es) (began (g .config) address payload (g .work) flash) in
     let s : Promised address payload flash w = stopped (g .config) address payload (g .work) flash (record { window = win; room = g .room; whole = whole }) (g .es) in (
       w .acked,
       subst (Overlaid 32 (placeOf address) payload flash (w .acked)) (sym (g .leaves)) (s .overlay),
@@ -150,19 +150,19 @@ module _ (config : Config) (address : ℕ) (payload : List ℕ) (n : ℕ) (room 
   unfolding each phaseAfter if_then_else_
   all-heard zero i b t work flash long h l = absurd (omega arith)
   all-heard (suc m) i b t work flash long h l =
-      ap (λ (w : World). run payload (replicate m acknowledged) w .call .phase) (step-acknowledged config address payload n i b t work long room flash (omega arith))
+      ap (λ (w : WriteWorld). run payload (replicate m acknowledged) w .call .phase) (step-acknowledged config address payload n i b t work long room flash (omega arith))
       ∙ (by (leb (blocksOf (length payload)) (suc i)) refl
       (λ k. all-heard m (suc i) (record { left = config .«max_bus_retries» }) t (over (frameOf config address payload n i) work) (stored (frameOf config address payload n i) flash)
       (laid-long config address payload n i b t work long room) (omega arith) (omega arith)))
     where
-      next : Phase → World
+      next : Phase → WriteWorld
       next p = worldAt config address payload n p (suc i) (record { left = config .«max_bus_retries» }) t (over (frameOf config address payload n i) work) (stored (frameOf config address payload n i) flash)
 
       by : (z : Bool) → leb (blocksOf (length payload)) (suc i) ≡ z
           → (suc i < blocksOf (length payload) → run payload (replicate m acknowledged) (next phase.Waiting) .call .phase ≡ phase.Ended answer.Done)
           → run payload (replicate m acknowledged) (next (if z then phase.Ended answer.Done else phase.Waiting)) .call .phase ≡ phase.Ended answer.Done
       by true z more =
-          ap (λ (w : World). w .call .phase) (run-ended config address payload n (replicate m acknowledged) answer.Done (suc i) _ t _ _)
+          ap (λ (w : WriteWorld). w .call .phase) (run-ended config address payload n (replicate m acknowledged) answer.Done (suc i) _ t _ _)
       by false z more = more (leb-false _ _ z)
 
 shows-done : (call : WriteCall) (payload : List ℕ) (w : ℕ) → call .phase ≡ phase.Ended answer.Done → nextOf call payload w ≡ transfer.Ended answer.Done
@@ -176,7 +176,7 @@ pub unbroken : (config : Config) (address : ℕ) (payload work flash : List ℕ)
     × (run payload (replicate n acknowledged) (began config address payload work flash) .flash ≡ clean address payload flash)
 unfolding if_then_else_
 unbroken config address payload work flash a n l =
-    let w : World = run payload (replicate n acknowledged) (began config address payload work flash) in
+    let w : WriteWorld = run payload (replicate n acknowledged) (began config address payload work flash) in
     let shown : shows payload w ≡ transfer.Ended answer.Done = shows-done (w .call) payload (length (w .work)) (done-at (eqb (length payload) 0) refl) in
     let e : EndedWell (endIn (shows payload w)) = rw shown refl in (
       e,
@@ -185,7 +185,7 @@ unbroken config address payload work flash a n l =
     )
   where
     done-at : (t : Bool) → eqb (length payload) 0 ≡ t → run payload (replicate n acknowledged) (began config address payload work flash) .call .phase ≡ phase.Ended answer.Done
-    done-at true t = ap (λ (w : World). w .call .phase) (run-empty config address payload work flash a (eqb-true _ _ t) (replicate n acknowledged))
+    done-at true t = ap (λ (w : WriteWorld). w .call .phase) (run-empty config address payload work flash a (eqb-true _ _ t) (replicate n acknowledged))
     done-at false t =
         let some : length payload ≡ 0 → ⊥ = eqb-false _ _ t in
         let w = within address (length payload) (a .window) (omega arith) in

@@ -28,7 +28,7 @@ use Rattle.r5.specs.Plans.{writeDataflash}
 use Rattle.model_gauge.specs.Gauge.{stored}
 use Rattle.promises.specs.Flash.{placeOf, blockOf, upto, Overlaid}
 use Rattle.promises.specs.Events.{Cause, Event, acknowledged, failed, unheard, each}
-use Rattle.promises.specs.Writes.{World, began, shows, step, run}
+use Rattle.promises.specs.Writes.{WriteWorld, began, shows, step, run}
 use Rattle.promises.specs.Demand3.{Answered, all-acked, some-acked, none-acked, Told, Promised, Accepted}
 use Rattle.promises.proofs.Overlay.{overlaid-long, overlaid-none, landed}
 use Rattle.promises.proofs.Store.{store-nothing}
@@ -63,7 +63,7 @@ told-gave-up n i c h = by c (eqb i 0) refl
     by c false t = let some : i ≡ 0 → ⊥ = eqb-false i 0 t in some-acked refl refl (omega arith) h
 
 -- what is promised of a world, but for the bytes
-abbrev Kept : ℕ → List ℕ → List ℕ → World → Type 0
+abbrev Kept : ℕ → List ℕ → List ℕ → WriteWorld → Type 0
 Kept address payload flash w =
     Overlaid 32 (placeOf address) payload flash (w .acked) (w .flash) × Told 32 (length payload) (w .acked) (shows payload w)
 
@@ -73,7 +73,7 @@ module _ (config : Config) (address : ℕ) (payload old : List ℕ) (n : ℕ) (r
   place = placeOf address
 
   -- what every event keeps: the call has as many frames sent as there are blocks acknowledged, and the flash is the overlay of those
-  pub record Going (w : World) : Type 0 where
+  pub record Going (w : WriteWorld) : Type 0 where
     pub at : Phase
     pub i : ℕ
     pub b : Budget
@@ -134,10 +134,10 @@ module _ (config : Config) (address : ℕ) (payload old : List ℕ) (n : ℕ) (r
       rw (step-unheard config address payload n i b t work long room c flash)
       (going-failed c i b t (over (frameOf config address payload n i) work) (stored (frameOf config address payload n i) flash) (laid-long config address payload n i b t work long room) s (inr (lands i flash s v)))
 
-  pub going-step : (e : Event) (w : World) → Going w → Going (step payload e w)
+  pub going-step : (e : Event) (w : WriteWorld) → Going w → Going (step payload e w)
   going-step e w g = rw (g .is) (going-at e (g .at) (g .i) (g .b) (g .t) (g .work) (g .flash) (g .long) (g .holds) (g .told))
 
-  pub going-run : (es : List Event) (w : World) → Going w → Going (run payload es w)
+  pub going-run : (es : List Event) (w : WriteWorld) → Going w → Going (run payload es w)
   unfolding each
   going-run [] w g = g
   going-run (e ∷ es) w g = going-run es (step payload e w) (going-step e w g)
@@ -149,7 +149,7 @@ module _ (config : Config) (address : ℕ) (payload old : List ℕ) (n : ℕ) (r
   shown-told (phase.Ended a) i b t work flash long s = rw (shows-ended config address payload n a i b t (length work)) s
 
   -- what a write that keeps it is promised
-  pub going-kept : (w : World) → Going w → Kept address payload old w
+  pub going-kept : (w : WriteWorld) → Going w → Kept address payload old w
   going-kept w g = rw (g .is) (g .holds, shown-told (g .at) (g .i) (g .b) (g .t) (g .work) (g .flash) (g .long) (g .told))
 
 -- ---- the start

@@ -13,7 +13,7 @@ use Rattle.courses.specs.WriteRun.{World as ModelWorld, Left, world, left, runO
 use Rattle.courses.specs.declared.course.End.{End}
 use Rattle.promises.specs.Flash.{placeOf, Overlaid, Stands}
 use Rattle.promises.specs.Events.{Event, acknowledged, failed, unheard, timedOut}
-use Rattle.promises.specs.Writes.{World, began, shows, run}
+use Rattle.promises.specs.Writes.{WriteWorld, began, shows, run}
 use Rattle.promises.specs.Demand3.{clean, endIn, Tells, EndedWell, Goes, Accepted}
 
 -- ---- a run over a course
@@ -31,7 +31,7 @@ eventsAt [] = []
 eventsAt (byte ∷ course) = eventAt byte ∷ eventsAt course
 
 -- the call, its work buffer and the flash, beside a gauge
-abbrev pub beside : Gauge → World → ModelWorld
+abbrev pub beside : Gauge → WriteWorld → ModelWorld
 beside gauge w = world (record { call = w .call; gauge = gauge }) (w .work) (w .flash)
 
 -- a write starts beside a gauge and is run over a course
@@ -39,12 +39,12 @@ abbrev pub ran : Config → ℕ → List ℕ → List ℕ → List ℕ → Gauge
 ran config address payload work flash gauge course = runOf payload course (beside gauge (began config address payload work flash))
 
 -- the same write over the same events, as the demand has it
-abbrev pub ranIn : Config → ℕ → List ℕ → List ℕ → List ℕ → List ℕ → World
+abbrev pub ranIn : Config → ℕ → List ℕ → List ℕ → List ℕ → List ℕ → WriteWorld
 ranIn config address payload work flash course = run payload (eventsAt course) (began config address payload work flash)
 
 -- what a run leaves that stops there: the call, its work buffer and the flash, beside a gauge; it is cut where the machine shows a transfer, and else has
 -- the answer that it shows
-abbrev pub stoppedAt : List ℕ → Gauge → World → Left
+abbrev pub stoppedAt : List ℕ → Gauge → WriteWorld → Left
 stoppedAt payload gauge w = left (record { writer = record { call = w .call; gauge = gauge }; end = endIn (shows payload w) }) (w .work) (w .flash)
 
 -- what a run left, to be run on

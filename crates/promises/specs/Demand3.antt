@@ -28,7 +28,7 @@ use Rattle.promises.specs.Flash.{placeOf, store, blockFrame, Overlaid, S
 use Rattle.promises.specs.Events.{Event, acknowledged}
 use Rattle.promises.specs.Host.{Doing, events, Allowed}
 use Rattle.promises.specs.OverOriginal.{outcomesIn, transfersOf, laidOver, stopOf}
-use Rattle.promises.specs.Writes.{World, began, shows, handed, run, does, May, hosted, Alike}
+use Rattle.promises.specs.Writes.{WriteWorld, began, shows, handed, run, does, May, hosted, Alike}
 
 -- what one clean write leaves
 abbrev pub clean : ℕ → List ℕ → List ℕ → List ℕ
@@ -49,7 +49,7 @@ Told k n i (transfer.Refused a) = ⊥
 Told k n i (transfer.Ended a) = Answered k n i a
 
 -- at every point of stopping: the flash as an overlay, the same byte by byte, and what the machine shows
-pub record Promised (address : ℕ) (payload flash : List ℕ) (w : World) : Type 0 where
+pub record Promised (address : ℕ) (payload flash : List ℕ) (w : WriteWorld) : Type 0 where
   pub overlay : Overlaid 32 (placeOf address) payload flash (w .acked) (w .flash)
   pub bytes : Stands 32 address payload flash (w .acked) (w .flash)
   pub told : Told 32 (length payload) (w .acked) (shows payload w)
@@ -74,8 +74,8 @@ EndedWell end.Cut = ⊥
 EndedWell (end.Answered a) = numberOf a ≡ 0
 
 -- the count that an answer gives; none given means zero
-abbrev pub countOf : Answer → ℕ
-countOf a = if eqb (numberOf a) 6 then detailOf a else 0
+abbrev pub givenCount : Answer → ℕ
+givenCount a = if eqb (numberOf a) 6 then detailOf a else 0
 
 -- goes one after the other, from a flash to what the last one leaves, which ended well; `Go address payload flash e now` says of one go how it stopped
 -- and what flash it left. After an error the next go sends only the bytes past the count, to the address that many further on; after a stop in the
@@ -84,7 +84,7 @@ pub data Goes (Go : ℕ → List ℕ → List ℕ → End → List ℕ → Type 
   ended-well : {address : ℕ} {payload flash after : List ℕ} (e : End) → EndedWell e → Go address payload flash e after
       → Goes Go address payload flash after
   went-on : {address : ℕ} {payload flash now after : List ℕ} (a : Answer) → Go address payload flash (end.Answered a) now
-      → Goes Go (address + countOf a) (drop (countOf a) payload) now after → Goes Go address payload flash after
+      → Goes Go (address + givenCount a) (drop (givenCount a) payload) now after → Goes Go address payload flash after
   started-over : {address : ℕ} {payload flash now after : List ℕ} → Go address payload flash end.Cut now
       → Goes Go address payload now after → Goes Go address payload flash after
 
@@ -128,9 +128,9 @@ pub record Demand3 : Type 0 where
   -- the count that an error gives is of the blocks acknowledged
   pub counted : (config : Config) (address : ℕ) (payload work flash : List ℕ) → Accepted address payload work flash → (es : List Event) (a : Answer)
       → shows payload (run payload es (began config address payload work flash)) ≡ transfer.Ended a → (numberOf a ≡ 0 → ⊥)
-      → countOf a ≡ run payload es (began config address payload work flash) .acked * 32
+      → givenCount a ≡ run payload es (began config address payload work flash) .acked * 32
   -- figures: 6 with 64 gives 64; the code of a bus error is no count, and a timeout has none
-  pub counts : (countOf (answer.PartialDataFlashWrite 64) ≡ 64) × (countOf (answer.I2c 5) ≡ 0) × (countOf answer.Timeout ≡ 0)
+  pub counts : (givenCount (answer.PartialDataFlashWrite 64) ≡ 64) × (givenCount (answer.I2c 5) ≡ 0) × (givenCount answer.Timeout ≡ 0)
   -- go on from the count, any number of times
   pub resumed : (address : ℕ) (payload flash after : List ℕ) → inWindow address (length payload) ≡ true → length flash ≡ 8192
       → Goes GoOver address payload flash after → after ≡ clean address payload flash

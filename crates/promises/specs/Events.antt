@@ -21,10 +21,10 @@ causeOf (busError code) = outcome.BusError code
 causeOf timedOut = outcome.Timeout
 
 -- what the host hears
-abbrev pub outcomeOf : Event → Outcome
-outcomeOf acknowledged = outcome.Acknowledged
-outcomeOf (failed c) = causeOf c
-outcomeOf (unheard c) = causeOf c
+abbrev pub heardAs : Event → Outcome
+heardAs acknowledged = outcome.Acknowledged
+heardAs (failed c) = causeOf c
+heardAs (unheard c) = causeOf c
 
 -- the reply that it lends: what an acknowledged transfer brought, or whatever lies there beside a failure
 abbrev pub lentOf : Event → (brought beside : List ℕ) → List ℕ

@@ -15,7 +15,7 @@ use Rattle.r5.specs.Plans.{readDataflash}
 use Rattle.model_gauge.specs.Gauge.{pointed, repliesTo, replyOf, repliedOf}
 use Rattle.model_gauge.specs.declared.gauge.Gauge.{Gauge}
 use Rattle.answers.specs.Runs.{callR}
-use Rattle.promises.specs.Events.{Event, acknowledged, outcomeOf, lentOf, after, flashAfter, ackedAfter, each}
+use Rattle.promises.specs.Events.{Event, acknowledged, heardAs, lentOf, after, flashAfter, ackedAfter, each}
 use Rattle.promises.specs.Host.{makes, Doing, transfers, reports, Misplaced}
 
 -- the call, the gauge, the caller's buffer and the work buffer; the flash; how many blocks have come: reads that were acknowledged, with the gauge's own reply
@@ -41,9 +41,9 @@ readBegan gauge config address buffer work flash = record {
 -- the call hears of a transfer what an acknowledged one brought, or whatever lies there beside a failure; and the gauge and the flash are as it left them
 unfoldable pub heard : Event → (brought beside work : List ℕ) → Gauge → (flash : List ℕ) → (got : ℕ) → ReadWorld → ReadWorld
 heard e brought beside work gauge flash got w = record {
-  call = callR (reportOf (w .call) (outcomeOf e) (lentOf e brought beside) (length (w .buffer)) (length work));
+  call = callR (reportOf (w .call) (heardAs e) (lentOf e brought beside) (length (w .buffer)) (length work));
   gauge = gauge;
-  buffer = bufferAfter (w .call) (outcomeOf e) (lentOf e brought beside) (w .buffer) (length work);
+  buffer = bufferAfter (w .call) (heardAs e) (lentOf e brought beside) (w .buffer) (length work);
   work = work;
   flash = flash;
   got = got;

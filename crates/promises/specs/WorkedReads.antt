@@ -8,7 +8,7 @@ use Rattle.smbus_pec.specs.Pec.{bitStep, bitSteps, byteStep, pecOf}
 use Rattle.protocol.specs.Pick.{if_then_else_}
 use Rattle.protocol.specs.Bytes.{over, blockIn, storedAt}
 use Rattle.protocol.specs.Frame.{sealed, pairOf, macBytes, laidOf, workLaid}
-use Rattle.protocol.specs.Reply.{macAsk, leadOf, aroundOf, countOf, checkedOf, heardOf, dataOf}
+use Rattle.protocol.specs.Reply.{macAsk, leadOf, aroundOf, bytesAsked, checkedOf, heardOf, dataOf}
 use Rattle.protocol.specs.Window.{inWindow}
 use Rattle.protocol.specs.declared.error.Answer.the-variants as answer
 use Rattle.engine.specs.Pick.{case_waiting_ended_, case_acknowledged_error_timeout_, case_retry_spent_}
@@ -19,7 +19,7 @@ use Rattle.engine.specs.declared.bus.Transfer.the-variants as transfer
 use Rattle.reading.specs.Pick.{case_refused_fault_headed_block_}
 use Rattle.reading.specs.Parts.{hasHead, headBytes, blockAsk, askOf, mostOf}
 use Rattle.reading.specs.Parts as parts
-use Rattle.reading.specs.Reading.{startOf, dueAsk, shownHead, workHead, shownOf, workShown, nextOf, workAfter, headedOf, advanceOf, retryOf, endOf, failOf, heardHead, verdictOf, heardBlock, acknowledgedOf, outcomeOf, judgeOf, storedOf, reportOf, bufferAfter}
+use Rattle.reading.specs.Reading.{startOf, dueAsk, shownHead, workHead, shownOf, workShown, nextOf, workAfter, headedOf, advanceOf, retryOf, endOf, failOf, heardHead, verdictOf, heardBlock, acknowledgedOf, weighOf, judgeOf, storedOf, reportOf, bufferAfter}
 use Rattle.r5.specs.Plans.{readDataflash}
 use Rattle.model_gauge.specs.Frame.{wholeOf, formOf, readFrame}
 use Rattle.model_gauge.specs.Gauge.{stored, storedForm, pointed, pointedForm, repliesTo, blockAt, replyFront, replyOf, movedOf, repliedOf}
@@ -62,5 +62,5 @@ pub worked-reads :
     × (workedNoise (comes (acknowledged) ∷ damaged (replicate 35 0) 0 ∷ comes (acknowledged) ∷ damaged (replicate 35 0) 0 ∷ []) .buffer ≡ replicate 33 0xA5)
     × (readShows (workedNoise damagedLater) ≡ transfer.Ended answer.Done)
     × (workedNoise damagedLater .buffer ≡ replicate 32 1 ++ (2 ∷ []))
-unfolding bitStep bitSteps byteStep pecOf readOver checkedOf readBegan startOf admitted measured windowed inWindow readDataflash hasHead each readMade headSent asked heard nextOf workAfter shownOf workShown shownHead workHead headBytes macBytes pairOf laidOf workLaid writeOf sealed over fitsOf dueAsk askOf blockAsk macAsk countOf aroundOf leadOf heardOf dataOf reportOf bufferAfter judgeOf outcomeOf acknowledgedOf heardHead heardBlock verdictOf headedOf advanceOf storedOf storedAt blockIn mostOf parts.countOf failOf failedOf retryOf endOf phaseAfter waited nothing stored storedForm pointed pointedForm readFrame formOf wholeOf repliesTo repliedOf movedOf replyOf replyFront blockAt case_waiting_ended_ case_acknowledged_error_timeout_ case_retry_spent_ case_refused_fault_headed_block_ makes if_then_else_
+unfolding bitStep bitSteps byteStep pecOf readOver checkedOf readBegan startOf admitted measured windowed inWindow readDataflash hasHead each readMade headSent asked heard nextOf workAfter shownOf workShown shownHead workHead headBytes macBytes pairOf laidOf workLaid writeOf sealed over fitsOf dueAsk askOf blockAsk macAsk bytesAsked aroundOf leadOf heardOf dataOf reportOf bufferAfter judgeOf weighOf acknowledgedOf heardHead heardBlock verdictOf headedOf advanceOf storedOf storedAt blockIn mostOf parts.readCount failOf failedOf retryOf endOf phaseAfter waited nothing stored storedForm pointed pointedForm readFrame formOf wholeOf repliesTo repliedOf movedOf replyOf replyFront blockAt case_waiting_ended_ case_acknowledged_error_timeout_ case_retry_spent_ case_refused_fault_headed_block_ makes if_then_else_
 worked-reads = (refl, refl, refl, refl, refl, refl, refl, refl, refl, refl, refl, refl, refl, refl)

@@ -1,5 +1,3 @@
 pub mod Cases
 pub mod Laws
-pub mod Signed
-pub mod Back
 pub mod Shared

@@ -11,7 +11,7 @@ use borrow.Author.Tests.{lt-ltb, le-ltb, le-leb, lt-leb, eq-eqb, ne-eqb}
 use Rattle.protocol.specs.Pick.{if_then_else_}
 use Rattle.protocol.specs.Bytes.{over, blockIn, storedAt, sendOf}
 use Rattle.protocol.specs.Frame.{sealed, laidOf, workLaid}
-use Rattle.protocol.specs.Reply.{countOf, checkedOf, heardOf}
+use Rattle.protocol.specs.Reply.{bytesAsked, checkedOf, heardOf}
 use Rattle.protocol.specs.Laws.{Laws}
 use Rattle.protocol.specs.declared.frame.Laid.the-variants.{Frame, NoRoom}
 use Rattle.protocol.specs.declared.reply.Ask.{Ask}
@@ -45,21 +45,21 @@ no-room : (pec : Bool) (frame work : List ℕ) → length work ≤ length frame 
 unfolding laidOf workLaid if_then_else_
 no-room pec frame work h = (rw (le-ltb (length frame) (length work) h), rw (le-ltb (length frame) (length work) h))
 
-wrong-length : (ask : Ask) (reply : List ℕ) → (countOf ask ≡ length reply → ⊥) → heardOf ask reply ≡ WrongLength
+wrong-length : (ask : Ask) (reply : List ℕ) → (bytesAsked ask ≡ length reply → ⊥) → heardOf ask reply ≡ WrongLength
 unfolding heardOf if_then_else_
-wrong-length ask reply h = rw (ne-eqb (countOf ask) (length reply) h)
+wrong-length ask reply h = rw (ne-eqb (bytesAsked ask) (length reply) h)
 
-wrong-pec : (ask : Ask) (reply : List ℕ) → countOf ask ≡ length reply → ask .pec ≡ true → checkedOf (ask .covered) reply ≡ false → heardOf ask reply ≡ WrongPec
+wrong-pec : (ask : Ask) (reply : List ℕ) → bytesAsked ask ≡ length reply → ask .pec ≡ true → checkedOf (ask .covered) reply ≡ false → heardOf ask reply ≡ WrongPec
 unfolding heardOf if_then_else_
-wrong-pec ask reply h p c = rw (eq-eqb (countOf ask) (length reply) h, p, c)
+wrong-pec ask reply h p c = rw (eq-eqb (bytesAsked ask) (length reply) h, p, c)
 
-good : (ask : Ask) (reply : List ℕ) → countOf ask ≡ length reply → (ask .pec ≡ true → checkedOf (ask .covered) reply ≡ true) → heardOf ask reply ≡ Good
+good : (ask : Ask) (reply : List ℕ) → bytesAsked ask ≡ length reply → (ask .pec ≡ true → checkedOf (ask .covered) reply ≡ true) → heardOf ask reply ≡ Good
 unfolding heardOf if_then_else_
 good ask reply h c = by (ask .pec) refl
   where
     by : (t : Bool) → ask .pec ≡ t → heardOf ask reply ≡ Good
-    by true p = rw (eq-eqb (countOf ask) (length reply) h, p, c p)
-    by false p = rw (eq-eqb (countOf ask) (length reply) h, p)
+    by true p = rw (eq-eqb (bytesAsked ask) (length reply) h, p, c p)
+    by false p = rw (eq-eqb (bytesAsked ask) (length reply) h, p)
 
 pub laws : Laws
 unfolding sealed if_then_else_

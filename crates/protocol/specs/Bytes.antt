@@ -1,6 +1,6 @@
 -- What is laid into a buffer, and what is handed out of one.
 -- Assumes nothing.
-use Prim.Native.Nat.{ℕ, _+_, _/_, min}
+use Prim.Native.Nat.{ℕ, _+_, _*_, _/_, min}
 use mathlib.Core.Bool.{Bool}
 use mathlib.Core.List.{List, _++_}
 use lib.ListN.{length, take, drop}
@@ -22,6 +22,10 @@ storedAt at most b w = if leb at (length w) then take at w ++ blockIn most b (dr
 -- how many blocks of 32 there are in n bytes, the last perhaps short
 abbrev pub blocksOf : ℕ → ℕ
 blocksOf n = (n + 31) / 32
+
+-- where block i of 32 starts
+abbrev pub blockStart : ℕ → ℕ
+blockStart i = i * 32
 
 -- the part to send: the frame's n bytes as they were built in the work buffer, or the caller's own
 unfoldable pub sendOf : List ℕ → List ℕ → Bool → ℕ → List ℕ

@@ -10,7 +10,7 @@ use Rattle.smbus_pec.specs.Pec.{pecOf}
 use Rattle.protocol.specs.Bytes.{blockIn, storedAt, blocksOf, sendOf}
 use Rattle.protocol.specs.Common.{noPec}
 use Rattle.protocol.specs.Frame.{sealed, fixedPair, laidOf, workLaid}
-use Rattle.protocol.specs.Reply.{countOf, checkedOf, heardOf}
+use Rattle.protocol.specs.Reply.{bytesAsked, checkedOf, heardOf}
 use Rattle.protocol.specs.declared.common.Config.{Config}
 use Rattle.protocol.specs.declared.frame.Laid.the-variants.{Frame, NoRoom}
 use Rattle.protocol.specs.declared.frame.MacCommand.the-variants.{SecurityKeys, AuthenticationKey, ChargingVoltageOverride, MfgInfoC}
@@ -38,8 +38,8 @@ pub record Laws : Type 0 where
       (fixedPair SecurityKeys ≡ 0x35 ∷ 0x00 ∷ []) × (fixedPair AuthenticationKey ≡ 0x37 ∷ 0x00 ∷ [])
       × (fixedPair ChargingVoltageOverride ≡ 0xB0 ∷ 0x00 ∷ []) × (fixedPair MfgInfoC ≡ 0x7B ∷ 0x00 ∷ [])
   -- a reply of another length than was asked, one of that length whose PEC differs, and any other
-  pub wrong-length : (ask : Ask) (reply : List ℕ) → (countOf ask ≡ length reply → ⊥) → heardOf ask reply ≡ WrongLength
-  pub wrong-pec : (ask : Ask) (reply : List ℕ) → countOf ask ≡ length reply → ask .pec ≡ true → checkedOf (ask .covered) reply ≡ false → heardOf ask reply ≡ WrongPec
-  pub good : (ask : Ask) (reply : List ℕ) → countOf ask ≡ length reply → (ask .pec ≡ true → checkedOf (ask .covered) reply ≡ true) → heardOf ask reply ≡ Good
+  pub wrong-length : (ask : Ask) (reply : List ℕ) → (bytesAsked ask ≡ length reply → ⊥) → heardOf ask reply ≡ WrongLength
+  pub wrong-pec : (ask : Ask) (reply : List ℕ) → bytesAsked ask ≡ length reply → ask .pec ≡ true → checkedOf (ask .covered) reply ≡ false → heardOf ask reply ≡ WrongPec
+  pub good : (ask : Ask) (reply : List ℕ) → bytesAsked ask ≡ length reply → (ask .pec ≡ true → checkedOf (ask .covered) reply ≡ true) → heardOf ask reply ≡ Good
   -- the same retries with no PEC
   pub no-pec : (config : Config) → noPec config ≡ record { «max_bus_retries» = config .«max_bus_retries»; «pec_write» = false; «pec_read» = false }

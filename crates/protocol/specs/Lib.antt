@@ -5,6 +5,5 @@ pub mod Window
 pub mod Bytes
 pub mod Frame
 pub mod Reply
-pub mod Voltage
 pub mod Figures
 pub mod Laws

@@ -28,8 +28,8 @@ unfoldable pub aroundOf : Ask → ℕ
 aroundOf ask = if ask .pec then leadOf ask + 1 else leadOf ask
 
 -- the number asked; it stays at the largest number, which no reply's length reaches
-unfoldable pub countOf : Ask → ℕ
-countOf ask = min (ask .wanted + aroundOf ask) 18446744073709551615
+unfoldable pub bytesAsked : Ask → ℕ
+bytesAsked ask = min (ask .wanted + aroundOf ask) 18446744073709551615
 
 -- the PEC of a read covers 16, the command, 17 and the reply before it
 unfoldable pub checkedOf : ℕ → List ℕ → Bool
@@ -40,7 +40,7 @@ checkedOf covered reply =
 -- a reply is of the number asked, and then believed where its PEC agrees or none was asked
 unfoldable pub heardOf : Ask → List ℕ → Heard
 heardOf ask reply =
-    if eqb (countOf ask) (length reply) then
+    if eqb (bytesAsked ask) (length reply) then
     (if ask .pec then (if checkedOf (ask .covered) reply then Good else WrongPec) else Good)
     else WrongLength
 

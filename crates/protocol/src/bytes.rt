@@ -3,7 +3,7 @@ use crate::consts::LARGEST_DF_BLOCK_SIZE_BYTES;
 ghost use mathlib.Core.Path.{_≡_};
 ghost use Prim.Native.Nat.{_≤_, min};
 ghost use lib.ListN.{length, take, drop};
-ghost use Rattle.protocol.specs.Bytes.{over, blockIn, storedAt, sendOf, blocksOf};
+ghost use Rattle.protocol.specs.Bytes.{over, blockIn, storedAt, sendOf, blocksOf, blockStart};
 
 // The smaller of two numbers.
 pub fn least(a: usize, b: usize) -> usize
@@ -21,6 +21,13 @@ pub fn blocks(len: usize) -> usize
     } else {
         len / LARGEST_DF_BLOCK_SIZE_BYTES + 1
     }
+}
+
+// Where block i of 32 bytes starts.
+pub fn block_start(i: u32) -> usize
+    ensures { λ r. ⌜ r ≡ blockStart i ⌝ }
+{
+    i as usize * LARGEST_DF_BLOCK_SIZE_BYTES
 }
 
 // The first n bytes of a slice, or all of it where it has fewer.

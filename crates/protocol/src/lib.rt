@@ -5,5 +5,4 @@ pub mod consts;
 pub mod error;
 pub mod frame;
 pub mod reply;
-pub mod voltage;
 pub mod window;

@@ -5,7 +5,7 @@ use crate::consts::MAC_CMD;
 ghost use mathlib.Core.Path.{_≡_};
 ghost use Prim.Native.Nat.{_+_, min};
 ghost use lib.ListN.{take, drop};
-ghost use Rattle.protocol.specs.Reply.{plainAsk, macAsk, leadOf, aroundOf, countOf, checkedOf, heardOf, dataOf};
+ghost use Rattle.protocol.specs.Reply.{plainAsk, macAsk, leadOf, aroundOf, bytesAsked, checkedOf, heardOf, dataOf};
 
 // A read as it goes out, and how its reply is laid out.
 pub struct Ask {
@@ -101,7 +101,7 @@ impl Ask {
 
     // How many bytes are asked for.
     pub fn count(self) -> usize
-        ensures { λ r. ⌜ r ≡ countOf self ⌝ }
+        ensures { λ r. ⌜ r ≡ bytesAsked self ⌝ }
     {
         plus(self.wanted, self.around())
     }

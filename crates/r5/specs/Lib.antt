@@ -1,1 +1,2 @@
+pub mod Voltage
 pub mod Plans

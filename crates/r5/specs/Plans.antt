@@ -12,7 +12,7 @@ use Rattle.engine.specs.declared.limit.Limit.the-variants as limit
 use Rattle.writing.specs.Writing.{planOf}
 use Rattle.writing.specs.declared.frames.Frames.the-variants as frames
 use Rattle.writing.specs.declared.call.WritePlan.{WritePlan}
-use Rattle.reading.specs.Reading.{plainPlan, macPlan}
+use Rattle.reading.specs.Reading as reading
 use Rattle.reading.specs.declared.parts.Head.the-variants as head
 use Rattle.reading.specs.declared.parts.Reads.the-variants as reads
 use Rattle.reading.specs.declared.call.ReadPlan.{ReadPlan}
@@ -20,7 +20,7 @@ use Rattle.interface.specs.Plans.{readBuffer, writeRegister}
 
 -- exactly so many bytes, behind a fixed pair
 unfoldable pub macRead : Config → MacCommand → ℕ → ReadPlan
-macRead config command size = macPlan config (limit.Exactly size) command size
+macRead config command size = reading.macPlan config (limit.Exactly size) command size
 
 unfoldable pub macWrite : Config → MacCommand → ℕ → WritePlan
 macWrite config command size = planOf config (limit.Exactly size) (frames.Mac command)
@@ -52,9 +52,9 @@ readRegisterUnchecked config address n = readBuffer config address n
 abbrev pub writeRegisterUnchecked : Config → ℕ → WritePlan
 writeRegisterUnchecked config address = writeRegister (noPec config) address
 
--- both halves of an access key
+-- both halves of an access key, and no payload
 unfoldable pub sendAccessKey : Config → ℕ → ℕ → WritePlan
-sendAccessKey config lower upper = planOf config limit.Free (frames.AccessKey lower upper)
+sendAccessKey config lower upper = planOf config (limit.Exactly 0) (frames.AccessKey lower upper)
 
 -- the gauge is unsealed by its access key
 abbrev pub unsealFg : Config → ℕ → ℕ → WritePlan
@@ -70,7 +70,7 @@ wholeAsk pec size wanted = if pec then size else wanted
 
 -- at most 32 bytes of info C
 unfoldable pub readMfgInfoC : Config → ℕ → ReadPlan
-readMfgInfoC config n = macPlan config (limit.AtMost 32) mac.MfgInfoC (wholeAsk (config .«pec_read») 32 n)
+readMfgInfoC config n = reading.macPlan config (limit.AtMost 32) mac.MfgInfoC (wholeAsk (config .«pec_read») 32 n)
 
 -- at most 32 bytes of info
 unfoldable pub writeMfgInfo : Config → WritePlan
@@ -78,17 +78,11 @@ writeMfgInfo config = planOf config (limit.AtMost 32) frames.MfgInfo
 
 -- at most 33 bytes of info, its size byte first
 unfoldable pub readMfgInfo : Config → ℕ → ReadPlan
-readMfgInfo config n = plainPlan config (limit.AtMost 33) (plainAsk 0x70 (wholeAsk (config .«pec_read») 33 n) (config .«pec_read»))
+readMfgInfo config n = reading.plainPlan config (limit.AtMost 33) (plainAsk 0x70 (wholeAsk (config .«pec_read») 33 n) (config .«pec_read»))
 
 -- data flash inside the window, in blocks of 32
 unfoldable pub readDataflash : Config → ℕ → ReadPlan
-readDataflash config start = record {
-  retries = config .«max_bus_retries»;
-  limit = limit.Window start;
-  head = head.DataFlash start;
-  «head_pec» = config .«pec_read»;
-  reads = reads.Blocks (config .«pec_read»);
-}
+readDataflash config start = reading.planOf config limit.Window (head.DataFlash start) (config .«pec_read») (reads.Blocks (config .«pec_read»))
 
 unfoldable pub writeDataflash : Config → ℕ → WritePlan
-writeDataflash config start = planOf config (limit.Window start) (frames.DataFlash start)
+writeDataflash config start = planOf config limit.Window (frames.DataFlash start)

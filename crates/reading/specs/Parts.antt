@@ -1,10 +1,10 @@
 -- What a reading call is made of. (01, Frames and retries)
 -- Assumes nothing.
-use Prim.Native.Nat.{ℕ, _+_, _-_, _*_, min}
+use Prim.Native.Nat.{ℕ, _+_, _-_, min}
 use mathlib.Core.Bool.{Bool, true, false}
 use mathlib.Core.List.{List, []}
 use Rattle.protocol.specs.Pick.{if_then_else_}
-use Rattle.protocol.specs.Bytes.{blocksOf}
+use Rattle.protocol.specs.Bytes.{blocksOf, blockStart}
 use Rattle.protocol.specs.Frame.{pairOf, fixedPair, macBytes, commandBytes}
 use Rattle.protocol.specs.Reply.{macAsk}
 use Rattle.protocol.specs.declared.reply.Ask.{Ask}
@@ -20,22 +20,29 @@ hasHead (head.Command address) = true
 hasHead (head.Mac command) = true
 hasHead (head.DataFlash start) = true
 
+-- where the data flash that is read begins
+unfoldable pub firstAddress : Head → ℕ
+firstAddress head.Bare = 0
+firstAddress (head.Command address) = 0
+firstAddress (head.Mac command) = 0
+firstAddress (head.DataFlash start) = start
+
 -- the head before its PEC; that of data flash is block i's own address
 unfoldable pub headBytes : Head → ℕ → List ℕ
 headBytes head.Bare i = []
 headBytes (head.Command address) i = commandBytes address
 headBytes (head.Mac command) i = macBytes (fixedPair command) []
-headBytes (head.DataFlash start) i = macBytes (pairOf (start + i * 32)) []
+headBytes (head.DataFlash start) i = macBytes (pairOf (start + blockStart i)) []
 
 -- how many reads there are for a buffer of n bytes
-unfoldable pub countOf : Reads → ℕ → ℕ
-countOf reads.Nothing n = 0
-countOf (reads.Once ask) n = 1
-countOf (reads.Blocks pec) n = blocksOf n
+unfoldable pub readCount : Reads → ℕ → ℕ
+readCount reads.Nothing n = 0
+readCount (reads.Once ask) n = 1
+readCount (reads.Blocks pec) n = blocksOf n
 
 -- what is left of n bytes after i blocks
 abbrev pub leftOf : ℕ → ℕ → ℕ
-leftOf n i = n - i * 32
+leftOf n i = n - blockStart i
 
 -- a block of data flash: 32 bytes with PEC, otherwise what is left of them
 unfoldable pub blockAsk : ℕ → Bool → Ask

@@ -1,14 +1,14 @@
 -- A reading call, step by step. (01, The step machine; Frames and retries)
 -- Assumes nothing.
-use Prim.Native.Nat.{ℕ, _*_}
-use mathlib.Core.Bool.{false}
+use Prim.Native.Nat.{ℕ}
+use mathlib.Core.Bool.{Bool, false}
 use mathlib.Core.List.{List}
 use lib.ListN.{length}
 use lib.Dec.{eqb}
 use Rattle.protocol.specs.Pick.{if_then_else_}
-use Rattle.protocol.specs.Bytes.{storedAt}
+use Rattle.protocol.specs.Bytes.{storedAt, blockStart}
 use Rattle.protocol.specs.Frame.{laidOf, workLaid}
-use Rattle.protocol.specs.Reply.{macAsk, countOf, heardOf, dataOf}
+use Rattle.protocol.specs.Reply.{macAsk, bytesAsked, heardOf, dataOf}
 use Rattle.protocol.specs.declared.common.Config.{Config}
 use Rattle.protocol.specs.declared.error.Answer.{Answer}
 use Rattle.protocol.specs.declared.error.Answer.the-variants as answer
@@ -28,7 +28,9 @@ use Rattle.engine.specs.declared.bus.Transfer.{Transfer}
 use Rattle.engine.specs.declared.bus.Transfer.the-variants as transfer
 use Rattle.reading.specs.Pick.{case_refused_fault_headed_block_}
 use Rattle.reading.specs.Parts as parts
+use Rattle.reading.specs.declared.parts.Head.{Head}
 use Rattle.reading.specs.declared.parts.Head.the-variants as head
+use Rattle.reading.specs.declared.parts.Reads.{Reads}
 use Rattle.reading.specs.declared.parts.Reads.the-variants as reads
 use Rattle.reading.specs.declared.call.ReadPlan.{ReadPlan}
 use Rattle.reading.specs.declared.call.ReadCall.{ReadCall}
@@ -37,31 +39,23 @@ use Rattle.reading.specs.declared.call.Verdict.the-variants as verdict
 use Rattle.reading.specs.declared.call.ReadReported.{ReadReported}
 use Rattle.reading.specs.declared.call.ReadReported.the-variants as reported
 
+-- by the settings' retries
+abbrev pub planOf : Config → Limit → Head → Bool → Reads → ReadPlan
+planOf config limit head pec reads = record { retries = config .«max_bus_retries»; limit = limit; head = head; «head_pec» = pec; reads = reads }
+
 -- one plain read, with no head
 unfoldable pub plainPlan : Config → Limit → Ask → ReadPlan
-plainPlan config limit ask = record {
-  retries = config .«max_bus_retries»;
-  limit = limit;
-  head = head.Bare;
-  «head_pec» = false;
-  reads = reads.Once ask;
-}
+plainPlan config limit ask = planOf config limit head.Bare false (reads.Once ask)
 
 -- a MAC read: the command's frame, then one read; every frame of a read goes by `pec_read`
 unfoldable pub macPlan : Config → Limit → MacCommand → ℕ → ReadPlan
-macPlan config limit command wanted = record {
-  retries = config .«max_bus_retries»;
-  limit = limit;
-  head = head.Mac command;
-  «head_pec» = config .«pec_read»;
-  reads = reads.Once (macAsk 0x44 wanted (config .«pec_read»));
-}
+macPlan config limit command wanted = planOf config limit (head.Mac command) (config .«pec_read») (reads.Once (macAsk 0x44 wanted (config .«pec_read»)))
 
 -- a call with a buffer of n bytes and a work buffer of w
 unfoldable pub startOf : ReadPlan → ℕ → ℕ → ReadCall
 startOf plan n w = record {
   task = record { plan = plan; lent = record { length = n; work = w } };
-  phase = admitted (plan .limit) n w;
+  phase = admitted (plan .limit) (parts.firstAddress (plan .head)) n w;
   heading = parts.hasHead (plan .head);
   received = 0;
   budget = record { left = plan .retries };
@@ -82,7 +76,7 @@ workHead call work = workLaid (call .task .plan .«head_pec») (parts.headBytes 
 unfoldable pub shownOf : ReadCall → ℕ → Transfer
 shownOf call w =
     if call .heading then shownHead call w
-    else transfer.Read (dueAsk call .command) (countOf (dueAsk call))
+    else transfer.Read (dueAsk call .command) (bytesAsked (dueAsk call))
 
 unfoldable pub workShown : ReadCall → List ℕ → List ℕ
 workShown call work = if call .heading then workHead call work else work
@@ -105,7 +99,7 @@ workAfter call n work =
 unfoldable pub headedOf : ReadCall → ReadCall
 headedOf call = record {
   task = call .task;
-  phase = phaseAfter (parts.countOf (call .task .plan .reads) (call .task .lent .length)) (call .received);
+  phase = phaseAfter (parts.readCount (call .task .plan .reads) (call .task .lent .length)) (call .received);
   heading = false;
   received = call .received;
   budget = call .budget;
@@ -116,7 +110,7 @@ headedOf call = record {
 unfoldable pub advanceOf : ReadCall → ReadCall
 advanceOf call = record {
   task = call .task;
-  phase = phaseAfter (parts.countOf (call .task .plan .reads) (call .task .lent .length)) (moreOf (call .received));
+  phase = phaseAfter (parts.readCount (call .task .plan .reads) (call .task .lent .length)) (moreOf (call .received));
   heading = false;
   received = moreOf (call .received);
   budget = call .budget;
@@ -167,8 +161,8 @@ unfoldable pub acknowledgedOf : ReadCall → List ℕ → Verdict
 acknowledgedOf call reply = if call .heading then heardHead (length reply) else heardBlock (dueAsk call) reply
 
 -- the reply of a failure is not looked at
-unfoldable pub outcomeOf : ReadCall → Outcome → List ℕ → Verdict
-outcomeOf call o reply =
+unfoldable pub weighOf : ReadCall → Outcome → List ℕ → Verdict
+weighOf call o reply =
     case o
     acknowledged acknowledgedOf call reply
     error (λ code. verdict.Failed (answer.I2c code))
@@ -178,13 +172,13 @@ outcomeOf call o reply =
 unfoldable pub judgeOf : ReadCall → Outcome → List ℕ → ℕ → ℕ → Verdict
 judgeOf call o reply n w =
     case call .phase
-    waiting (if fitsOf (call .task .lent) n w then outcomeOf call o reply else verdict.Refused answer.WrongBuffer)
+    waiting (if fitsOf (call .task .lent) n w then weighOf call o reply else verdict.Refused answer.WrongBuffer)
     ended (λ a. verdict.Refused answer.NothingOutstanding)
 
 -- the data goes into the buffer after the blocks that are there
 unfoldable pub storedOf : ReadCall → List ℕ → List ℕ → List ℕ
 storedOf call reply buffer =
-    storedAt (call .received * 32) (parts.mostOf (call .task .plan .reads) (call .task .lent .length)) (dataOf (dueAsk call) reply) buffer
+    storedAt (blockStart (call .received)) (parts.mostOf (call .task .plan .reads) (call .task .lent .length)) (dataOf (dueAsk call) reply) buffer
 
 unfoldable pub reportOf : ReadCall → Outcome → List ℕ → ℕ → ℕ → ReadReported
 reportOf call o reply n w =

@@ -12,7 +12,6 @@ use engine::bus::Transfer;
 use engine::limit::Limit;
 use protocol::bytes;
 use protocol::common::Config;
-use protocol::consts::LARGEST_DF_BLOCK_SIZE_BYTES;
 use protocol::consts::MAC_CMD;
 use protocol::error::Answer;
 use protocol::frame::MacCommand;
@@ -21,7 +20,7 @@ use protocol::reply::Heard;
 ghost use mathlib.Core.Path.{_≡_};
 ghost use Prim.Native.Nat.{_*_};
 ghost use lib.ListN.{length, take};
-ghost use Rattle.reading.specs.Reading.{plainPlan, macPlan, startOf, dueAsk, shownHead, workHead, shownOf, workShown, nextOf, workAfter, headedOf, advanceOf, retryOf, endOf, failOf, heardHead, heardBlock, acknowledgedOf, outcomeOf, judgeOf, storedOf, reportOf, bufferAfter};
+ghost use Rattle.reading.specs.Reading.{planOf, plainPlan, macPlan, startOf, dueAsk, shownHead, workHead, shownOf, workShown, nextOf, workAfter, headedOf, advanceOf, retryOf, endOf, failOf, heardHead, heardBlock, acknowledgedOf, weighOf, judgeOf, storedOf, reportOf, bufferAfter};
 
 // What a reading call is: its retries, what it asks of the buffer's length, its head and whether that carries a PEC, and its reads.
 pub struct ReadPlan {
@@ -33,30 +32,37 @@ pub struct ReadPlan {
 }
 
 impl ReadPlan {
-    // One plain read, with no head.
-    pub fn plain(config: Config, limit: Limit, ask: Ask) -> ReadPlan
-        ensures { λ r. ⌜ r ≡ plainPlan config limit ask ⌝ }
+    // A head, with a PEC or without, and reads of a call whose limit is this, by the settings' retries.
+    pub fn new(config: Config, limit: Limit, head: Head, head_pec: bool, reads: Reads) -> ReadPlan
+        ensures { λ r. ⌜ r ≡ planOf config limit head «head_pec» reads ⌝ }
     {
         ReadPlan {
             retries: config.max_bus_retries,
             limit,
-            head: Head::Bare,
-            head_pec: false,
-            reads: Reads::Once(ask),
+            head,
+            head_pec,
+            reads,
         }
+    }
+
+    // One plain read, with no head.
+    pub fn plain(config: Config, limit: Limit, ask: Ask) -> ReadPlan
+        ensures { λ r. ⌜ r ≡ plainPlan config limit ask ⌝ }
+    {
+        ReadPlan::new(config, limit, Head::Bare, false, Reads::Once(ask))
     }
 
     // A MAC read: the command's frame, then one read of so many bytes, both by `pec_read`.
     pub fn mac(config: Config, limit: Limit, command: MacCommand, count: usize) -> ReadPlan
         ensures { λ r. ⌜ r ≡ macPlan config limit command count ⌝ }
     {
-        ReadPlan {
-            retries: config.max_bus_retries,
+        ReadPlan::new(
+            config,
             limit,
-            head: Head::Mac(command),
-            head_pec: config.pec_read,
-            reads: Reads::Once(Ask::mac(MAC_CMD, count, config.pec_read)),
-        }
+            Head::Mac(command),
+            config.pec_read,
+            Reads::Once(Ask::mac(MAC_CMD, count, config.pec_read)),
+        )
     }
 }
 
@@ -135,7 +141,7 @@ impl ReadCall {
         let task = ReadTask { plan, lent };
         ReadCall {
             task,
-            phase: limit.admit(buffer.len(), work.len()),
+            phase: limit.admit(head.first_address(), buffer.len(), work.len()),
             heading: head.some(),
             received: 0,
             budget: Budget { left: plan.retries },
@@ -302,7 +308,7 @@ impl ReadCall {
 
     // What an outcome of the transfer that is due comes to. The reply of a failure is not looked at.
     fn weigh(self, outcome: Outcome, reply: &[u8]) -> Verdict
-        ensures { λ r. ⌜ r ≡ outcomeOf self outcome (now (reply .entry)) ⌝ }
+        ensures { λ r. ⌜ r ≡ weighOf self outcome (now (reply .entry)) ⌝ }
     {
         match outcome {
             Outcome::Acknowledged => self.acknowledged(reply),
@@ -339,7 +345,7 @@ impl ReadCall {
         let reads = plan.reads;
         let lent = task.lent;
         let ask = self.due();
-        let at = self.received as usize * LARGEST_DF_BLOCK_SIZE_BYTES;
+        let at = bytes::block_start(self.received);
         bytes::store_block(buffer, at, ask.data_of(reply), reads.most(lent.length));
     }
 

@@ -7,10 +7,9 @@ use protocol::frame::Laid;
 use protocol::frame::MacCommand;
 use protocol::reply::Ask;
 ghost use mathlib.Core.Path.{_≡_};
-ghost use Prim.Native.Nat.{_*_, _-_};
 ghost use lib.ListN.{length};
 ghost use Rattle.protocol.specs.Frame.{laidOf, workLaid};
-ghost use Rattle.reading.specs.Parts.{hasHead, headBytes, countOf, leftOf, blockAsk, askOf, mostOf};
+ghost use Rattle.reading.specs.Parts.{hasHead, headBytes, firstAddress, readCount, leftOf, blockAsk, askOf, mostOf};
 
 // The frame that opens a reading call, and opens it again after a failure.
 pub enum Head {
@@ -37,6 +36,18 @@ impl Head {
         }
     }
 
+    // The first address of the data flash that is read; 0 where none is.
+    pub fn first_address(self) -> u16
+        ensures { λ r. ⌜ r ≡ firstAddress self ⌝ }
+    {
+        match self {
+            Head::Bare => 0,
+            Head::Command(_) => 0,
+            Head::Mac(_) => 0,
+            Head::DataFlash(start) => start,
+        }
+    }
+
     // The frame, laid at the front of the work buffer; that of data flash for block i.
     pub fn lay(self, i: u32, work: &mut [u8], pec: bool) -> Laid
         ensures { λ r. ⌜ (r ≡ laidOf pec (headBytes self i) (length (now (work .entry)))) × (now (work .exit) ≡ workLaid pec (headBytes self i) (now (work .entry))) ⌝ }
@@ -46,12 +57,7 @@ impl Head {
             Head::Command(address) => frame::lay_command(work, address, pec),
             Head::Mac(command) => frame::lay_fixed(work, command, b"", pec),
             Head::DataFlash(start) => {
-                frame::lay_number(
-                    work,
-                    start as usize + i as usize * LARGEST_DF_BLOCK_SIZE_BYTES,
-                    b"",
-                    pec,
-                )
+                frame::lay_number(work, start as usize + bytes::block_start(i), b"", pec)
             }
         }
     }
@@ -71,7 +77,7 @@ pub enum Reads {
 fn left(len: usize, i: u32) -> usize
     ensures { λ r. ⌜ r ≡ leftOf len i ⌝ }
 {
-    let at = i as usize * LARGEST_DF_BLOCK_SIZE_BYTES;
+    let at = bytes::block_start(i);
     if at < len { len - at } else { 0 }
 }
 
@@ -93,7 +99,7 @@ fn block_ask(left: usize, pec: bool) -> Ask
 impl Reads {
     // How many reads there are for a buffer of so many bytes.
     pub fn count(self, len: usize) -> usize
-        ensures { λ r. ⌜ r ≡ countOf self len ⌝ }
+        ensures { λ r. ⌜ r ≡ readCount self len ⌝ }
     {
         match self {
             Reads::Nothing => 0,

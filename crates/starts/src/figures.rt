@@ -3,7 +3,7 @@ use crate::say;
 use protocol::common::Config;
 use protocol::consts::BQ_ADDR;
 use protocol::consts::DEFAULT_ERROR_BACKOFF_DELAY_MS;
-use protocol::voltage::ChargingVoltageOverride;
+use r5::voltage::ChargingVoltageOverride;
 
 // A figure, of those that are looked at.
 fn figure(millivolts: i16) {

@@ -1,12 +1,12 @@
 -- Which frames a writing call sends. (01, Frames and retries)
 -- Assumes nothing.
-use Prim.Native.Nat.{ℕ, _+_, _*_}
+use Prim.Native.Nat.{ℕ, _+_}
 use mathlib.Core.Bool.{Bool, true, false}
 use mathlib.Core.List.{List, []}
 use lib.ListN.{take, drop}
 use lib.Dec.{ltb, eqb}
 use Rattle.protocol.specs.Pick.{if_then_else_}
-use Rattle.protocol.specs.Bytes.{blocksOf}
+use Rattle.protocol.specs.Bytes.{blocksOf, blockStart}
 use Rattle.protocol.specs.Frame.{pairOf, fixedPair, macBytes, registerBytes, infoBytes}
 use Rattle.protocol.specs.declared.frame.MacCommand.the-variants as mac
 use Rattle.writing.specs.declared.frames.Frames.{Frames}
@@ -32,23 +32,33 @@ isFlash (frames.AccessKey lower upper) = false
 isFlash (frames.MfgInfoC lower upper) = false
 isFlash (frames.DataFlash start) = true
 
+-- where the data flash that they write begins
+unfoldable pub firstAddress : Frames → ℕ
+firstAddress frames.Plain = 0
+firstAddress (frames.Register address) = 0
+firstAddress frames.MfgInfo = 0
+firstAddress (frames.Mac command) = 0
+firstAddress (frames.AccessKey lower upper) = 0
+firstAddress (frames.MfgInfoC lower upper) = 0
+firstAddress (frames.DataFlash start) = start
+
 -- how many there are for a payload of n bytes
-unfoldable pub countOf : Frames → ℕ → ℕ
-countOf frames.Plain n = 1
-countOf (frames.Register address) n = 1
-countOf frames.MfgInfo n = 1
-countOf (frames.Mac command) n = 1
-countOf (frames.AccessKey lower upper) n = 2
-countOf (frames.MfgInfoC lower upper) n = 3
-countOf (frames.DataFlash start) n = blocksOf n
+unfoldable pub frameCount : Frames → ℕ → ℕ
+frameCount frames.Plain n = 1
+frameCount (frames.Register address) n = 1
+frameCount frames.MfgInfo n = 1
+frameCount (frames.Mac command) n = 1
+frameCount (frames.AccessKey lower upper) n = 2
+frameCount (frames.MfgInfoC lower upper) n = 3
+frameCount (frames.DataFlash start) n = blocksOf n
 
 -- half i of an access key: the lower half's frame, then the upper half's, each low byte first
 unfoldable pub halfBytes : ℕ → ℕ → ℕ → List ℕ
 halfBytes lower upper i = if eqb i 0 then macBytes (pairOf lower) [] else macBytes (pairOf upper) []
 
--- data-flash block i: it starts at start + 32 i
+-- data-flash block i, at its own address
 unfoldable pub blockBytes : ℕ → ℕ → List ℕ → List ℕ
-blockBytes start i payload = macBytes (pairOf (start + i * 32)) (take 32 (drop (i * 32) payload))
+blockBytes start i payload = macBytes (pairOf (start + blockStart i)) (take 32 (drop (blockStart i) payload))
 
 -- manufacturer info C: both halves of the access key, then its own frame
 unfoldable pub infoCBytes : ℕ → ℕ → ℕ → List ℕ → List ℕ

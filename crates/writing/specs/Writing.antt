@@ -1,12 +1,12 @@
 -- A writing call, step by step. (01, The step machine; Frames and retries)
 -- Assumes nothing.
-use Prim.Native.Nat.{ℕ, _*_}
+use Prim.Native.Nat.{ℕ}
 use mathlib.Core.Bool.{Bool, true, false}
 use mathlib.Core.List.{List}
 use lib.ListN.{length}
 use lib.Dec.{eqb}
 use Rattle.protocol.specs.Pick.{if_then_else_}
-use Rattle.protocol.specs.Bytes.{sendOf}
+use Rattle.protocol.specs.Bytes.{sendOf, blockStart}
 use Rattle.protocol.specs.Frame.{laidOf, workLaid}
 use Rattle.protocol.specs.declared.common.Config.{Config}
 use Rattle.protocol.specs.declared.error.Answer.{Answer}
@@ -21,7 +21,7 @@ use Rattle.engine.specs.declared.bus.Phase.the-variants as phase
 use Rattle.engine.specs.declared.limit.Limit.{Limit}
 use Rattle.engine.specs.declared.bus.Transfer.{Transfer}
 use Rattle.engine.specs.declared.bus.Transfer.the-variants as transfer
-use Rattle.writing.specs.Frames.{isPlain, isFlash, countOf, bytesAt}
+use Rattle.writing.specs.Frames.{isPlain, isFlash, firstAddress, frameCount, bytesAt}
 use Rattle.writing.specs.declared.frames.Frames.{Frames}
 use Rattle.writing.specs.declared.call.WritePlan.{WritePlan}
 use Rattle.writing.specs.declared.call.WriteCall.{WriteCall}
@@ -41,7 +41,7 @@ planOf config limit frames = record {
 unfoldable pub startOf : WritePlan → ℕ → ℕ → WriteCall
 startOf plan n w = record {
   task = record { plan = plan; lent = record { length = n; work = w } };
-  phase = admitted (plan .limit) n w;
+  phase = admitted (plan .limit) (firstAddress (plan .frames)) n w;
   sent = 0;
   budget = record { left = plan .retries };
   tally = nothing;
@@ -87,7 +87,7 @@ partOf call payload work n = if ownBytes call then sendOf payload work false n e
 unfoldable pub advanceOf : WriteCall → WriteCall
 advanceOf call = record {
   task = call .task;
-  phase = phaseAfter (countOf (call .task .plan .frames) (call .task .lent .length)) (moreOf (call .sent));
+  phase = phaseAfter (frameCount (call .task .plan .frames) (call .task .lent .length)) (moreOf (call .sent));
   sent = moreOf (call .sent);
   budget = record { left = call .task .plan .retries };
   tally = call .tally;
@@ -95,7 +95,7 @@ advanceOf call = record {
 
 -- a data-flash write that failed after at least one block says how much was acknowledged, in place of 1 or 2
 unfoldable pub gaveUp : Frames → ℕ → Answer → Answer
-gaveUp fs sent why = if isFlash fs then (if eqb sent 0 then why else answer.PartialDataFlashWrite (sent * 32)) else why
+gaveUp fs sent why = if isFlash fs then (if eqb sent 0 then why else answer.PartialDataFlashWrite (blockStart sent)) else why
 
 -- the same frame again, after a wait
 unfoldable pub retryOf : WriteCall → Budget → WriteCall

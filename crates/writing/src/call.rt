@@ -11,7 +11,6 @@ use engine::bus::Transfer;
 use engine::limit::Limit;
 use protocol::bytes;
 use protocol::common::Config;
-use protocol::consts::LARGEST_DF_BLOCK_SIZE_BYTES;
 use protocol::error::Answer;
 ghost use mathlib.Core.Path.{_≡_};
 ghost use lib.ListN.{length};
@@ -73,7 +72,7 @@ fn gave_up(frames: Frames, sent: u32, why: Answer) -> Answer
             why
         } else {
             Answer::PartialDataFlashWrite {
-                committed: sent as usize * LARGEST_DF_BLOCK_SIZE_BYTES,
+                committed: bytes::block_start(sent),
             }
         }
     } else {
@@ -87,6 +86,7 @@ impl WriteCall {
         ensures { λ r. ⌜ r ≡ startOf plan (length (now (payload .entry))) (length (now (work .entry))) ⌝ }
     {
         let limit = plan.limit;
+        let frames = plan.frames;
         let lent = Lent {
             length: payload.len(),
             work: work.len(),
@@ -94,7 +94,7 @@ impl WriteCall {
         let task = WriteTask { plan, lent };
         WriteCall {
             task,
-            phase: limit.admit(payload.len(), work.len()),
+            phase: limit.admit(frames.first_address(), payload.len(), work.len()),
             sent: 0,
             budget: Budget { left: plan.retries },
             tally: Tally::new(),

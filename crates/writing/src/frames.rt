@@ -7,7 +7,7 @@ use protocol::frame::MacCommand;
 ghost use mathlib.Core.Path.{_≡_};
 ghost use lib.ListN.{length};
 ghost use Rattle.protocol.specs.Frame.{laidOf, workLaid};
-ghost use Rattle.writing.specs.Frames.{isPlain, isFlash, countOf, halfBytes, blockBytes, infoCBytes, bytesAt};
+ghost use Rattle.writing.specs.Frames.{isPlain, isFlash, firstAddress, frameCount, halfBytes, blockBytes, infoCBytes, bytesAt};
 
 // The frames of a writing call.
 pub enum Frames {
@@ -42,7 +42,7 @@ fn lay_half(work: &mut [u8], lower: u16, upper: u16, i: u32, pec: bool) -> Laid
 fn lay_block(work: &mut [u8], start: u16, payload: &[u8], i: u32, pec: bool) -> Laid
     ensures { λ r. ⌜ (r ≡ laidOf pec (blockBytes start i (now (payload .entry))) (length (now (work .entry)))) × (now (work .exit) ≡ workLaid pec (blockBytes start i (now (payload .entry))) (now (work .entry))) ⌝ }
 {
-    let at = i as usize * LARGEST_DF_BLOCK_SIZE_BYTES;
+    let at = bytes::block_start(i);
     let block = bytes::block(payload, at, LARGEST_DF_BLOCK_SIZE_BYTES);
     frame::lay_number(work, start as usize + at, block, pec)
 }
@@ -89,9 +89,24 @@ impl Frames {
         }
     }
 
+    // The first address of the data flash that the frames write; 0 where they write none.
+    pub fn first_address(self) -> u16
+        ensures { λ r. ⌜ r ≡ firstAddress self ⌝ }
+    {
+        match self {
+            Frames::Plain => 0,
+            Frames::Register(_) => 0,
+            Frames::MfgInfo => 0,
+            Frames::Mac(_) => 0,
+            Frames::AccessKey { lower: _, upper: _ } => 0,
+            Frames::MfgInfoC { lower: _, upper: _ } => 0,
+            Frames::DataFlash(start) => start,
+        }
+    }
+
     // How many frames there are for a payload of so many bytes.
     pub fn count(self, len: usize) -> usize
-        ensures { λ r. ⌜ r ≡ countOf self len ⌝ }
+        ensures { λ r. ⌜ r ≡ frameCount self len ⌝ }
     {
         match self {
             Frames::Plain => 1,

@@ -1,4 +1,4 @@
--- `interface::dispatch_command` meets its contract: the call is started with its plan.
+-- `interface::dispatch_command` meets its contract: the plan is its own.
 -- Assumes nothing.
 use Prim.Native.Nat.{_-_}
 use borrow.Author.Needs.{needs}
@@ -12,13 +12,13 @@ command-pec-requires c κs = search needs
 command-reads-requires : tie.Need-command-reads-requires
 command-reads-requires c κs = search needs
 
-start-requires : tie.Need-start-requires
-start-requires c κs = search needs
+new-requires : tie.Need-new-requires
+new-requires c κs = search needs
 
 returns : tie.Need-returns
 unfolding dispatchCommand
-returns c = rw (c .start .ensures, c .before .command-reads .ensures, c .before .before .command-pec .ensures)
+returns c = rw (c .before .command-reads .ensures, c .before .before .command-pec .ensures) at (c .new .ensures)
 
 pub dispatch-command-spec : {M : Type 1} → statement M
 dispatch-command-spec =
-    tie.close (tie.spec command-pec-requires command-reads-requires start-requires returns)
+    tie.close (tie.spec command-pec-requires command-reads-requires new-requires returns)

@@ -1,4 +1,4 @@
--- `interface::write_with_retries` meets its contract: the call is started with its plan.
+-- `interface::write_with_retries` meets its contract: the plan is its own.
 -- Assumes nothing.
 use Prim.Native.Nat.{_-_}
 use borrow.Author.Needs.{needs}
@@ -12,13 +12,9 @@ plain-limit-requires c κs = search needs
 new-requires : tie.Need-new-requires
 new-requires c κs = search needs
 
-start-requires : tie.Need-start-requires
-start-requires c κs = search needs
-
 returns : tie.Need-returns
 unfolding writeWithRetries
-returns c = rw (c .start .ensures, c .before .new .ensures, c .before .before .plain-limit .ensures)
+returns c = rw (c .before .plain-limit .ensures) at (c .new .ensures)
 
 pub write-with-retries-spec : {M : Type 1} → statement M
-write-with-retries-spec =
-    tie.close (tie.spec plain-limit-requires new-requires start-requires returns)
+write-with-retries-spec = tie.close (tie.spec plain-limit-requires new-requires returns)

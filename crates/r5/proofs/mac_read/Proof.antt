@@ -1,5 +1,6 @@
--- `r5::mac_read` meets its contract: the call is started with the plan of `macRead`.
+-- `r5::mac_read` meets its contract: the plan is its own.
 -- Assumes nothing.
+use Prim.Native.Nat.{_-_}
 use borrow.Author.Needs.{needs}
 use Rattle.r5.specs.Plans.{macRead}
 use Rattle.r5.proofs.mac_read.Statement.{statement}
@@ -8,12 +9,9 @@ use Rattle.r5.proofs.mac_read.Tie as tie
 mac-requires : tie.Need-mac-requires
 mac-requires c κs = search needs
 
-start-requires : tie.Need-start-requires
-start-requires c κs = search needs
-
 returns : tie.Need-returns
 unfolding macRead
-returns c = rw (c .start .ensures, c .before .mac .ensures)
+returns c = c .mac .ensures
 
 pub mac-read-spec : {M : Type 1} → statement M
-mac-read-spec = tie.close (tie.spec mac-requires start-requires returns)
+mac-read-spec = tie.close (tie.spec mac-requires returns)

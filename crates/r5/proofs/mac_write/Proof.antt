@@ -1,5 +1,6 @@
--- `r5::mac_write` meets its contract: the call is started with the plan of `macWrite`.
+-- `r5::mac_write` meets its contract: the plan is its own.
 -- Assumes nothing.
+use Prim.Native.Nat.{_-_}
 use borrow.Author.Needs.{needs}
 use Rattle.r5.specs.Plans.{macWrite}
 use Rattle.r5.proofs.mac_write.Statement.{statement}
@@ -8,12 +9,9 @@ use Rattle.r5.proofs.mac_write.Tie as tie
 new-requires : tie.Need-new-requires
 new-requires c κs = search needs
 
-start-requires : tie.Need-start-requires
-start-requires c κs = search needs
-
 returns : tie.Need-returns
 unfolding macWrite
-returns c = rw (c .start .ensures, c .before .new .ensures)
+returns c = c .new .ensures
 
 pub mac-write-spec : {M : Type 1} → statement M
-mac-write-spec = tie.close (tie.spec new-requires start-requires returns)
+mac-write-spec = tie.close (tie.spec new-requires returns)

@@ -1,4 +1,4 @@
--- `r5::read_mfg_info_c` meets its contract: the call is started with its plan.
+-- `r5::read_mfg_info_c` meets its contract: the plan is its own.
 -- Assumes nothing.
 use Prim.Native.Nat.{_-_}
 use borrow.Author.Needs.{needs}
@@ -12,12 +12,9 @@ whole-requires c κs = search needs
 mac-requires : tie.Need-mac-requires
 mac-requires c κs = search needs
 
-start-requires : tie.Need-start-requires
-start-requires c κs = search needs
-
 returns : tie.Need-returns
 unfolding readMfgInfoC
-returns c = rw (c .start .ensures, c .before .mac .ensures, c .before .before .whole .ensures)
+returns c = rw (c .before .whole .ensures) at (c .mac .ensures)
 
 pub read-mfg-info-c-spec : {M : Type 1} → statement M
-read-mfg-info-c-spec = tie.close (tie.spec whole-requires mac-requires start-requires returns)
+read-mfg-info-c-spec = tie.close (tie.spec whole-requires mac-requires returns)

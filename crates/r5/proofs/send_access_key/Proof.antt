@@ -1,4 +1,4 @@
--- `r5::send_access_key` meets its contract: the call is started with its plan.
+-- `r5::send_access_key` meets its contract: the plan is its own.
 -- Assumes nothing.
 use Prim.Native.Nat.{_-_}
 use borrow.Author.Needs.{needs}
@@ -9,16 +9,9 @@ use Rattle.r5.proofs.send_access_key.Tie as tie
 new-requires : tie.Need-new-requires
 new-requires c κs = search needs
 
-slice-aggregate-start : tie.Need-slice-aggregate-start
-slice-aggregate-start c = search needs
-
-start-requires : tie.Need-start-requires
-start-requires c κs = search needs
-
 returns : tie.Need-returns
 unfolding sendAccessKey
-returns c = rw (c .start .ensures, c .before .before .new .ensures)
+returns c = c .new .ensures
 
 pub send-access-key-spec : {M : Type 1} → statement M
-send-access-key-spec =
-    tie.close (tie.spec new-requires slice-aggregate-start start-requires returns)
+send-access-key-spec = tie.close (tie.spec new-requires returns)

@@ -1,4 +1,4 @@
--- `r5::write_dataflash` meets its contract: the call is started with its plan.
+-- `r5::write_dataflash` meets its contract: the plan is its own.
 -- Assumes nothing.
 use Prim.Native.Nat.{_-_}
 use borrow.Author.Needs.{needs}
@@ -9,12 +9,9 @@ use Rattle.r5.proofs.write_dataflash.Tie as tie
 new-requires : tie.Need-new-requires
 new-requires c κs = search needs
 
-start-requires : tie.Need-start-requires
-start-requires c κs = search needs
-
 returns : tie.Need-returns
 unfolding writeDataflash
-returns c = rw (c .start .ensures, c .before .new .ensures)
+returns c = c .new .ensures
 
 pub write-dataflash-spec : {M : Type 1} → statement M
-write-dataflash-spec = tie.close (tie.spec new-requires start-requires returns)
+write-dataflash-spec = tie.close (tie.spec new-requires returns)

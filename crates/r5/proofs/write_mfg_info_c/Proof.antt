@@ -1,4 +1,4 @@
--- `r5::write_mfg_info_c` meets its contract: the call is started with its plan.
+-- `r5::write_mfg_info_c` meets its contract: the plan is its own.
 -- Assumes nothing.
 use Prim.Native.Nat.{_-_}
 use borrow.Author.Needs.{needs}
@@ -9,12 +9,9 @@ use Rattle.r5.proofs.write_mfg_info_c.Tie as tie
 new-requires : tie.Need-new-requires
 new-requires c κs = search needs
 
-start-requires : tie.Need-start-requires
-start-requires c κs = search needs
-
 returns : tie.Need-returns
 unfolding writeMfgInfoC
-returns c = rw (c .start .ensures, c .before .new .ensures)
+returns c = c .new .ensures
 
 pub write-mfg-info-c-spec : {M : Type 1} → statement M
-write-mfg-info-c-spec = tie.close (tie.spec new-requires start-requires returns)
+write-mfg-info-c-spec = tie.close (tie.spec new-requires returns)

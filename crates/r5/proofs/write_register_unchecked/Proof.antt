@@ -1,4 +1,4 @@
--- `r5::write_register_unchecked` meets its contract: the call is started with its plan.
+-- `r5::write_register_unchecked` meets its contract: a register write by settings without PEC.
 -- Assumes nothing.
 use Prim.Native.Nat.{_-_}
 use borrow.Author.Needs.{needs}
@@ -12,7 +12,7 @@ write-register-requires : tie.Need-write-register-requires
 write-register-requires c κs = search needs
 
 returns : tie.Need-returns
-returns c = rw (c .write-register .ensures, c .before .no-pec .ensures)
+returns c = rw (c .before .no-pec .ensures) at (c .write-register .ensures)
 
 pub write-register-unchecked-spec : {M : Type 1} → statement M
 write-register-unchecked-spec =

@@ -1,4 +1,4 @@
--- `writing::call::gave_up` meets its contract: each return is a case of `gaveUp`.
+-- `writing::call::gave_up` meets its contract: each arm is a case of `gaveUp`.
 -- Assumes nothing.
 use Prim.Native.Nat.{_-_}
 use borrow.Author.Needs.{needs}
@@ -10,8 +10,8 @@ use Rattle.writing.proofs.call.gave_up.Tie as tie
 flash-requires : tie.Need-flash-requires
 flash-requires c κs = search needs
 
-mul-t9 : tie.Need-mul-t9
-mul-t9 c = search needs
+block-start-requires : tie.Need-block-start-requires
+block-start-requires c κs = search needs
 
 returns : tie.Need-returns
 unfolding gaveUp
@@ -26,4 +26,4 @@ unfolding gaveUp
 returns-3 c = search cases
 
 pub gave-up-spec : {M : Type 1} → statement M
-gave-up-spec = tie.close (tie.spec flash-requires mul-t9 returns returns-2 returns-3)
+gave-up-spec = tie.close (tie.spec flash-requires block-start-requires returns returns-2 returns-3)

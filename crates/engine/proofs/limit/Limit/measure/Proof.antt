@@ -16,14 +16,14 @@ enum-known-self c = search needs
 enum-known-self-2 : tie.Need-enum-known-self-2
 enum-known-self-2 c = search needs
 
-enum-known-self-3 : tie.Need-enum-known-self-3
-enum-known-self-3 c = search needs
+enum-told-2 : tie.Need-enum-told-2
+enum-told-2 c = search needs
 
 windowed-requires : tie.Need-windowed-requires
 windowed-requires c κs = search needs
 
-enum-known-self-4 : tie.Need-enum-known-self-4
-enum-known-self-4 c = search needs
+enum-known-self-3 : tie.Need-enum-known-self-3
+enum-known-self-3 c = search needs
 
 commanded-requires : tie.Need-commanded-requires
 commanded-requires c κs = search needs
@@ -50,11 +50,11 @@ returns-5 c = rw (c .before .before .self2 .given .1) (search cases)
 
 returns-6 : tie.Need-returns-6
 unfolding measured
-returns-6 c = rw (c .before .before .self3 .given .1) (c .windowed .ensures)
+returns-6 c = rw (c .before .enum-told2 .given .1) (c .windowed .ensures)
 
 returns-7 : tie.Need-returns-7
 unfolding measured
-returns-7 c = rw (c .before .before .self4 .given .1) (c .commanded .ensures)
+returns-7 c = rw (c .before .before .self3 .given .1) (c .commanded .ensures)
 
 pub measure-spec : {M : Type 1} → statement M
 measure-spec =
@@ -63,9 +63,9 @@ measure-spec =
     enum-told
     enum-known-self
     enum-known-self-2
-    enum-known-self-3
+    enum-told-2
     windowed-requires
-    enum-known-self-4
+    enum-known-self-3
     commanded-requires
     returns
     returns-2

@@ -2,7 +2,7 @@
 -- Assumes nothing.
 use Prim.Native.Nat.{_-_}
 use borrow.Author.Needs.{needs}
-use Rattle.protocol.specs.Reply.{countOf}
+use Rattle.protocol.specs.Reply.{bytesAsked}
 use Rattle.protocol.proofs.reply.Ask.count.Statement.{statement}
 use Rattle.protocol.proofs.reply.Ask.count.Tie as tie
 
@@ -13,7 +13,7 @@ plus-requires : tie.Need-plus-requires
 plus-requires c κs = search needs
 
 returns : tie.Need-returns
-unfolding countOf
+unfolding bytesAsked
 returns c = rw (c .before .around .ensures) at (c .plus .ensures)
 
 pub count-spec : {M : Type 1} → statement M

@@ -6,6 +6,9 @@ use Rattle.reading.specs.Reading.{startOf}
 use Rattle.reading.proofs.call.ReadCall.start.Statement.{statement}
 use Rattle.reading.proofs.call.ReadCall.start.Tie as tie
 
+first-address-requires : tie.Need-first-address-requires
+first-address-requires c κs = search needs
+
 admit-requires : tie.Need-admit-requires
 admit-requires c κs = search needs
 
@@ -17,7 +20,8 @@ new-requires c κs = search needs
 
 returns : tie.Need-returns
 unfolding startOf
-returns c = rw (c .new .ensures, c .before .some .ensures, c .before .before .admit .ensures)
+returns c = rw (c .new .ensures, c .before .some .ensures, c .before .before .admit .ensures, c .before .before .before .first-address .ensures)
 
 pub start-spec : {M : Type 1} → statement M
-start-spec = tie.close (tie.spec admit-requires some-requires new-requires returns)
+start-spec =
+    tie.close (tie.spec first-address-requires admit-requires some-requires new-requires returns)

@@ -9,11 +9,8 @@ use Rattle.reading.proofs.call.ReadCall.store.Tie as tie
 due-requires : tie.Need-due-requires
 due-requires c κs = search needs
 
-cast-at : tie.Need-cast-at
-cast-at c = search needs
-
-mul-at : tie.Need-mul-at
-mul-at c = search needs
+block-start-requires : tie.Need-block-start-requires
+block-start-requires c κs = search needs
 
 data-of-requires : tie.Need-data-of-requires
 data-of-requires c κs = search needs
@@ -29,15 +26,14 @@ same-length c = search needs
 
 returns : tie.Need-returns
 unfolding storedOf
-returns c = rw (c .before .before .before .most .ensures, c .before .before .before .before .data-of .ensures, c .before .before .before .before .before .before .before .due .ensures) at (c .before .before .store-block .ensures)
+returns c = rw (c .before .before .before .most .ensures, c .before .before .before .before .data-of .ensures, c .before .before .before .before .before .before .block-start .ensures, c .before .before .before .before .before .before .before .due .ensures) at (c .before .before .store-block .ensures)
 
 pub store-spec : {M : Type 1} → statement M
 store-spec =
     tie.close
     (tie.spec
     due-requires
-    cast-at
-    mul-at
+    block-start-requires
     data-of-requires
     most-requires
     store-block-requires

@@ -1,9 +1,9 @@
--- `reading::call::ReadCall::weigh` meets its contract: each arm is a case of `outcomeOf`.
+-- `reading::call::ReadCall::weigh` meets its contract: each arm is a case of `weighOf`.
 -- Assumes nothing.
 use Prim.Native.Nat.{_-_}
 use borrow.Author.Needs.{needs}
 use Rattle.engine.proofs.Cases.{cases}
-use Rattle.reading.specs.Reading.{outcomeOf}
+use Rattle.reading.specs.Reading.{weighOf}
 use Rattle.reading.proofs.call.ReadCall.weigh.Statement.{statement}
 use Rattle.reading.proofs.call.ReadCall.weigh.Tie as tie
 
@@ -20,15 +20,15 @@ enum-told-2 : tie.Need-enum-told-2
 enum-told-2 c = search needs
 
 returns : tie.Need-returns
-unfolding outcomeOf
+unfolding weighOf
 returns c = search cases
 
 returns-2 : tie.Need-returns-2
-unfolding outcomeOf
+unfolding weighOf
 returns-2 c = search cases
 
 returns-3 : tie.Need-returns-3
-unfolding outcomeOf
+unfolding weighOf
 returns-3 c = search cases
 
 pub weigh-spec : {M : Type 1} → statement M

@@ -1,4 +1,4 @@
--- `reading::call::ReadPlan::mac` meets its contract: the fields are those of `macPlan`.
+-- `reading::call::ReadPlan::mac` meets its contract: a plan with the command as its head.
 -- Assumes nothing.
 use Prim.Native.Nat.{_-_}
 use borrow.Author.Needs.{needs}
@@ -9,9 +9,12 @@ use Rattle.reading.proofs.call.ReadPlan.mac.Tie as tie
 mac-requires : tie.Need-mac-requires
 mac-requires c κs = search needs
 
+new-requires : tie.Need-new-requires
+new-requires c κs = search needs
+
 returns : tie.Need-returns
 unfolding macPlan
-returns c = rw (c .mac .ensures)
+returns c = rw (c .before .mac .ensures) at (c .new .ensures)
 
 pub mac-spec : {M : Type 1} → statement M
-mac-spec = tie.close (tie.spec mac-requires returns)
+mac-spec = tie.close (tie.spec mac-requires new-requires returns)

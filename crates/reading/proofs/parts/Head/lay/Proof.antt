@@ -36,8 +36,8 @@ enum-known-self-3 c = search needs
 cast-lay-number : tie.Need-cast-lay-number
 cast-lay-number c = search needs
 
-mul-lay-number : tie.Need-mul-lay-number
-mul-lay-number c = search needs
+block-start-requires : tie.Need-block-start-requires
+block-start-requires c κs = search needs
 
 add-lay-number : tie.Need-add-lay-number
 add-lay-number c = search needs
@@ -74,7 +74,7 @@ same-length-4 c = search needs
 
 returns-4 : tie.Need-returns-4
 unfolding headBytes
-returns-4 c = rw (c .before .before .before .before .before .before .self3 .given .1) (c .before .before .lay-number .ensures)
+returns-4 c = rw (c .before .before .before .before .before .before .before .self3 .given .1) (rw (c .before .before .before .before .block-start .ensures) at (c .before .before .lay-number .ensures))
 
 pub lay-spec : {M : Type 1} → statement M
 lay-spec =
@@ -90,7 +90,7 @@ lay-spec =
     lay-fixed-requires
     enum-known-self-3
     cast-lay-number
-    mul-lay-number
+    block-start-requires
     add-lay-number
     slice-aggregate-lay-number
     lay-number-requires

@@ -2,7 +2,7 @@
 -- Assumes nothing.
 use Prim.Native.Nat.{_-_}
 use borrow.Author.Needs.{needs}
-use Rattle.reading.specs.Parts.{countOf}
+use Rattle.reading.specs.Parts.{readCount}
 use Rattle.reading.proofs.parts.Reads.count.Statement.{statement}
 use Rattle.reading.proofs.parts.Reads.count.Tie as tie
 
@@ -19,15 +19,15 @@ blocks-requires : tie.Need-blocks-requires
 blocks-requires c κs = search needs
 
 returns : tie.Need-returns
-unfolding countOf
+unfolding readCount
 returns c = rw (c .enum-told .given .1)
 
 returns-2 : tie.Need-returns-2
-unfolding countOf
+unfolding readCount
 returns-2 c = rw (c .enum-told2 .given .1)
 
 returns-3 : tie.Need-returns-3
-unfolding countOf
+unfolding readCount
 returns-3 c = rw (c .before .enum-told3 .given .1) (c .blocks2 .ensures)
 
 pub count-spec : {M : Type 1} → statement M

@@ -6,6 +6,9 @@ use Rattle.writing.specs.Writing.{startOf}
 use Rattle.writing.proofs.call.WriteCall.start.Statement.{statement}
 use Rattle.writing.proofs.call.WriteCall.start.Tie as tie
 
+first-address-requires : tie.Need-first-address-requires
+first-address-requires c κs = search needs
+
 admit-requires : tie.Need-admit-requires
 admit-requires c κs = search needs
 
@@ -14,7 +17,7 @@ new-requires c κs = search needs
 
 returns : tie.Need-returns
 unfolding startOf
-returns c = rw (c .new .ensures, c .before .admit .ensures)
+returns c = rw (c .new .ensures, c .before .admit .ensures, c .before .before .first-address .ensures)
 
 pub start-spec : {M : Type 1} → statement M
-start-spec = tie.close (tie.spec admit-requires new-requires returns)
+start-spec = tie.close (tie.spec first-address-requires admit-requires new-requires returns)

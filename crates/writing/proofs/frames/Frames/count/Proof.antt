@@ -2,7 +2,7 @@
 -- Assumes nothing.
 use Prim.Native.Nat.{_-_}
 use borrow.Author.Needs.{needs}
-use Rattle.writing.specs.Frames.{countOf}
+use Rattle.writing.specs.Frames.{frameCount}
 use Rattle.writing.proofs.frames.Frames.count.Statement.{statement}
 use Rattle.writing.proofs.frames.Frames.count.Tie as tie
 
@@ -31,31 +31,31 @@ blocks-requires : tie.Need-blocks-requires
 blocks-requires c κs = search needs
 
 returns : tie.Need-returns
-unfolding countOf
+unfolding frameCount
 returns c = rw (c .enum-told .given .1)
 
 returns-2 : tie.Need-returns-2
-unfolding countOf
+unfolding frameCount
 returns-2 c = rw (c .enum-told2 .given .1)
 
 returns-3 : tie.Need-returns-3
-unfolding countOf
+unfolding frameCount
 returns-3 c = rw (c .enum-told3 .given .1)
 
 returns-4 : tie.Need-returns-4
-unfolding countOf
+unfolding frameCount
 returns-4 c = rw (c .enum-told4 .given .1)
 
 returns-5 : tie.Need-returns-5
-unfolding countOf
+unfolding frameCount
 returns-5 c = rw (c .enum-told5 .given .1)
 
 returns-6 : tie.Need-returns-6
-unfolding countOf
+unfolding frameCount
 returns-6 c = rw (c .enum-told6 .given .1)
 
 returns-7 : tie.Need-returns-7
-unfolding countOf
+unfolding frameCount
 returns-7 c = rw (c .before .enum-told7 .given .1) (c .blocks2 .ensures)
 
 pub count-spec : {M : Type 1} → statement M
