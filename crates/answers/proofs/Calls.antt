@@ -4,7 +4,9 @@ use mathlib.Core.Path.{refl}
 use Rattle.protocol.specs.Pick.{if_then_else_}
 use Rattle.protocol.specs.declared.common.Config.{Config}
 use Rattle.engine.specs.Budget.{nothing}
+use Rattle.writing.specs.Frames as frames
 use Rattle.writing.specs.Writing as writing
+use Rattle.reading.specs.Parts as parts
 use Rattle.reading.specs.Reading as reading
 use Rattle.interface.specs.Plans.{plainLimit, writeWithRetries, writeRegister, readRegister, dispatchCommand, readBuffer, writeBuffer}
 use Rattle.r5.specs.Plans.{macRead, macWrite, sendAccessKey, writeMfgInfoC, readMfgInfoC, writeMfgInfo, readMfgInfo, readDataflash, writeDataflash}
@@ -19,7 +21,7 @@ starts-as = record {
 }
 
 pub limits : (config : Config) → Limits config
-unfolding plainLimit writeWithRetries writeRegister readRegister dispatchCommand readBuffer writeBuffer macRead macWrite sendAccessKey writeMfgInfoC readMfgInfoC writeMfgInfo readMfgInfo readDataflash writeDataflash writing.planOf reading.plainPlan reading.macPlan if_then_else_
+unfolding plainLimit writeWithRetries writeRegister readRegister dispatchCommand readBuffer writeBuffer macRead macWrite sendAccessKey writeMfgInfoC readMfgInfoC writeMfgInfo readMfgInfo readDataflash writeDataflash frames.firstAddress parts.firstAddress writing.planOf reading.plainPlan reading.macPlan if_then_else_
 limits config = record {
   writesWithPec = λ e. rw e;
   writesPlain = λ e. rw e;
@@ -42,6 +44,6 @@ limits config = record {
   readsInfoC = λ n. refl;
   writesInfo = refl;
   readsInfo = λ n. refl;
-  readsFlash = λ start. refl;
-  writesFlash = λ start. refl;
+  readsFlash = λ start. (refl, refl);
+  writesFlash = λ start. (refl, refl);
 }

@@ -16,18 +16,18 @@ use Rattle.engine.specs.declared.limit.Limit.the-variants as limit
 use Rattle.answers.specs.Within.{Inside}
 
 -- what its limit has found
-abbrev pub Fits : Limit → ℕ → Type 0
-Fits limit.Free n = Unit {0}
-Fits (limit.AtMost most) n = n ≤ most
-Fits (limit.Exactly size) n = n ≡ size
-Fits (limit.Window start) n = (0 < n) × (0x4000 ≤ start) × (start + (n - 1) ≤ 0x5FFF)
-Fits (limit.Command input) n = n ≤ 32
+abbrev pub Fits : Limit → ℕ → ℕ → Type 0
+Fits limit.Free start n = Unit {0}
+Fits (limit.AtMost most) start n = n ≤ most
+Fits (limit.Exactly size) start n = n ≡ size
+Fits limit.Window start n = (0 < n) × (0x4000 ≤ start) × (start + (n - 1) ≤ 0x5FFF)
+Fits (limit.Command input) start n = n ≤ 32
 
-window-fits : (start n : ℕ) → windowed start n ≡ phase.Waiting → Fits (limit.Window start) n
+window-fits : (start n : ℕ) → windowed start n ≡ phase.Waiting → Fits limit.Window start n
 unfolding windowed inWindow if_then_else_
 window-fits start n e = by (eqb n 0) refl (leb 0x4000 start) refl (leb (start + (n - 1)) 0x5FFF) refl
   where
-    by : (a : Bool) → eqb n 0 ≡ a → (b : Bool) → leb 0x4000 start ≡ b → (c : Bool) → leb (start + (n - 1)) 0x5FFF ≡ c → Fits (limit.Window start) n
+    by : (a : Bool) → eqb n 0 ≡ a → (b : Bool) → leb 0x4000 start ≡ b → (c : Bool) → leb (start + (n - 1)) 0x5FFF ≡ c → Fits limit.Window start n
     by true a b p c q = let z : _≡_ {A = ℕ} 0 1 = cc (rw a at e) in absurd (omega arith)
     by false a false p c q = let z : _≡_ {A = ℕ} 0 1 = cc (rw (a, p) at e) in absurd (omega arith)
     by false a true p false q = let z : _≡_ {A = ℕ} 0 1 = cc (rw (a, p, q) at e) in absurd (omega arith)
@@ -42,33 +42,33 @@ command-fits input n e = by (ltb 32 input) refl (ltb 32 n) refl
     by false a true p = let z : _≡_ {A = ℕ} 0 1 = cc (rw (a, p) at e) in absurd (omega arith)
     by false a false p = ltb-false _ _ p
 
-fits : (l : Limit) (n : ℕ) → measured l n ≡ phase.Waiting → Fits l n
+fits : (l : Limit) (start n : ℕ) → measured l start n ≡ phase.Waiting → Fits l start n
 unfolding measured if_then_else_
-fits limit.Free n e = tt
-fits (limit.AtMost most) n e = by (ltb most n) refl
+fits limit.Free start n e = tt
+fits (limit.AtMost most) start n e = by (ltb most n) refl
   where
     by : (t : Bool) → ltb most n ≡ t → n ≤ most
     by true t = let z : _≡_ {A = ℕ} 0 1 = cc (rw t at e) in absurd (omega arith)
     by false t = ltb-false _ _ t
-fits (limit.Exactly size) n e = by (eqb n size) refl
+fits (limit.Exactly size) start n e = by (eqb n size) refl
   where
     by : (t : Bool) → eqb n size ≡ t → n ≡ size
     by true t = eqb-true _ _ t
     by false t = let z : _≡_ {A = ℕ} 0 1 = cc (rw t at e) in absurd (omega arith)
-fits (limit.Window start) n e = window-fits start n e
-fits (limit.Command input) n e = command-fits input n e
+fits limit.Window start n e = window-fits start n e
+fits (limit.Command input) start n e = command-fits input n e
 
-pub admitted-fits : (l : Limit) (n w : ℕ) → admitted l n w ≡ phase.Waiting → (39 ≤ w) × Fits l n
+pub admitted-fits : (l : Limit) (start n w : ℕ) → admitted l start n w ≡ phase.Waiting → (39 ≤ w) × Fits l start n
 unfolding admitted if_then_else_
-admitted-fits l n w e = by (ltb w 39) refl
+admitted-fits l start n w e = by (ltb w 39) refl
   where
-    by : (t : Bool) → ltb w 39 ≡ t → (39 ≤ w) × Fits l n
+    by : (t : Bool) → ltb w 39 ≡ t → (39 ≤ w) × Fits l start n
     by true t = let z : _≡_ {A = ℕ} 0 1 = cc (rw t at e) in absurd (omega arith)
-    by false t = (ltb-false _ _ t, fits l n (rw t at e))
+    by false t = (ltb-false _ _ t, fits l start n (rw t at e))
 
 -- blocks of what lies in the window start in it, and there are at most 256
-pub blocks-inside : (start n i : ℕ) → Fits (limit.Window start) n → i < blocksOf n → Inside (limit.Window start) n i
+pub blocks-inside : (start n i : ℕ) → Fits limit.Window start n → i < blocksOf n → Inside limit.Window start n i
 blocks-inside start n i (some, low, high) h = (omega arith, omega arith)
 
-pub blocks-few : (start n : ℕ) → Fits (limit.Window start) n → (0 < blocksOf n) × (blocksOf n ≤ 256)
+pub blocks-few : (start n : ℕ) → Fits limit.Window start n → (0 < blocksOf n) × (blocksOf n ≤ 256)
 blocks-few start n (some, low, high) = (omega arith, omega arith)

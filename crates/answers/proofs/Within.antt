@@ -50,7 +50,7 @@ record Sane (plan : WritePlan) (payload : List ℕ) : Type 0 where
   some : 0 < frames.frameCount (plan .frames) (length payload)
   few : frames.frameCount (plan .frames) (length payload) ≤ 256
   room : (i : ℕ) → ((frames.isPlain (plan .frames) ≡ true) × (plan .pec ≡ false)) ⊎ (length (frames.bytesAt (plan .frames) i payload) ≤ 38)
-  inside : (i : ℕ) → i < frames.frameCount (plan .frames) (length payload) → Inside (plan .limit) (length payload) i
+  inside : (i : ℕ) → i < frames.frameCount (plan .frames) (length payload) → Inside (plan .limit) (frames.firstAddress (plan .frames)) (length payload) i
 
 length-half : (lower upper i : ℕ) → length (frames.halfBytes lower upper i) ≤ 38
 unfolding frames.halfBytes macBytes pairOf if_then_else_
@@ -82,25 +82,25 @@ length-mac mac.MfgInfoC payload h = omega arith
 module _ (config : Config) (payload : List ℕ) where
   -- one frame that has room
   one-frame : (plan : WritePlan) → frames.frameCount (plan .frames) (length payload) ≡ 1 → ((i : ℕ) → length (frames.bytesAt (plan .frames) i payload) ≤ 38)
-      → ((i : ℕ) → Inside (plan .limit) (length payload) i) → Sane plan payload
+      → ((i : ℕ) → Inside (plan .limit) (frames.firstAddress (plan .frames)) (length payload) i) → Sane plan payload
   one-frame plan one room at = record { some = omega (arith, one); few = omega (arith, one); room = λ i. inr (room i); inside = λ i h. at i }
 
-  plain-sane : (pec : Bool) → config .«pec_write» ≡ pec → Fits (writeWithRetries config .limit) (length payload) → Sane (writeWithRetries config) payload
-  unfolding writeWithRetries plainLimit writing.planOf frames.frameCount frames.isPlain frames.bytesAt if_then_else_
+  plain-sane : (pec : Bool) → config .«pec_write» ≡ pec → Fits (writeWithRetries config .limit) 0 (length payload) → Sane (writeWithRetries config) payload
+  unfolding writeWithRetries plainLimit writing.planOf frames.firstAddress frames.frameCount frames.isPlain frames.bytesAt if_then_else_
   plain-sane true e h =
       let q : writeWithRetries config .limit ≡ limit.AtMost 38 = rw e in
-      let k : length payload ≤ 38 = subst (λ (l : Limit). Fits l (length payload)) q h in
-      one-frame (writeWithRetries config) refl (λ i. k) (λ i. subst (λ (l : Limit). Inside l (length payload) i) (sym q) tt)
+      let k : length payload ≤ 38 = subst (λ (l : Limit). Fits l 0 (length payload)) q h in
+      one-frame (writeWithRetries config) refl (λ i. k) (λ i. subst (λ (l : Limit). Inside l 0 (length payload) i) (sym q) tt)
   plain-sane false e h =
       let q : writeWithRetries config .limit ≡ limit.Free = rw e in
-      record { some = omega arith; few = omega arith; room = λ i. inl (refl, e); inside = λ i h. subst (λ (l : Limit). Inside l (length payload) i) (sym q) tt }
+      record { some = omega arith; few = omega arith; room = λ i. inl (refl, e); inside = λ i h. subst (λ (l : Limit). Inside l 0 (length payload) i) (sym q) tt }
 
   key-sane : (lower upper : ℕ) → Sane (sendAccessKey config lower upper) payload
   unfolding sendAccessKey writing.planOf frames.frameCount frames.bytesAt
   key-sane lower upper = record { some = omega arith; few = omega arith; room = λ i. inr (length-half lower upper i); inside = λ i h. tt }
 
-  sane : (plan : WritePlan) → WritesBy config plan → Fits (plan .limit) (length payload) → Sane plan payload
-  unfolding writeRegister writeBuffer macWrite sendAccessKey writeMfgInfoC writeMfgInfo writeDataflash writing.planOf frames.frameCount frames.isPlain frames.bytesAt registerBytes infoBytes
+  sane : (plan : WritePlan) → WritesBy config plan → Fits (plan .limit) (frames.firstAddress (plan .frames)) (length payload) → Sane plan payload
+  unfolding writeWithRetries writeRegister writeBuffer macWrite sendAccessKey writeMfgInfoC writeMfgInfo writeDataflash writing.planOf frames.firstAddress frames.frameCount frames.isPlain frames.bytesAt registerBytes infoBytes
   sane plan (write-with-retries) h = plain-sane (config .«pec_write») refl h
   sane plan (write-register address) h = one-frame plan refl (λ i. omega arith) (λ i. tt)
   sane plan (write-buffer address) h = one-frame plan refl (λ i. omega arith) (λ i. tt)
@@ -191,7 +191,7 @@ writes-within config r plan name payload w es = by (writing.startOf plan (length
         let q = runs.over-stays es begun a e in
         subst (WritesWithin plan payload w) (sym q) (idle-write plan payload w a begun refl e)
     by phase.Waiting e =
-        let open-fits = admitted-fits (plan .limit) (length payload) w (sym (starts-as .writing plan (length payload) w .phase) ∙ e) in
+        let open-fits = admitted-fits (plan .limit) (frames.firstAddress (plan .frames)) (length payload) w (sym (starts-as .writing plan (length payload) w .phase) ∙ e) in
         let s = sane config payload plan name (open-fits .1) in
         let few = retries-write config plan name in
         let sound = runs.sound plan (length payload) w (omega arith) (λ h. s .some) (s .few) es in
@@ -214,11 +214,11 @@ length-head (head.DataFlash start) i = omega arith
 record SaneRead (plan : ReadPlan) (n : ℕ) : Type 0 where
   few : parts.readCount (plan .reads) n ≤ 256
   bare : parts.hasHead (plan .head) ≡ false → 0 < parts.readCount (plan .reads) n
-  inside : (i : ℕ) → (0 < parts.readCount (plan .reads) n → i < parts.readCount (plan .reads) n) → Inside (plan .limit) n i
+  inside : (i : ℕ) → (0 < parts.readCount (plan .reads) n → i < parts.readCount (plan .reads) n) → Inside (plan .limit) (parts.firstAddress (plan .head)) n i
   asks : (i : ℕ) → parts.askOf (plan .reads) n i .wanted ≤ n + 33
 
 module _ (config : Config) (n : ℕ) where
-  one-read : (plan : ReadPlan) → parts.readCount (plan .reads) n ≡ 1 → ((i : ℕ) → Inside (plan .limit) n i) → ((i : ℕ) → parts.askOf (plan .reads) n i .wanted ≤ n + 33) → SaneRead plan n
+  one-read : (plan : ReadPlan) → parts.readCount (plan .reads) n ≡ 1 → ((i : ℕ) → Inside (plan .limit) (parts.firstAddress (plan .head)) n i) → ((i : ℕ) → parts.askOf (plan .reads) n i .wanted ≤ n + 33) → SaneRead plan n
   one-read plan one at asks = record { few = omega (arith, one); bare = λ h. omega (arith, one); inside = λ i h. at i; asks = asks }
 
   whole-asks : (pec : Bool) (size : ℕ) → size ≤ 33 → wholeAsk pec size n ≤ n + 33
@@ -239,8 +239,8 @@ module _ (config : Config) (n : ℕ) where
       by true t = record { few = rw t (omega arith); bare = λ h. let z : _≡_ {A = ℕ} 0 1 = cc in absurd (omega arith); inside = λ i h. tt; asks = λ i. rw t (omega arith) }
       by false t = record { few = rw t (omega arith); bare = λ h. rw t (omega arith); inside = λ i h. tt; asks = λ i. rw t (omega arith) }
 
-  sane-read : (plan : ReadPlan) → ReadsBy config n plan → Fits (plan .limit) n → SaneRead plan n
-  unfolding readRegister readBuffer macRead readMfgInfoC readMfgInfo readDataflash reading.plainPlan reading.macPlan parts.readCount parts.askOf parts.hasHead reply.plainAsk reply.macAsk
+  sane-read : (plan : ReadPlan) → ReadsBy config n plan → Fits (plan .limit) (parts.firstAddress (plan .head)) n → SaneRead plan n
+  unfolding readRegister readBuffer macRead readMfgInfoC readMfgInfo readDataflash reading.plainPlan reading.macPlan parts.firstAddress parts.readCount parts.askOf parts.hasHead reply.plainAsk reply.macAsk
   sane-read plan (read-register address) h = one-read plan refl (λ i. tt) (λ i. omega arith)
   sane-read plan (read-buffer address) h = one-read plan refl (λ i. tt) (λ i. omega arith)
   sane-read plan (dispatch-command address input) h = command-sane address input
@@ -336,7 +336,7 @@ reads-within config r buffer plan name w es = by (reading.startOf plan (length b
         let q = kept.over-stays es begun a e in
         subst (ReadsWithin plan buffer w) (sym q) (idle-read plan buffer w a begun refl e)
     by phase.Waiting e =
-        let open-fits = admitted-fits (plan .limit) (length buffer) w (sym (starts-as .reading plan (length buffer) w .phase) ∙ e) in
+        let open-fits = admitted-fits (plan .limit) (parts.firstAddress (plan .head)) (length buffer) w (sym (starts-as .reading plan (length buffer) w .phase) ∙ e) in
         let s = sane-read config (length buffer) plan name (open-fits .1) in
         let same = retries-read config (length buffer) plan name in
         let enough : plan .retries ≤ 65535 = omega arith in

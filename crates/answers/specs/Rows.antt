@@ -64,23 +64,23 @@ abbrev pub Among : List ℕ → Phase → Type 0
 Among ks phase.Waiting = Unit {0}
 Among ks (phase.Ended a) = OneOf ks (numberOf a)
 
--- ---- at the start: n lent bytes, a work buffer of w; the call's limit, the answer's number and detail
+-- ---- at the start: the first address of data flash, n lent bytes, a work buffer of w; the call's limit, the answer's number and detail
 
-pub data Starts (n w : ℕ) : Limit → ℕ → ℕ → Type 0 where
+pub data Starts (start n w : ℕ) : Limit → ℕ → ℕ → Type 0 where
   -- 0: an empty data-flash transfer is done at once
-  nothing-to-do : (start : ℕ) → 39 ≤ w → n ≡ 0 → Starts n w (limit.Window start) 0 0
+  nothing-to-do : 39 ≤ w → n ≡ 0 → Starts start n w limit.Window 0 0
   -- 4: a length is over its limit
-  too-large : (most : ℕ) → 39 ≤ w → most < n → Starts n w (limit.AtMost most) 4 0
-  large-input : (input : ℕ) → 39 ≤ w → 32 < input → Starts n w (limit.Command input) 4 0
-  large-output : (input : ℕ) → 39 ≤ w → 32 < n → Starts n w (limit.Command input) 4 0
+  too-large : (most : ℕ) → 39 ≤ w → most < n → Starts start n w (limit.AtMost most) 4 0
+  large-input : (input : ℕ) → 39 ≤ w → 32 < input → Starts start n w (limit.Command input) 4 0
+  large-output : (input : ℕ) → 39 ≤ w → 32 < n → Starts start n w (limit.Command input) 4 0
   -- 5: the window rule fails
-  below : (start : ℕ) → 39 ≤ w → 0 < n → start < 0x4000 → Starts n w (limit.Window start) 5 0
-  beyond : (start : ℕ) → 39 ≤ w → 0 < n → 0x5FFF < start + (n - 1) → Starts n w (limit.Window start) 5 0
+  below : 39 ≤ w → 0 < n → start < 0x4000 → Starts start n w limit.Window 5 0
+  beyond : 39 ≤ w → 0 < n → 0x5FFF < start + (n - 1) → Starts start n w limit.Window 5 0
   -- 7: command input is not empty
-  input-given : (input : ℕ) → 39 ≤ w → 0 < input → input ≤ 32 → n ≤ 32 → Starts n w (limit.Command input) 7 0
+  input-given : (input : ℕ) → 39 ≤ w → 0 < input → input ≤ 32 → n ≤ 32 → Starts start n w (limit.Command input) 7 0
   -- 8: a key's length is wrong, or the work buffer is under 39 bytes
-  wrong-size : (size : ℕ) → 39 ≤ w → (n ≡ size → ⊥) → Starts n w (limit.Exactly size) 8 0
-  short-work : (l : Limit) → w < 39 → Starts n w l 8 0
+  wrong-size : (size : ℕ) → 39 ≤ w → (n ≡ size → ⊥) → Starts start n w (limit.Exactly size) 8 0
+  short-work : (l : Limit) → w < 39 → Starts start n w l 8 0
 
 -- ---- at a report: where the call stands, and what is lent
 

@@ -26,13 +26,13 @@ use Rattle.interface.specs.Plans.{writeWithRetries, writeRegister, readRegister
 use Rattle.r5.specs.Plans.{readSecurityKeys, writeSecurityKeys, readAuthenticationKey, writeAuthenticationKey, readChargingVoltageOverride, writeChargingVoltageOverride, readRegisterUnchecked, writeRegisterUnchecked, sendAccessKey, unsealFg, writeMfgInfoC, readMfgInfoC, writeMfgInfo, readMfgInfo, readDataflash, writeDataflash}
 use Rattle.answers.specs.Runs.{WriteReport, feedW, TameW, ReadReport, Reader, feedR, TameR}
 
--- block i of a data-flash transfer of n bytes lies in the window
-abbrev pub Inside : Limit → ℕ → ℕ → Type 0
-Inside limit.Free n i = Unit {0}
-Inside (limit.AtMost most) n i = Unit {0}
-Inside (limit.Exactly size) n i = Unit {0}
-Inside (limit.Window start) n i = (0x4000 ≤ start + i * 32) × (start + i * 32 + (min 32 (n - i * 32) - 1) ≤ 0x5FFF)
-Inside (limit.Command input) n i = Unit {0}
+-- block i of a data-flash transfer of n bytes from an address on lies in the window
+abbrev pub Inside : Limit → ℕ → ℕ → ℕ → Type 0
+Inside limit.Free start n i = Unit {0}
+Inside (limit.AtMost most) start n i = Unit {0}
+Inside (limit.Exactly size) start n i = Unit {0}
+Inside limit.Window start n i = (0x4000 ≤ start + i * 32) × (start + i * 32 + (min 32 (n - i * 32) - 1) ≤ 0x5FFF)
+Inside (limit.Command input) start n i = Unit {0}
 
 -- ---- the writing calls
 
@@ -53,7 +53,7 @@ pub data WritesBy (config : Config) : WritePlan → Type 0 where
 -- a call that waits has a frame left, inside the window, and shows it where the lengths of the start are lent
 pub record WritesOn (plan : WritePlan) (payload : List ℕ) (w : ℕ) (call : WriteCall) : Type 0 where
   pub due : call .sent < frames.frameCount (plan .frames) (length payload)
-  pub inside : Inside (plan .limit) (length payload) (call .sent)
+  pub inside : Inside (plan .limit) (frames.firstAddress (plan .frames)) (length payload) (call .sent)
   pub shows : (n : ℕ) × (writing.nextOf call payload w ≡ transfer.Write n)
 
 pub record WritesWithin (plan : WritePlan) (payload : List ℕ) (w : ℕ) (call : WriteCall) : Type 0 where
@@ -77,7 +77,7 @@ pub data ReadsBy (config : Config) (n : ℕ) : ReadPlan → Type 0 where
 -- a call that waits has a read left, or its head alone where it has none; it shows its head or a read, and the number asked is what is wanted and what stands around it
 pub record ReadsOn (plan : ReadPlan) (n w : ℕ) (call : ReadCall) : Type 0 where
   pub due : (call .heading ≡ false) ⊎ (0 < parts.readCount (plan .reads) n) → call .received < parts.readCount (plan .reads) n
-  pub inside : Inside (plan .limit) n (call .received)
+  pub inside : Inside (plan .limit) (parts.firstAddress (plan .head)) n (call .received)
   pub shows-head : call .heading ≡ true → (m : ℕ) × (reading.nextOf call n w ≡ transfer.Write m)
   pub shows-read : call .heading ≡ false → reading.nextOf call n w ≡ transfer.Read (reading.dueAsk call .command) (reply.bytesAsked (reading.dueAsk call))
   -- for every buffer that a machine has: 2^63 - 1 bytes

@@ -80,7 +80,7 @@ runs =
 pub runs-reach : map figures runs
     ≡ (0 ∷ 0 ∷ []) ∷ (1 ∷ 5 ∷ []) ∷ (2 ∷ 0 ∷ []) ∷ (3 ∷ 0 ∷ []) ∷ (4 ∷ 0 ∷ []) ∷ (5 ∷ 0 ∷ []) ∷ (6 ∷ 32 ∷ []) ∷ (7 ∷ 0 ∷ []) ∷ (8 ∷ 0 ∷ []) ∷ (9 ∷ 0 ∷ []) ∷ (10 ∷ 0 ∷ []) ∷ []
 unfolding bitStep bitSteps byteStep pecOf if_then_else_ inWindow case_waiting_ended_ case_acknowledged_error_timeout_ case_retry_spent_ failed nothing waited phaseAfter fitsOf windowed commanded measured admitted
-    frames.isFlash frames.frameCount writing.planOf writing.startOf writing.advanceOf writing.gaveUp writing.retryOf writing.endOf writing.failOf writing.settleOf writing.repliedOf writing.reportOf
-    case_refused_fault_headed_block_ parts.hasHead parts.readCount parts.askOf parts.blockAsk reading.plainPlan reading.startOf reading.dueAsk reading.headedOf reading.advanceOf reading.retryOf reading.endOf reading.failOf reading.heardHead reading.verdictOf reading.heardBlock reading.acknowledgedOf reading.weighOf reading.judgeOf reading.reportOf
+    frames.isFlash frames.firstAddress frames.frameCount writing.planOf writing.startOf writing.advanceOf writing.gaveUp writing.retryOf writing.endOf writing.failOf writing.settleOf writing.repliedOf writing.reportOf
+    case_refused_fault_headed_block_ parts.hasHead parts.firstAddress parts.readCount parts.askOf parts.blockAsk reading.plainPlan reading.startOf reading.dueAsk reading.headedOf reading.advanceOf reading.retryOf reading.endOf reading.failOf reading.heardHead reading.verdictOf reading.heardBlock reading.acknowledgedOf reading.weighOf reading.judgeOf reading.reportOf
     reply.plainAsk reply.macAsk reply.leadOf reply.aroundOf reply.bytesAsked reply.checkedOf reply.heardOf writeRegister readRegister dispatchCommand readDataflash writeDataflash
 runs-reach = refl
