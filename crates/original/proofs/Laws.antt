@@ -15,9 +15,9 @@ use Rattle.engine.specs.declared.limit.Limit.{Limit}
 use Rattle.original.specs.Bus.{BusOutcome, Log, Came, Ok, Err, Waiting, settle}
 
 -- the work buffer is large enough, so that the length decides
-pub measure : (l : Limit) (n w : ℕ) → 39 ≤ w → admitted l n w ≡ measured l n
+pub measure : (l : Limit) (start n w : ℕ) → 39 ≤ w → admitted l start n w ≡ measured l start n
 unfolding admitted if_then_else_
-measure l n w h = rw (le-ltb w 39 h)
+measure l start n w h = rw (le-ltb w 39 h)
 
 -- a fixed pair is two bytes
 pub fixed-pair : (command : MacCommand) → length (fixedPair command) ≡ 2

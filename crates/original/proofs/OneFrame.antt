@@ -13,7 +13,7 @@ use Rattle.protocol.specs.declared.error.Answer.the-variants as answer
 use Rattle.engine.specs.Limit.{measured}
 use Rattle.engine.specs.declared.limit.Limit.the-variants as limit
 use Rattle.engine.specs.declared.bus.Phase.the-variants as phase
-use Rattle.writing.specs.Frames.{isFlash, bytesAt, frameCount}
+use Rattle.writing.specs.Frames.{isFlash, firstAddress, bytesAt, frameCount}
 use Rattle.writing.specs.Writing as writing
 use Rattle.writing.specs.declared.frames.Frames.{Frames}
 use Rattle.writing.specs.declared.call.WritePlan.{WritePlan}
@@ -35,13 +35,13 @@ first-error fs (Err e log outcomes) = by (isFlash fs)
 first-error fs (Waiting log) = refl
 
 module _ (plan : WritePlan) (payload : List ℕ) (w : ℕ) (lent : ℕ → Lending) (steady : Lends w lent) (small : plan .retries ≤ 65535) (roomy : 39 ≤ w) (single : frameCount (plan .frames) (length payload) ≡ 1) where
-  pub one-frame : (outcomes : List BusOutcome) → measured (plan .limit) (length payload) ≡ phase.Waiting → (own plan payload w ≡ false → length (bytesAt (plan .frames) 0 payload) < w)
+  pub one-frame : (outcomes : List BusOutcome) → measured (plan .limit) (firstAddress (plan .frames)) (length payload) ≡ phase.Waiting → (own plan payload w ≡ false → length (bytesAt (plan .frames) 0 payload) < w)
       → writes plan payload w lent outcomes ≡ writeWithRetriesInternal (plan .retries) (frameAt plan payload w 0) begun outcomes
   unfolding each
   one-frame outcomes a h =
       let room : (i : ℕ) → i < frameCount (plan .frames) (length payload) → own plan payload w ≡ false → length (bytesAt (plan .frames) i payload) < w
       = λ i j o. (let z : i ≡ 0 = omega arith in rw z (h o)) in
-      frames-in-turn plan payload w lent steady room (omega arith) small 0 outcomes single (measure (plan .limit) (length payload) w roomy ∙ a)
+      frames-in-turn plan payload w lent steady room (omega arith) small 0 outcomes single (measure (plan .limit) (firstAddress (plan .frames)) (length payload) w roomy ∙ a)
       ∙ first-error (plan .frames) (writeWithRetriesInternal (plan .retries) (frameAt plan payload w 0) begun outcomes)
 
   -- too long a payload is refused before any transfer
@@ -50,8 +50,8 @@ module _ (plan : WritePlan) (payload : List ℕ) (w : ℕ) (lent : ℕ → Lendi
       ≡ (if ltb most (length payload) then Err answer.DataTooLarge begun outcomes else writeWithRetriesInternal (plan .retries) (frameAt plan payload w 0) begun outcomes)
   unfolding measured answered if_then_else_
   limited most outcomes l h true t =
-      let e : measured (plan .limit) (length payload) ≡ phase.Ended answer.DataTooLarge = rw (l, t) in
-      no-frame plan payload w lent answer.DataTooLarge outcomes (measure (plan .limit) (length payload) w roomy ∙ e) ∙ rw t
+      let e : measured (plan .limit) (firstAddress (plan .frames)) (length payload) ≡ phase.Ended answer.DataTooLarge = rw (l, t) in
+      no-frame plan payload w lent answer.DataTooLarge outcomes (measure (plan .limit) (firstAddress (plan .frames)) (length payload) w roomy ∙ e) ∙ rw t
   limited most outcomes l h false t =
-      let e : measured (plan .limit) (length payload) ≡ phase.Waiting = rw (l, t) in
+      let e : measured (plan .limit) (firstAddress (plan .frames)) (length payload) ≡ phase.Waiting = rw (l, t) in
       one-frame outcomes e (λ o. h (ltb-false most (length payload) t)) ∙ rw t

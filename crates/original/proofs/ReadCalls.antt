@@ -10,7 +10,7 @@ use lib.Dec.{ltb, eqb}
 use borrow.Author.Tests.{le-ltb, eq-eqb, ltb-false, eqb-true, eqb-false}
 use Rattle.protocol.specs.Pick.{if_then_else_}
 use Rattle.protocol.specs.Frame.{macBytes, fixedPair, commandBytes, sealed}
-use Rattle.protocol.specs.Reply.{plainAsk}
+use Rattle.protocol.specs.Reply.{plainAsk, macAsk}
 use Rattle.r5.specs.Voltage.{figureOf, overrideOf}
 use Rattle.protocol.specs.Window.{inWindow}
 use Rattle.protocol.specs.declared.common.Config.{Config}
@@ -65,15 +65,15 @@ read-dataflash-by config outcomes start buffer false p = rw p
 
 module _ (config : Config) (small : config .«max_bus_retries» ≤ 65535) (w : ℕ) (roomy : 39 ≤ w) (lent : ℕ → Lending) (steady : Lends w lent) (outcomes : List BusOutcome) where
   -- a plain read that is admitted, into bytes of its own that are copied
-  plain : (l : Limit) (command : ℕ) (buffer inner : List ℕ) (pec : Bool) → measured l (length buffer) ≡ phase.Waiting → length buffer ≤ length inner → (if pec then length inner + 1 else length inner) ≤ 18446744073709551615
+  plain : (l : Limit) (command : ℕ) (buffer inner : List ℕ) (pec : Bool) → measured l 0 (length buffer) ≡ phase.Waiting → length buffer ≤ length inner → (if pec then length inner + 1 else length inner) ≤ 18446744073709551615
       → reads (reading.plainPlan config l (plainAsk command (length inner) pec)) buffer w lent outcomes ≡ copied buffer (rust.readWithRetries config command inner pec begun outcomes)
-  unfolding reading.plainPlan parts.hasHead rust.readWithRetries
+  unfolding reading.plainPlan parts.hasHead parts.firstAddress rust.readWithRetries
   plain l command buffer inner pec m h few =
-      started (reading.plainPlan config l (plainAsk command (length inner) pec)) (length buffer) w lent buffer outcomes (measure l (length buffer) w roomy ∙ m)
+      started (reading.plainPlan config l (plainAsk command (length inner) pec)) (length buffer) w lent buffer outcomes (measure l 0 (length buffer) w roomy ∙ m)
       ∙ plain-read.same config l command buffer inner w lent steady h pec few outcomes (config .«max_bus_retries») 0 [] (omega arith)
 
   -- and one into the caller's own
-  plain-own : (l : Limit) (command : ℕ) (buffer : List ℕ) (pec : Bool) → measured l (length buffer) ≡ phase.Waiting → (if pec then length buffer + 1 else length buffer) ≤ 18446744073709551615
+  plain-own : (l : Limit) (command : ℕ) (buffer : List ℕ) (pec : Bool) → measured l 0 (length buffer) ≡ phase.Waiting → (if pec then length buffer + 1 else length buffer) ≤ 18446744073709551615
       → reads (reading.plainPlan config l (plainAsk command (length buffer) pec)) buffer w lent outcomes ≡ rust.readWithRetries config command buffer pec begun outcomes
   unfolding rust.readWithRetries
   plain-own l command buffer pec m few =
@@ -86,7 +86,7 @@ module _ (config : Config) (small : config .«max_bus_retries» ≤ 65535) (w : 
   counts false n h = omega arith
 
   read-register-by : (address : ℕ) (buffer : List ℕ) (t : Bool) → ltb 32 (length buffer) ≡ t → reads (machine.readRegister config address (length buffer)) buffer w lent outcomes ≡ rust.readRegister config address buffer begun outcomes
-  unfolding machine.readRegister reading.plainPlan measured admitted answered if_then_else_ rust.readRegister
+  unfolding machine.readRegister reading.plainPlan parts.firstAddress measured admitted answered if_then_else_ rust.readRegister
   read-register-by address buffer true t =
       no-transfer (machine.readRegister config address (length buffer)) (length buffer) w lent buffer answer.DataTooLarge outcomes (rw (le-ltb w 39 roomy, t)) ∙ rw t
   read-register-by address buffer false t =
@@ -104,7 +104,7 @@ module _ (config : Config) (small : config .«max_bus_retries» ≤ 65535) (w : 
   read-register-unchecked address buffer h = buffer-read address buffer h
 
   read-mfg-info-by : (buffer : List ℕ) (t : Bool) → ltb 33 (length buffer) ≡ t → (pec : Bool) → config .«pec_read» ≡ pec → reads (machine-r5.readMfgInfo config (length buffer)) buffer w lent outcomes ≡ rust-r5.readMfgInfo config buffer begun outcomes
-  unfolding machine-r5.readMfgInfo machine-r5.wholeAsk reading.plainPlan measured admitted answered if_then_else_ rust.readWithRetries rust-r5.readMfgInfo
+  unfolding machine-r5.readMfgInfo machine-r5.wholeAsk reading.plainPlan parts.firstAddress measured admitted answered if_then_else_ rust.readWithRetries rust-r5.readMfgInfo
   read-mfg-info-by buffer true t pec p =
       no-transfer (machine-r5.readMfgInfo config (length buffer)) (length buffer) w lent buffer answer.DataTooLarge outcomes (rw (le-ltb w 39 roomy, t)) ∙ rw t
   read-mfg-info-by buffer false t true p =
@@ -116,16 +116,16 @@ module _ (config : Config) (small : config .«max_bus_retries» ≤ 65535) (w : 
   read-mfg-info buffer = read-mfg-info-by buffer (ltb 33 (length buffer)) refl (config .«pec_read») refl
 
   -- a MAC read that is admitted, into bytes of its own that are copied
-  behind : (l : Limit) (command : MacCommand) (buffer inner : List ℕ) → measured l (length buffer) ≡ phase.Waiting → length buffer ≤ length inner → length inner ≤ 32
+  behind : (l : Limit) (command : MacCommand) (buffer inner : List ℕ) → measured l 0 (length buffer) ≡ phase.Waiting → length buffer ≤ length inner → length inner ≤ 32
       → reads (reading.macPlan config l command (length inner)) buffer w lent outcomes ≡ copied buffer (rust.macReadWithRetries config (0x44 ∷ 2 ∷ fixedPair command) inner begun outcomes)
-  unfolding reading.macPlan parts.hasHead parts.headBytes rust.macReadWithRetries
+  unfolding reading.macPlan parts.hasHead parts.firstAddress parts.headBytes rust.macReadWithRetries
   behind l command buffer inner m h least =
-      started (reading.macPlan config l command (length inner)) (length buffer) w lent buffer outcomes (measure l (length buffer) w roomy ∙ m)
+      started (reading.macPlan config l command (length inner)) (length buffer) w lent buffer outcomes (measure l 0 (length buffer) w roomy ∙ m)
       ∙ mac-read.at-frame (config .«max_bus_retries») l (head.Mac command) 0x44 (0x44 ∷ 2 ∷ fixedPair command) buffer inner w lent steady refl (mac-head command) refl (omega (arith, fixed-pair command)) h least
       outcomes (config .«pec_read») (config .«max_bus_retries») 0 [] (omega arith)
 
   -- and one into the caller's own
-  behind-own : (l : Limit) (command : MacCommand) (buffer : List ℕ) → measured l (length buffer) ≡ phase.Waiting → length buffer ≤ 32
+  behind-own : (l : Limit) (command : MacCommand) (buffer : List ℕ) → measured l 0 (length buffer) ≡ phase.Waiting → length buffer ≤ 32
       → reads (reading.macPlan config l command (length buffer)) buffer w lent outcomes ≡ rust.macReadWithRetries config (0x44 ∷ 2 ∷ fixedPair command) buffer begun outcomes
   unfolding rust.macReadWithRetries
   behind-own l command buffer m least =
@@ -136,7 +136,7 @@ module _ (config : Config) (small : config .«max_bus_retries» ≤ 65535) (w : 
       → reads (machine-r5.macRead config command size) buffer w lent outcomes ≡ rust.macReadWithRetries config (0x44 ∷ 2 ∷ fixedPair command) buffer begun outcomes
   unfolding machine-r5.macRead measured if_then_else_
   keyed command size buffer e h =
-      let m : measured (limit.Exactly size) (length buffer) ≡ phase.Waiting = rw (eq-eqb (length buffer) size e) in
+      let m : measured (limit.Exactly size) 0 (length buffer) ≡ phase.Waiting = rw (eq-eqb (length buffer) size e) in
       ap (λ (k : ℕ). reads (reading.macPlan config (limit.Exactly size) command k) buffer w lent outcomes) (sym e) ∙ behind-own (limit.Exactly size) command buffer m (omega arith)
 
   pub read-security-keys : (buffer : List ℕ) → length buffer ≡ 28 → reads (machine-r5.readSecurityKeys config) buffer w lent outcomes ≡ rust-r5.readSecurityKeys config buffer begun outcomes
@@ -153,7 +153,7 @@ module _ (config : Config) (small : config .«max_bus_retries» ≤ 65535) (w : 
   read-charging-voltage-override buffer e = keyed mac.ChargingVoltageOverride 10 buffer e (omega arith)
 
   read-mfg-info-c-by : (buffer : List ℕ) (t : Bool) → ltb 32 (length buffer) ≡ t → (pec : Bool) → config .«pec_read» ≡ pec → reads (machine-r5.readMfgInfoC config (length buffer)) buffer w lent outcomes ≡ rust-r5.readMfgInfoC config buffer begun outcomes
-  unfolding machine-r5.readMfgInfoC machine-r5.wholeAsk reading.macPlan measured admitted answered if_then_else_ rust-r5.readMfgInfoC
+  unfolding machine-r5.readMfgInfoC machine-r5.wholeAsk reading.macPlan parts.firstAddress measured admitted answered if_then_else_ rust-r5.readMfgInfoC
   read-mfg-info-c-by buffer true t pec p =
       no-transfer (machine-r5.readMfgInfoC config (length buffer)) (length buffer) w lent buffer answer.DataTooLarge outcomes (rw (le-ltb w 39 roomy, t)) ∙ rw t
   read-mfg-info-c-by buffer false t true p =
@@ -174,7 +174,7 @@ module _ (config : Config) (small : config .«max_bus_retries» ≤ 65535) (w : 
   dataflash-by : (start : ℕ) (buffer : List ℕ) (t : Bool) → inWindow start (length buffer) ≡ t → (n : Bool) → eqb (length buffer) 0 ≡ n
       → reads (machine-r5.readDataflash config start) buffer w lent outcomes
       ≡ (if rust.checkDfRange start (length buffer) then flash-read.loop start (config .«pec_read») (config .«max_bus_retries») buffer 0 true begun outcomes else Err answer.DataFlashAddressOutOfRange begun outcomes leaving buffer)
-  unfolding machine-r5.readDataflash parts.hasHead measured admitted windowed answered if_then_else_
+  unfolding machine-r5.readDataflash parts.hasHead parts.firstAddress measured admitted windowed answered if_then_else_
   dataflash-by start buffer false t n e =
       no-transfer (machine-r5.readDataflash config start) (length buffer) w lent buffer answer.DataFlashAddressOutOfRange outcomes (rw (le-ltb w 39 roomy, t)) ∙ rw (range-window, t)
   dataflash-by start buffer true t true e =
@@ -184,32 +184,32 @@ module _ (config : Config) (small : config .«max_bus_retries» ≤ 65535) (w : 
       let some : 0 < length buffer = omega (arith, eqb-false (length buffer) 0 e) in
       let far : (0x4000 ≤ start) × (start + length buffer ≤ 0x6000) = in-range start (length buffer) t some in
       started (machine-r5.readDataflash config start) (length buffer) w lent buffer outcomes (rw (le-ltb w 39 roomy, t, e))
-      ∙ flash-read.same start (config .«max_bus_retries») (limit.Window start) (length buffer) w lent steady roomy (far .0) (far .1) outcomes (config .«pec_read») true 0 (config .«max_bus_retries») 0 buffer [] refl some (omega arith)
+      ∙ flash-read.same start (config .«max_bus_retries») limit.Window (length buffer) w lent steady roomy (far .0) (far .1) outcomes (config .«pec_read») true 0 (config .«max_bus_retries») 0 buffer [] refl some (omega arith)
       ∙ rw (range-window, t)
 
   pub read-dataflash : (start : ℕ) (buffer : List ℕ) → reads (machine-r5.readDataflash config start) buffer w lent outcomes ≡ rust-r5.readDataflash config start buffer begun outcomes
   read-dataflash start buffer = dataflash-by start buffer (inWindow start (length buffer)) refl (eqb (length buffer) 0) refl ∙ read-dataflash-by config outcomes start buffer (config .«pec_read») refl
 
   -- a command that is admitted: a write where there is no output, a read behind its frame where there is
-  dispatched : (address : ℕ) (input output : List ℕ) → measured (limit.Command (length input)) (length output) ≡ phase.Waiting → length output ≤ 32 → (n : Bool) → eqb (length output) 0 ≡ n
+  dispatched : (address : ℕ) (input output : List ℕ) → measured (limit.Command (length input)) 0 (length output) ≡ phase.Waiting → length output ≤ 32 → (n : Bool) → eqb (length output) 0 ≡ n
       → reads (machine.dispatchCommand config address (length input) (length output)) output w lent outcomes
       ≡ (if eqb (length output) 0 then rust.macWriteWithRetries config (address / 65536 % 256 ∷ 2 ∷ address / 256 % 256 ∷ address % 256 ∷ []) begun outcomes leaving output
       else rust.macReadWithRetries config (address / 65536 % 256 ∷ 2 ∷ address / 256 % 256 ∷ address % 256 ∷ []) output begun outcomes)
-  unfolding machine.dispatchCommand machine.commandPec machine.commandReads parts.hasHead parts.headBytes commandBytes headAt sealed if_then_else_ rust.withPec rust.writeWithRetries rust.macWriteWithRetries rust.macReadWithRetries
+  unfolding machine.dispatchCommand machine.commandPec machine.commandReads parts.hasHead parts.firstAddress parts.headBytes commandBytes headAt sealed if_then_else_ rust.withPec rust.writeWithRetries rust.macWriteWithRetries rust.macReadWithRetries
   dispatched address input output m h true n =
       let alone : machine.dispatchCommand config address (length input) (length output) .reads ≡ reads-of.Nothing = rw n in
-      started (machine.dispatchCommand config address (length input) (length output)) (length output) w lent output outcomes (measure (limit.Command (length input)) (length output) w roomy ∙ m)
+      started (machine.dispatchCommand config address (length input) (length output)) (length output) w lent output outcomes (measure (limit.Command (length input)) 0 (length output) w roomy ∙ m)
       ∙ only-head.same (machine.dispatchCommand config address (length input) (length output)) output w lent steady refl alone (omega arith) outcomes (config .«max_bus_retries») 0 [] (omega arith)
       ∙ rw n
   dispatched address input output m h false n =
-      rw n (started _ (length output) w lent output outcomes (measure (limit.Command (length input)) (length output) w roomy ∙ m)
+      rw n (started (reading.planOf config (limit.Command (length input)) (head.Command address) (config .«pec_read») (reads-of.Once (macAsk (address / 65536 % 256) (length output) (config .«pec_read»)))) (length output) w lent output outcomes (measure (limit.Command (length input)) 0 (length output) w roomy ∙ m)
       ∙ mac-read.at-frame (config .«max_bus_retries») (limit.Command (length input)) (head.Command address) (address / 65536 % 256) (commandBytes address) output output w lent steady refl refl refl (omega arith) (omega arith) h
       outcomes (config .«pec_read») (config .«max_bus_retries») 0 [] (omega arith)
       ∙ mac-read.own (commandBytes address) output (config .«pec_read») outcomes (config .«max_bus_retries») begun)
 
   pub dispatch-command : (address : ℕ) (input output : List ℕ) → rust.dispatchPanics input output ≡ false
       → reads (machine.dispatchCommand config address (length input) (length output)) output w lent outcomes ≡ rust.dispatchCommand config address input output begun outcomes
-  unfolding machine.dispatchCommand measured admitted commanded answered if_then_else_ rust.dispatchCommand
+  unfolding machine.dispatchCommand parts.firstAddress measured admitted commanded answered if_then_else_ rust.dispatchCommand
   dispatch-command address input output safe = by (ltb 32 (length input)) refl (ltb 32 (length output)) refl (eqb (length input) 0) refl
     where
       by : (a : Bool) → ltb 32 (length input) ≡ a → (b : Bool) → ltb 32 (length output) ≡ b → (z : Bool) → eqb (length input) 0 ≡ z
@@ -223,7 +223,7 @@ module _ (config : Config) (small : config .«max_bus_retries» ≤ 65535) (w : 
 
   pub dispatch-command-refused : (address : ℕ) (input output : List ℕ) → rust.dispatchPanics input output ≡ true
       → reads (machine.dispatchCommand config address (length input) (length output)) output w lent outcomes ≡ Err answer.NotACommand begun outcomes leaving output
-  unfolding machine.dispatchCommand measured admitted commanded answered if_then_else_
+  unfolding machine.dispatchCommand parts.firstAddress measured admitted commanded answered if_then_else_
   dispatch-command-refused address input output panics = by (ltb 32 (length input)) refl (ltb 32 (length output)) refl (eqb (length input) 0) refl
     where
       by : (a : Bool) → ltb 32 (length input) ≡ a → (b : Bool) → ltb 32 (length output) ≡ b → (z : Bool) → eqb (length input) 0 ≡ z

@@ -164,13 +164,13 @@ module _ (plan : ReadPlan) (n w : ℕ) where
         at-end (reading.advanceOf (at false i left waits)) buffer lent done answer.Done p outcomes
 
     -- a call that is admitted
-    pub started : (buffer : List ℕ) (outcomes : List BusOutcome) → admitted (plan .limit) n w ≡ phase.Waiting
+    pub started : (buffer : List ℕ) (outcomes : List BusOutcome) → admitted (plan .limit) (parts.firstAddress (plan .head)) n w ≡ phase.Waiting
         → fedRead (reading.startOf plan n w) buffer lent [] outcomes ≡ fedRead (at (parts.hasHead (plan .head)) 0 (plan .retries) 0) buffer lent [] outcomes
     unfolding reading.startOf nothing
     started buffer outcomes a = rw a
 
     -- one that is refused, or done at once, makes no transfer
-    pub no-transfer : (buffer : List ℕ) (a : Answer) (outcomes : List BusOutcome) → admitted (plan .limit) n w ≡ phase.Ended a
+    pub no-transfer : (buffer : List ℕ) (a : Answer) (outcomes : List BusOutcome) → admitted (plan .limit) (parts.firstAddress (plan .head)) n w ≡ phase.Ended a
         → fedRead (reading.startOf plan n w) buffer lent [] outcomes ≡ answered a begun outcomes leaving buffer
     unfolding reading.startOf nothing
     no-transfer buffer a outcomes e = at-end (reading.startOf plan n w) buffer lent [] a e outcomes

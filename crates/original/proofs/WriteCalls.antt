@@ -21,7 +21,7 @@ use Rattle.engine.specs.Limit.{measured, admitted, windowed}
 use Rattle.protocol.specs.Window.{inWindow}
 use Rattle.engine.specs.declared.limit.Limit.the-variants as limit
 use Rattle.engine.specs.declared.bus.Phase.the-variants as phase
-use Rattle.writing.specs.Frames.{isFlash, isPlain, bytesAt, halfBytes, infoCBytes, blockBytes, frameCount}
+use Rattle.writing.specs.Frames.{isFlash, isPlain, firstAddress, bytesAt, halfBytes, infoCBytes, blockBytes, frameCount}
 use Rattle.writing.specs.Writing as writing
 use Rattle.interface.specs.Plans as machine
 use Rattle.r5.specs.Plans as machine-r5
@@ -86,13 +86,13 @@ block-length start i bytes = omega (arith, length-take 32 (drop (i * 32) bytes))
 module _ (config : Config) (small : config .«max_bus_retries» ≤ 65535) (w : ℕ) (roomy : 39 ≤ w) (lent : ℕ → Lending) (steady : Lends w lent) (outcomes : List BusOutcome) where
   plain-write-by : (t : Bool) → config .«pec_write» ≡ t → (bytes : List ℕ) → rust.writePanics (config .«pec_write») bytes ≡ false
       → writes (machine.writeWithRetries config) bytes w lent outcomes ≡ rust.writeWithRetries config bytes (config .«pec_write») begun outcomes
-  unfolding machine.writeWithRetries machine.plainLimit writing.planOf writing.ownBytes isPlain frameCount bytesAt frameAt sealed measured if_then_else_ rust.writeWithRetries rust.withPec
+  unfolding machine.writeWithRetries machine.plainLimit writing.planOf writing.ownBytes isPlain frameCount bytesAt frameAt sealed firstAddress measured if_then_else_ rust.writeWithRetries rust.withPec
   plain-write-by true e bytes h =
       let short : ltb 38 (length bytes) ≡ false = rw e at h in
-      let m : measured (machine.writeWithRetries config .limit) (length bytes) ≡ phase.Waiting = rw (e, short) in
+      let m : measured (machine.writeWithRetries config .limit) 0 (length bytes) ≡ phase.Waiting = rw (e, short) in
       one-frame (machine.writeWithRetries config) bytes w lent steady small roomy refl outcomes m (λ o. omega (arith, ltb-false 38 (length bytes) short)) ∙ rw e
   plain-write-by false e bytes h =
-      let m : measured (machine.writeWithRetries config .limit) (length bytes) ≡ phase.Waiting = rw e in
+      let m : measured (machine.writeWithRetries config .limit) 0 (length bytes) ≡ phase.Waiting = rw e in
       let never : (own (machine.writeWithRetries config) bytes w ≡ false → length bytes < w) = λ o. (let clash : _≡_ {A = Bool} true false = rw e at o in let z : _≡_ {A = ℕ} 0 1 = cc in omega arith) in
       one-frame (machine.writeWithRetries config) bytes w lent steady small roomy refl outcomes m never ∙ rw e
 
@@ -101,7 +101,7 @@ module _ (config : Config) (small : config .«max_bus_retries» ≤ 65535) (w : 
   plain-write bytes h = plain-write-by (config .«pec_write») refl bytes h
 
   plain-write-refused-by : (t : Bool) → config .«pec_write» ≡ t → (bytes : List ℕ) → rust.writePanics (config .«pec_write») bytes ≡ true → writes (machine.writeWithRetries config) bytes w lent outcomes ≡ Err answer.DataTooLarge begun outcomes
-  unfolding machine.writeWithRetries machine.plainLimit writing.planOf measured admitted answered if_then_else_
+  unfolding machine.writeWithRetries machine.plainLimit writing.planOf firstAddress measured admitted answered if_then_else_
   plain-write-refused-by true e bytes h =
       let long : ltb 38 (length bytes) ≡ true = rw e at h in
       no-frame (machine.writeWithRetries config) bytes w lent answer.DataTooLarge outcomes (rw (le-ltb w 39 roomy, e, long))
@@ -123,9 +123,9 @@ module _ (config : Config) (small : config .«max_bus_retries» ≤ 65535) (w : 
   -- a MAC write of a fixed length
   keyed : (command : MacCommand) (size : ℕ) (bytes : List ℕ) → length bytes ≡ size → size ≤ 32
       → writes (machine-r5.macWrite config command size) bytes w lent outcomes ≡ rust.macWriteWithRetries config (0x44 ∷ (size + 2) ∷ fixedPair command ++ bytes) begun outcomes
-  unfolding machine-r5.macWrite writing.planOf writing.ownBytes isPlain frameCount bytesAt frameAt sealed measured if_then_else_ rust.macWriteWithRetries rust.writeWithRetries rust.withPec
+  unfolding machine-r5.macWrite writing.planOf writing.ownBytes isPlain frameCount bytesAt frameAt sealed firstAddress measured if_then_else_ rust.macWriteWithRetries rust.writeWithRetries rust.withPec
   keyed command size bytes e h =
-      let m : measured (limit.Exactly size) (length bytes) ≡ phase.Waiting = rw (eq-eqb (length bytes) size e) in
+      let m : measured (limit.Exactly size) 0 (length bytes) ≡ phase.Waiting = rw (eq-eqb (length bytes) size e) in
       let f : macBytes (fixedPair command) bytes ≡ 0x44 ∷ (size + 2) ∷ fixedPair command ++ bytes = mac-bytes (fixedPair command) bytes (omega arith) ∙ rw e in
       let short : length (macBytes (fixedPair command) bytes) ≤ 36 = rw f (omega (arith, length-append (fixedPair command) bytes, fixed-pair command)) in
       one-frame (machine-r5.macWrite config command size) bytes w lent steady small roomy refl outcomes m (λ o. omega arith) ∙ rw f
@@ -166,7 +166,7 @@ module _ (config : Config) (small : config .«max_bus_retries» ≤ 65535) (w : 
           ∙ rw (t, info-bytes bytes (ltb-false 32 (length bytes) t))
 
   pub send-access-key : (lower upper : ℕ) → writes (machine-r5.sendAccessKey config lower upper) [] w lent outcomes ≡ rust-r5.sendAccessKey config lower upper begun outcomes
-  unfolding machine-r5.sendAccessKey writing.planOf writing.ownBytes writing.gaveUp isPlain isFlash frameCount bytesAt halfBytes macBytes pairOf frameAt each sealed measured admitted if_then_else_ rust.toLeBytes rust.macWriteWithRetries rust.writeWithRetries rust.withPec rust-r5.sendAccessKey
+  unfolding machine-r5.sendAccessKey writing.planOf writing.ownBytes writing.gaveUp isPlain isFlash frameCount bytesAt halfBytes macBytes pairOf frameAt each sealed firstAddress measured admitted if_then_else_ rust.toLeBytes rust.macWriteWithRetries rust.writeWithRetries rust.withPec rust-r5.sendAccessKey
   send-access-key lower upper =
       frames-in-turn (machine-r5.sendAccessKey config lower upper) [] w lent steady (λ i j o. omega (arith, half-length lower upper i)) (omega arith) small 1 outcomes refl (rw (le-ltb w 39 roomy))
       ∙ settle-by _ _ (λ e. e) (λ log outcomes. settle-last _) _
@@ -188,7 +188,7 @@ module _ (config : Config) (small : config .«max_bus_retries» ≤ 65535) (w : 
       ∙ settle-settle second third first
 
   pub write-mfg-info-c : (lower upper : ℕ) (bytes : List ℕ) → writes (machine-r5.writeMfgInfoC config lower upper) bytes w lent outcomes ≡ rust-r5.writeMfgInfoC config lower upper bytes begun outcomes
-  unfolding machine-r5.writeMfgInfoC writing.planOf measured admitted answered frameCount bytesAt if_then_else_ rust-r5.writeMfgInfoC
+  unfolding machine-r5.writeMfgInfoC writing.planOf firstAddress measured admitted answered frameCount bytesAt if_then_else_ rust-r5.writeMfgInfoC
   write-mfg-info-c lower upper bytes = by (ltb 32 (length bytes)) refl
     where
       by : (t : Bool) → ltb 32 (length bytes) ≡ t → writes (machine-r5.writeMfgInfoC config lower upper) bytes w lent outcomes ≡ rust-r5.writeMfgInfoC config lower upper bytes begun outcomes
@@ -200,7 +200,7 @@ module _ (config : Config) (small : config .«max_bus_retries» ≤ 65535) (w : 
           ∙ rw (t, mac-bytes (fixedPair mac.MfgInfoC) bytes h)
 
   pub write-dataflash : (start : ℕ) (bytes : List ℕ) → writes (machine-r5.writeDataflash config start) bytes w lent outcomes ≡ rust-r5.writeDataflash config start bytes begun outcomes
-  unfolding machine-r5.writeDataflash writing.planOf writing.ownBytes isPlain frameCount bytesAt measured admitted windowed answered if_then_else_ rust.macWriteToDfWithRetries rust-r5.writeDataflash rust.writeChunks
+  unfolding machine-r5.writeDataflash writing.planOf writing.ownBytes isPlain frameCount bytesAt firstAddress measured admitted windowed answered if_then_else_ rust.macWriteToDfWithRetries rust-r5.writeDataflash rust.writeChunks
   write-dataflash start bytes = by (inWindow start (length bytes)) refl (eqb (length bytes) 0) refl
     where
       by : (t : Bool) → inWindow start (length bytes) ≡ t → (n : Bool) → eqb (length bytes) 0 ≡ n → writes (machine-r5.writeDataflash config start) bytes w lent outcomes ≡ rust-r5.writeDataflash config start bytes begun outcomes

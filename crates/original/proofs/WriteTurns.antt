@@ -21,7 +21,7 @@ use Rattle.engine.specs.Budget.{failed, moreOf, nothing, waited}
 use Rattle.engine.specs.Bus.{writeOf, phaseAfter, fitsOf}
 use Rattle.engine.specs.Limit.{admitted}
 use Rattle.engine.specs.declared.bus.Phase.the-variants as phase
-use Rattle.writing.specs.Frames.{isFlash, bytesAt, frameCount}
+use Rattle.writing.specs.Frames.{isFlash, firstAddress, bytesAt, frameCount}
 use Rattle.writing.specs.Writing as writing
 use Rattle.writing.specs.declared.frames.Frames.{Frames}
 use Rattle.writing.specs.declared.call.WritePlan.{WritePlan}
@@ -179,13 +179,13 @@ module _ (plan : WritePlan) (payload : List ℕ) (w : ℕ) where
 
       -- a call that is admitted, fed, is its frames one after the other
       pub frames-in-turn : (todo : ℕ) (outcomes : List BusOutcome) → frameCount (plan .frames) (length payload) ≡ suc todo
-          → admitted (plan .limit) (length payload) w ≡ phase.Waiting
+          → admitted (plan .limit) (firstAddress (plan .frames)) (length payload) w ≡ phase.Waiting
           → fedWrite (writing.startOf plan (length payload) w) payload lent [] outcomes ≡ each (suc todo) 0 begun outcomes
       unfolding each writing.startOf nothing
       frames-in-turn todo outcomes c a = rw a (same outcomes todo 0 (plan .retries) 0 [] (omega arith) small (omega arith))
 
 -- a call that is refused, or done at once, makes no transfer
-pub no-frame : (plan : WritePlan) (payload : List ℕ) (w : ℕ) (lent : ℕ → Lending) (a : Answer) (outcomes : List BusOutcome) → admitted (plan .limit) (length payload) w ≡ phase.Ended a
+pub no-frame : (plan : WritePlan) (payload : List ℕ) (w : ℕ) (lent : ℕ → Lending) (a : Answer) (outcomes : List BusOutcome) → admitted (plan .limit) (firstAddress (plan .frames)) (length payload) w ≡ phase.Ended a
     → fedWrite (writing.startOf plan (length payload) w) payload lent [] outcomes ≡ answered a begun outcomes
 unfolding writing.startOf nothing
 no-frame plan payload w lent a outcomes e = at-end (writing.startOf plan (length payload) w) payload lent [] a e outcomes
