@@ -15,3 +15,4 @@ pub mod Equal
 pub mod Brought
 pub mod ReadFronts
 pub mod Fronts
+pub mod ByKind

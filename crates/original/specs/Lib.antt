@@ -5,3 +5,4 @@ pub mod Fed
 pub mod Equal
 pub mod Fronts
 pub mod Runs
+pub mod ByKind

@@ -1,0 +1,105 @@
+-- Demand 2 as a host has it: a call that is started by its kind and fed is the Rust's function of that name, whatever is lent beside what the call looks at.
+-- Assumes nothing.
+use Prim.Native.Nat.{ℕ, _≤_, _<_}
+use mathlib.Core.Path.{_≡_}
+use mathlib.Core.Bool.{false}
+use mathlib.Core.List.{List, [], _∷_, _++_}
+use lib.ListN.{length, getD}
+use Rattle.protocol.specs.declared.common.Config.{Config}
+use Rattle.protocol.specs.declared.error.Answer.{Answer}
+use Rattle.r5.specs.Voltage.{overrideOf}
+use Rattle.calls.specs.Call.{startOf, nextOf, workAfter, partOf, reportOf, bufferAfter, tallyOf}
+use Rattle.calls.specs.declared.kind.Kind.{Kind}
+use Rattle.calls.specs.declared.kind.Kind.the-variants as kind
+use Rattle.calls.specs.declared.call.Call.{Call}
+use Rattle.calls.specs.declared.call.Reported.{Reported}
+use Rattle.calls.specs.declared.call.Reported.the-variants as reported
+use Rattle.original.specs.Bus.{BusOutcome, Made, Log, begun, Came, Waiting, Read, _leaving_}
+use Rattle.original.specs.Fed.{told, Lending, reply, answered, shows_sending_transfer_answer_}
+use Rattle.original.specs.OriginalInterface as rust
+use Rattle.original.specs.OriginalR5 as rust-r5
+
+-- ---- the host
+
+infixr 10 came_taken_refused_
+unfoldable pub came_taken_refused_ : {A : Type 0} → Reported → (Call → A) → (Answer → A) → A
+came reported.Taken call taken f refused g = f call
+came reported.Refused a call taken f refused g = g a
+
+-- a call, fed, as `fedWrite` and `fedRead` have it
+unfoldable pub fed : Call → (payload buffer : List ℕ) → (ℕ → Lending) → List Made → List BusOutcome → Read
+fed call payload buffer lent done [] =
+    let work : List ℕ = lent (length done) .work in
+    let shown : List ℕ = workAfter call payload (length buffer) work in
+    let waits : ℕ = tallyOf call .waits in
+    shows nextOf call payload (length buffer) (length work) sending partOf call payload shown
+    transfer (λ t. Waiting (record { transfers = done ++ (t ∷ []); waits = waits }) leaving buffer)
+    answer (λ a. answered a (record { transfers = done; waits = waits }) [] leaving buffer)
+fed call payload buffer lent done (o ∷ outcomes) =
+    let work : List ℕ = lent (length done) .work in
+    let bytes : Made → List ℕ = λ t. reply t (lent (length done) .beside) o in
+    let shown : List ℕ = workAfter call payload (length buffer) work in
+    let waits : ℕ = tallyOf call .waits in
+    shows nextOf call payload (length buffer) (length work) sending partOf call payload shown
+    transfer (λ t. came reportOf call (told o) (bytes t) (length payload) (length buffer) (length shown)
+    taken (λ next. fed next payload (bufferAfter call (told o) (bytes t) buffer (length shown)) lent (done ++ (t ∷ [])) outcomes)
+    refused (λ a. answered a (record { transfers = done ++ (t ∷ []); waits = waits }) outcomes leaving buffer))
+    answer (λ a. answered a (record { transfers = done; waits = waits }) (o ∷ outcomes) leaving buffer)
+
+-- ---- the Rust
+
+-- its function of a kind's name; a writing one leaves the buffer as it was, and the override's figures are those of the ten bytes
+abbrev pub rustOf : Kind → Config → (payload buffer : List ℕ) → List BusOutcome → Read
+rustOf kind.WriteWithRetries config payload buffer os = rust.writeWithRetries config payload (config .«pec_write») begun os leaving buffer
+rustOf (kind.WriteRegister address) config payload buffer os = rust.writeRegister config address payload begun os leaving buffer
+rustOf (kind.ReadRegister address) config payload buffer os = rust.readRegister config address buffer begun os
+rustOf (kind.DispatchCommand address) config payload buffer os = rust.dispatchCommand config address payload buffer begun os
+rustOf (kind.WriteBuffer address) config payload buffer os = rust.bufferWrite config address payload begun os leaving buffer
+rustOf (kind.ReadBuffer address) config payload buffer os = rust.bufferRead config address buffer begun os
+rustOf kind.WriteSecurityKeys config payload buffer os = rust-r5.writeSecurityKeys config payload begun os leaving buffer
+rustOf kind.ReadSecurityKeys config payload buffer os = rust-r5.readSecurityKeys config buffer begun os
+rustOf kind.WriteAuthenticationKey config payload buffer os = rust-r5.writeAuthenticationKey config payload begun os leaving buffer
+rustOf kind.ReadAuthenticationKey config payload buffer os = rust-r5.readAuthenticationKey config buffer begun os
+rustOf kind.WriteChargingVoltageOverride config payload buffer os = rust-r5.writeChargingVoltageOverride config (overrideOf payload) begun os leaving buffer
+rustOf kind.ReadChargingVoltageOverride config payload buffer os = rust-r5.readChargingVoltageOverride config buffer begun os
+rustOf (kind.WriteRegisterUnchecked address) config payload buffer os = rust-r5.writeRegisterUnchecked config address payload begun os leaving buffer
+rustOf (kind.ReadRegisterUnchecked address) config payload buffer os = rust-r5.readRegisterUnchecked config address buffer begun os
+rustOf (kind.SendAccessKey lower upper) config payload buffer os = rust-r5.sendAccessKey config lower upper begun os leaving buffer
+rustOf (kind.UnsealFg lower upper) config payload buffer os = rust-r5.unsealFg config lower upper begun os leaving buffer
+rustOf (kind.WriteMfgInfoC lower upper) config payload buffer os = rust-r5.writeMfgInfoC config lower upper payload begun os leaving buffer
+rustOf kind.ReadMfgInfoC config payload buffer os = rust-r5.readMfgInfoC config buffer begun os
+rustOf kind.WriteMfgInfo config payload buffer os = rust-r5.writeMfgInfo config payload begun os leaving buffer
+rustOf kind.ReadMfgInfo config payload buffer os = rust-r5.readMfgInfo config buffer begun os
+rustOf (kind.WriteDataflash address) config payload buffer os = rust-r5.writeDataflash config address payload begun os leaving buffer
+rustOf (kind.ReadDataflash address) config payload buffer os = rust-r5.readDataflash config address buffer begun os
+
+-- where the Rust has such a call and does not panic: a key, an override and an access key have their own lengths, and a length is one of the machine's
+-- 64-bit numbers
+abbrev pub Defined : Kind → Config → (payload buffer : List ℕ) → Type 0
+Defined kind.WriteWithRetries config payload buffer = rust.writePanics (config .«pec_write») payload ≡ false
+Defined (kind.WriteRegister address) config payload buffer = Unit {0}
+Defined (kind.ReadRegister address) config payload buffer = Unit {0}
+Defined (kind.DispatchCommand address) config payload buffer = rust.dispatchPanics payload buffer ≡ false
+Defined (kind.WriteBuffer address) config payload buffer = Unit {0}
+Defined (kind.ReadBuffer address) config payload buffer = length buffer ≤ 18446744073709551615
+Defined kind.WriteSecurityKeys config payload buffer = length payload ≡ 28
+Defined kind.ReadSecurityKeys config payload buffer = length buffer ≡ 28
+Defined kind.WriteAuthenticationKey config payload buffer = length payload ≡ 16
+Defined kind.ReadAuthenticationKey config payload buffer = length buffer ≡ 16
+Defined kind.WriteChargingVoltageOverride config payload buffer = (length payload ≡ 10) × ((i : ℕ) → getD payload i 0 < 256)
+Defined kind.ReadChargingVoltageOverride config payload buffer = length buffer ≡ 10
+Defined (kind.WriteRegisterUnchecked address) config payload buffer = rust-r5.uncheckedPanics payload ≡ false
+Defined (kind.ReadRegisterUnchecked address) config payload buffer = length buffer ≤ 18446744073709551615
+Defined (kind.SendAccessKey lower upper) config payload buffer = payload ≡ []
+Defined (kind.UnsealFg lower upper) config payload buffer = payload ≡ []
+Defined (kind.WriteMfgInfoC lower upper) config payload buffer = Unit {0}
+Defined kind.ReadMfgInfoC config payload buffer = Unit {0}
+Defined kind.WriteMfgInfo config payload buffer = Unit {0}
+Defined kind.ReadMfgInfo config payload buffer = Unit {0}
+Defined (kind.WriteDataflash address) config payload buffer = Unit {0}
+Defined (kind.ReadDataflash address) config payload buffer = Unit {0}
+
+-- every kind, for these settings, a work buffer of w bytes at each step, what is lent and these outcomes
+abbrev pub EqualByKind : Config → ℕ → (ℕ → Lending) → List BusOutcome → Type 0
+EqualByKind config w lent outcomes = (kind : Kind) (payload buffer : List ℕ) → Defined kind config payload buffer
+    → fed (startOf kind config (length payload) (length buffer) w) payload buffer lent [] outcomes ≡ rustOf kind config payload buffer outcomes
