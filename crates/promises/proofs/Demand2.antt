@@ -1,7 +1,8 @@
 -- Demand 2 is what `original` proves.
 -- Assumes nothing.
 use Rattle.original.proofs.Equal.{equal}
+use Rattle.original.proofs.ByKind.{equal-by-kind}
 use Rattle.promises.specs.Demand2.{Demand2}
 
 pub demand2 : Demand2
-demand2 = record { equal = equal }
+demand2 = record { equal = equal; by-kind = equal-by-kind }

@@ -8,7 +8,11 @@ use Rattle.protocol.specs.declared.common.Config.{Config}
 use Rattle.original.specs.Bus.{BusOutcome}
 use Rattle.original.specs.Fed.{Lending, Lends}
 use Rattle.original.specs.Equal.{Equal}
+use Rattle.original.specs.ByKind.{EqualByKind}
 
 pub record Demand2 : Type 0 where
   pub equal : (config : Config) → config .«max_bus_retries» ≤ 65535 → (w : ℕ) → 39 ≤ w → (lent : ℕ → Lending) → Lends w lent → (outcomes : List BusOutcome)
       → Equal config w lent outcomes
+  -- and as a host has it: a call started by its kind
+  pub by-kind : (config : Config) → config .«max_bus_retries» ≤ 65535 → (w : ℕ) → 39 ≤ w → (lent : ℕ → Lending) → Lends w lent → (outcomes : List BusOutcome)
+      → EqualByKind config w lent outcomes
