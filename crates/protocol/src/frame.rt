@@ -75,7 +75,7 @@ fn room(work: usize, lead: usize, pair: usize, body: usize) -> bool
 }
 
 // The one builder: a lead, a pair and the body, each perhaps empty, and the PEC where it is on.
-pub fn lay(work: &mut [u8], lead: &[u8], pair: &[u8], body: &[u8], pec: bool) -> Laid
+fn lay(work: &mut [u8], lead: &[u8], pair: &[u8], body: &[u8], pec: bool) -> Laid
     ensures { λ r. ⌜ (r ≡ laidOf pec (now (lead .entry) ++ now (pair .entry) ++ now (body .entry)) (length (now (work .entry)))) × (now (work .exit) ≡ workLaid pec (now (lead .entry) ++ now (pair .entry) ++ now (body .entry)) (now (work .entry))) ⌝ }
 {
     if room(work.len(), lead.len(), pair.len(), body.len()) {
@@ -118,7 +118,7 @@ pub fn lay_command(work: &mut [u8], address: u32, pec: bool) -> Laid
 }
 
 // A MAC frame: 44, the count of what follows, a command pair, the data.
-pub fn lay_mac(work: &mut [u8], pair: &[u8], body: &[u8], pec: bool) -> Laid
+fn lay_mac(work: &mut [u8], pair: &[u8], body: &[u8], pec: bool) -> Laid
     ensures { λ r. ⌜ (r ≡ laidOf pec (macBytes (now (pair .entry)) (now (body .entry))) (length (now (work .entry)))) × (now (work .exit) ≡ workLaid pec (macBytes (now (pair .entry)) (now (body .entry))) (now (work .entry))) ⌝ }
 {
     let lead = [MAC_CMD, ((body.len() + 2) % 256) as u8];

@@ -25,7 +25,7 @@ pub enum Head {
 
 impl Head {
     // Whether there is a frame at all.
-    pub fn some(self) -> bool
+    pub(crate) fn some(self) -> bool
         ensures { λ r. ⌜ r ≡ hasHead self ⌝ }
     {
         match self {
@@ -37,7 +37,7 @@ impl Head {
     }
 
     // The first address of the data flash that is read; 0 where none is.
-    pub fn first_address(self) -> u16
+    pub(crate) fn first_address(self) -> u16
         ensures { λ r. ⌜ r ≡ firstAddress self ⌝ }
     {
         match self {
@@ -49,7 +49,7 @@ impl Head {
     }
 
     // The frame, laid at the front of the work buffer; that of data flash for block i.
-    pub fn lay(self, i: u32, work: &mut [u8], pec: bool) -> Laid
+    pub(crate) fn lay(self, i: u32, work: &mut [u8], pec: bool) -> Laid
         ensures { λ r. ⌜ (r ≡ laidOf pec (headBytes self i) (length (now (work .entry)))) × (now (work .exit) ≡ workLaid pec (headBytes self i) (now (work .entry))) ⌝ }
     {
         match self {
@@ -98,7 +98,7 @@ fn block_ask(left: usize, pec: bool) -> Ask
 
 impl Reads {
     // How many reads there are for a buffer of so many bytes.
-    pub fn count(self, len: usize) -> usize
+    pub(crate) fn count(self, len: usize) -> usize
         ensures { λ r. ⌜ r ≡ readCount self len ⌝ }
     {
         match self {
@@ -109,7 +109,7 @@ impl Reads {
     }
 
     // What read i asks for.
-    pub fn ask(self, len: usize, i: u32) -> Ask
+    pub(crate) fn ask(self, len: usize, i: u32) -> Ask
         ensures { λ r. ⌜ r ≡ askOf self len i ⌝ }
     {
         match self {
@@ -120,7 +120,7 @@ impl Reads {
     }
 
     // How many bytes of a reply are handed over at the most.
-    pub fn most(self, len: usize) -> usize
+    pub(crate) fn most(self, len: usize) -> usize
         ensures { λ r. ⌜ r ≡ mostOf self len ⌝ }
     {
         match self {

@@ -60,7 +60,7 @@ fn lay_info_c(work: &mut [u8], lower: u16, upper: u16, payload: &[u8], i: u32, p
 
 impl Frames {
     // Whether the caller built the frame.
-    pub fn plain(self) -> bool
+    pub(crate) fn plain(self) -> bool
         ensures { λ r. ⌜ r ≡ isPlain self ⌝ }
     {
         match self {
@@ -75,7 +75,7 @@ impl Frames {
     }
 
     // Whether the frames write data flash.
-    pub fn flash(self) -> bool
+    pub(crate) fn flash(self) -> bool
         ensures { λ r. ⌜ r ≡ isFlash self ⌝ }
     {
         match self {
@@ -90,7 +90,7 @@ impl Frames {
     }
 
     // The first address of the data flash that the frames write; 0 where they write none.
-    pub fn first_address(self) -> u16
+    pub(crate) fn first_address(self) -> u16
         ensures { λ r. ⌜ r ≡ firstAddress self ⌝ }
     {
         match self {
@@ -105,7 +105,7 @@ impl Frames {
     }
 
     // How many frames there are for a payload of so many bytes.
-    pub fn count(self, len: usize) -> usize
+    pub(crate) fn count(self, len: usize) -> usize
         ensures { λ r. ⌜ r ≡ frameCount self len ⌝ }
     {
         match self {
@@ -120,7 +120,7 @@ impl Frames {
     }
 
     // Frame i, laid at the front of the work buffer.
-    pub fn lay(self, payload: &[u8], i: u32, work: &mut [u8], pec: bool) -> Laid
+    pub(crate) fn lay(self, payload: &[u8], i: u32, work: &mut [u8], pec: bool) -> Laid
         ensures { λ r. ⌜ (r ≡ laidOf pec (bytesAt self i (now (payload .entry))) (length (now (work .entry)))) × (now (work .exit) ≡ workLaid pec (bytesAt self i (now (payload .entry))) (now (work .entry))) ⌝ }
     {
         match self {
