@@ -2,25 +2,20 @@
 use crate::seen;
 use crate::seen::Seen;
 use fixture::flash;
-use model_gauge::gauge;
-use model_gauge::gauge::Event;
 use model_gauge::gauge::FLASH_BYTES;
+use model_gauge::gauge::Fate;
 use model_gauge::gauge::Gauge;
 use protocol::bytes;
 
 // How much of each end of the flash the blocks lie in.
 const END: usize = 64;
 
-// A frame goes to the gauge, by one event and with the pointer at one address; its flash is first as it was.
-fn send(event: Event, frame: &[u8], pointer: u16, old: &[u8], seen: Seen) -> Seen {
+// A frame goes to the gauge, by one fate and with the pointer at one address; its flash is first as it was.
+fn send(fate: Fate, frame: &[u8], pointer: u16, old: &[u8], seen: Seen) -> Seen {
     let gauge = Gauge { pointer };
     let mut flash = [0u8; 8192];
     bytes::copy_block(&mut flash, old, FLASH_BYTES);
-    gauge::land(event, frame, &mut flash);
-    let heard = seen.transfer(
-        gauge::outcome(event, frame),
-        gauge.after_write(event, frame),
-    );
+    let heard = seen.transfer(gauge.write(fate, frame, &mut flash));
     let middle = FLASH_BYTES - END - END;
     let same = check::same(
         bytes::block(&flash, END, middle),
@@ -33,23 +28,23 @@ fn send(event: Event, frame: &[u8], pointer: u16, old: &[u8], seen: Seen) -> See
 }
 
 // With each pointer.
-fn pointers(event: Event, frame: &[u8], old: &[u8], seen: Seen) -> Seen {
-    let first = send(event, frame, 0x4000, old, seen);
-    let block = send(event, frame, 0x5FE0, old, first);
-    let last = send(event, frame, 0x5FFF, old, block);
-    send(event, frame, 0x6000, old, last)
+fn pointers(fate: Fate, frame: &[u8], old: &[u8], seen: Seen) -> Seen {
+    let first = send(fate, frame, 0x4000, old, seen);
+    let block = send(fate, frame, 0x5FE0, old, first);
+    let last = send(fate, frame, 0x5FFF, old, block);
+    send(fate, frame, 0x6000, old, last)
 }
 
-// By each event.
-fn events(frame: &[u8], old: &[u8], seen: Seen) -> Seen {
-    let heard = pointers(Event::Heard, frame, old, seen);
-    let before = pointers(Event::LostBefore, frame, old, heard);
-    pointers(Event::LostAfter, frame, old, before)
+// By each fate.
+fn fates(frame: &[u8], old: &[u8], seen: Seen) -> Seen {
+    let heard = pointers(Fate::Heard, frame, old, seen);
+    let before = pointers(Fate::LostBefore, frame, old, heard);
+    pointers(Fate::LostAfter, frame, old, before)
 }
 
 // With so many bytes more than the count.
 fn cut(frame: &[u8], count: u8, more: u8, old: &[u8], seen: Seen) -> Seen {
-    events(
+    fates(
         bytes::front(frame, count as usize + more as usize),
         old,
         seen,

@@ -1,37 +1,31 @@
 // Reads of every number.
 use crate::seen;
 use crate::seen::Seen;
-use engine::bus::Outcome;
-use model_gauge::gauge;
-use model_gauge::gauge::Event;
+use model_gauge::gauge::Fate;
 use model_gauge::gauge::Gauge;
 use protocol::bytes;
 
-// A read goes to the gauge; a reply that reaches the host is cut to the number asked.
-fn ask(event: Event, command: u8, count: usize, pointer: u16, flash: &[u8], seen: Seen) -> Seen {
+// A read goes to the gauge, which may reply.
+fn ask(fate: Fate, command: u8, count: usize, pointer: u16, flash: &[u8], seen: Seen) -> Seen {
     let gauge = Gauge { pointer };
-    let reply = gauge.reply(flash);
-    let outcome = gauge::read_outcome(event, command, count);
-    let heard = seen.transfer(outcome, gauge.after_read(event, command, count));
-    match outcome {
-        Outcome::Acknowledged => heard.bytes(bytes::front(&reply, count)),
-        Outcome::BusError(_) => heard,
-        Outcome::Timeout => heard,
-    }
+    let mut reply = [0u8; 36];
+    let effect = gauge.read(fate, command, count, flash, &mut reply);
+    seen.transfer(effect)
+        .bytes(bytes::front(&reply, effect.replied))
 }
 
-// By each event.
-fn events(command: u8, count: usize, pointer: u16, flash: &[u8], seen: Seen) -> Seen {
-    let heard = ask(Event::Heard, command, count, pointer, flash, seen);
-    let before = ask(Event::LostBefore, command, count, pointer, flash, heard);
-    ask(Event::LostAfter, command, count, pointer, flash, before)
+// By each fate.
+fn fates(command: u8, count: usize, pointer: u16, flash: &[u8], seen: Seen) -> Seen {
+    let heard = ask(Fate::Heard, command, count, pointer, flash, seen);
+    let before = ask(Fate::LostBefore, command, count, pointer, flash, heard);
+    ask(Fate::LostAfter, command, count, pointer, flash, before)
 }
 
 // Of 0 to 40 bytes.
 fn numbers(command: u8, pointer: u16, flash: &[u8]) -> Seen {
     let mut seen = Seen::new();
     for count in 0..41usize {
-        seen = events(command, count, pointer, flash, seen);
+        seen = fates(command, count, pointer, flash, seen);
     }
     seen
 }

@@ -3,7 +3,7 @@ use engine::budget;
 use engine::bus::Outcome;
 use fixture::digest;
 use libc::STDOUT_FILENO;
-use model_gauge::gauge::Gauge;
+use model_gauge::gauge::Effect;
 
 // How often the host heard what, how often the flash changed where no block belongs, and a digest of it all.
 pub(crate) struct Seen {
@@ -59,7 +59,9 @@ impl Seen {
     }
 
     // One transfer more: what the host heard of it, and the gauge after it.
-    pub(crate) fn transfer(self, outcome: Outcome, gauge: Gauge) -> Seen {
+    pub(crate) fn transfer(self, effect: Effect) -> Seen {
+        let outcome = effect.outcome;
+        let gauge = effect.gauge;
         self.outcome(outcome).number(gauge.pointer as u64)
     }
 

@@ -1,52 +1,38 @@
--- What the frame reader's users rest on: a form that is not the one they need changes nothing; a reply is its parts one after the other.
+-- What the gauge rests on: which form is neither a block write nor an address; a reply is its parts one after the other, and a read brings its front.
 -- Assumes nothing.
 use Prim.Native.Nat.{ℕ, _+_, _-_, _≤_, min}
 use mathlib.Core.Path.{_≡_, refl, sym, ap, _∙_}
-use mathlib.Core.Bool.{false}
+use mathlib.Core.Bool.{Bool, true, false, false≢true}
 use mathlib.Core.List.{List, [], _∷_, _++_, append-nil}
 use mathlib.Core.Logic.{⊎-elim}
 use native.Mathlib.Omega.{arith}
 use lib.ListN.{length, replicate, take, drop, set, length-append, length-take, length-drop}
-use lib.Seq.{take-length, drop-length}
-use borrow.Author.Tests.{le-leb}
+use lib.Dec.{eqb}
+use lib.Seq.{take-length, drop-length, length-take-le}
+use borrow.Author.Tests.{leb-true, le-leb}
 use types.Run.{OneOf}
 use denote.Enum.Declared.{tagOf}
 use Rattle.protocol.specs.Pick.{if_then_else_}
 use Rattle.protocol.specs.Bytes.{over, blockIn, storedAt}
+use Rattle.protocol.specs.Window.{inWindow}
 use Rattle.protocol.proofs.Laws.{over-set, over-over, take-over, length-over, laid-more}
-use Rattle.model_gauge.specs.Gauge.{storedForm, pointedForm, addressed, takesForm, blockAt}
+use Rattle.engine.specs.Made.{write, read}
+use Rattle.engine.specs.declared.bus.Outcome.the-variants as outcome
+use Rattle.model_gauge.specs.Frame.{readFrame}
+use Rattle.model_gauge.specs.Gauge.{newGauge, blockAt, replyFront, replyOf, movedOf, repliesTo, Effect, taken, untaken, heardFrame, heardRead, acts, stored, effectOf, told}
 use Rattle.model_gauge.specs.declared.frame.Form.{Form}
 use Rattle.model_gauge.specs.declared.frame.Form.the-variants as form
+use Rattle.model_gauge.specs.declared.gauge.Effect as handed
+use Rattle.model_gauge.specs.declared.gauge.Fate.{Fate}
+use Rattle.model_gauge.specs.declared.gauge.Fate.the-variants as fate
 use Rattle.model_gauge.specs.declared.gauge.Gauge.{Gauge}
 use Rattle.model_gauge.proofs.frame.Form.{the-type}
 
--- an address frame and any other store nothing
-pub not-block : (f : Form) (frame flash : List ℕ) → OneOf (1 ∷ 2 ∷ []) (tagOf the-type f) → flash ≡ storedForm f frame flash
-unfolding storedForm
-not-block (form.BlockWrite address count) frame flash k = absurd (⊎-elim (λ e. omega arith) (λ e. omega arith) k)
-not-block (form.Address address) frame flash k = refl
-not-block form.Other frame flash k = refl
-
--- a block write and any other leave the pointer
-pub not-address : (f : Form) (gauge : Gauge) → OneOf (0 ∷ 2 ∷ []) (tagOf the-type f) → gauge ≡ pointedForm f gauge
-unfolding pointedForm
-not-address (form.BlockWrite address count) gauge k = refl
-not-address (form.Address address) gauge k = absurd (⊎-elim (λ e. omega arith) (λ e. omega arith) k)
-not-address form.Other gauge k = refl
-
--- what is no address is not taken as one
-pub no-address : (f : Form) → OneOf (0 ∷ 2 ∷ []) (tagOf the-type f) → false ≡ addressed f
-unfolding addressed
-no-address (form.BlockWrite address count) k = refl
-no-address (form.Address address) k = absurd (⊎-elim (λ e. omega arith) (λ e. omega arith) k)
-no-address form.Other k = refl
-
--- what is no block write is taken as an address or not at all
-pub takes-address : (f : Form) → OneOf (1 ∷ 2 ∷ []) (tagOf the-type f) → addressed f ≡ takesForm f
-unfolding addressed takesForm
-takes-address (form.BlockWrite address count) k = absurd (⊎-elim (λ e. omega arith) (λ e. omega arith) k)
-takes-address (form.Address address) k = refl
-takes-address form.Other k = refl
+-- what is neither a block write nor an address
+pub neither : (f : Form) → OneOf (1 ∷ 2 ∷ []) (tagOf the-type f) → OneOf (0 ∷ 2 ∷ []) (tagOf the-type f) → f ≡ form.Other
+neither (form.BlockWrite address count) k l = absurd (⊎-elim (λ e. omega arith) (λ e. omega arith) k)
+neither (form.Address address) k l = absurd (⊎-elim (λ e. omega arith) (λ e. omega arith) l)
+neither form.Other k l = refl
 
 -- a block that has room is laid whole
 pub block-whole : (most : ℕ) (b w : List ℕ) → length b ≤ most → length b ≤ length w → blockIn most b w ≡ over b w
@@ -65,6 +51,86 @@ stored-whole at most b w h k =
 pub block-long : (at : ℕ) (flash : List ℕ) → length (blockAt at flash) ≡ 32
 unfolding blockAt
 block-long at flash = length-over (take 32 (drop at flash)) (replicate 32 0xFF) (simp length-take (omega arith))
+
+pub reply-long : (gauge : Gauge) (flash : List ℕ) → length (replyOf gauge flash) ≡ 36
+unfolding replyOf replyFront
+reply-long gauge flash = simp (length-append, block-long) (omega arith)
+
+-- a read that is replied to asks for no more than there is
+replies-few : (command count : ℕ) → repliesTo command count ≡ true → count ≤ 36
+unfolding repliesTo if_then_else_
+replies-few command count t = by (eqb command 0x44) refl
+  where
+    by : (here : Bool) → eqb command 0x44 ≡ here → count ≤ 36
+    by true here = leb-true count 36 (rw here at t)
+    by false here = absurd (false≢true (rw here at t))
+
+-- what a frame stores, wherever the gauge points
+either-stores : (t : Bool) (a b c d : Effect) → a .flash ≡ c .flash → b .flash ≡ d .flash → (if t then a else b) .flash ≡ (if t then c else d) .flash
+unfolding if_then_else_
+either-stores true a b c d e f = e
+either-stores false a b c d e f = f
+
+form-stores : (f : Form) (frame : List ℕ) (gauge other : Gauge) (flash : List ℕ) → heardFrame f frame gauge flash .flash ≡ heardFrame f frame other flash .flash
+unfolding heardFrame
+form-stores (form.BlockWrite address count) frame gauge other flash = either-stores (inWindow address count) _ _ _ _ refl refl
+form-stores (form.Address address) frame gauge other flash = either-stores (inWindow address 1) _ _ _ _ refl refl
+form-stores form.Other frame gauge other flash = refl
+
+pub stores : (frame : List ℕ) (gauge : Gauge) (flash : List ℕ) → acts (write frame) gauge flash .flash ≡ stored frame flash
+unfolding stored acts
+stores frame gauge flash = form-stores (readFrame frame) frame gauge newGauge flash
+
+-- what a read comes to
+module _ (command count : ℕ) (gauge : Gauge) (flash : List ℕ) where
+  pub read-taken : repliesTo command count ≡ true → acts (read command count) gauge flash ≡ taken (take count (replyOf gauge flash)) (movedOf gauge) flash
+  unfolding acts heardRead if_then_else_
+  read-taken t = rw t
+
+  pub read-untaken : repliesTo command count ≡ false → acts (read command count) gauge flash ≡ untaken gauge flash
+  unfolding acts heardRead if_then_else_
+  read-untaken t = rw t
+
+  pub read-told : repliesTo command count ≡ true → record { outcome = outcome.Acknowledged; replied = count; gauge = movedOf gauge } ≡ told (acts (read command count) gauge flash)
+  read-told t =
+      let few : count ≤ length (replyOf gauge flash) = omega (arith, replies-few command count t, reply-long gauge flash) in
+      rw (read-taken t, length-take-le count (replyOf gauge flash) few)
+
+  pub read-stores : acts (read command count) gauge flash .flash ≡ flash
+  read-stores = by (repliesTo command count) refl
+    where
+      by : (t : Bool) → repliesTo command count ≡ t → acts (read command count) gauge flash .flash ≡ flash
+      by true t = rw (read-taken t)
+      by false t = rw (read-untaken t)
+
+  -- it brings the reply's front or nothing
+  acts-brings : (t : Bool) → repliesTo command count ≡ t
+      → (take (length (acts (read command count) gauge flash .reply)) (replyOf gauge flash) ≡ acts (read command count) gauge flash .reply)
+      × (length (acts (read command count) gauge flash .reply) ≤ 36)
+  acts-brings true t =
+      let few : count ≤ length (replyOf gauge flash) = omega (arith, replies-few command count t, reply-long gauge flash) in
+      (rw (read-taken t, length-take-le count (replyOf gauge flash) few), rw (read-taken t, length-take-le count (replyOf gauge flash) few) (replies-few command count t))
+  acts-brings false t = (rw (read-untaken t), rw (read-untaken t) (omega arith))
+
+  pub read-brings : (f : Fate)
+      → (take (length (effectOf f (read command count) gauge flash .reply)) (replyOf gauge flash) ≡ effectOf f (read command count) gauge flash .reply)
+      × (length (effectOf f (read command count) gauge flash .reply) ≤ 36)
+  unfolding effectOf
+  read-brings fate.Heard = acts-brings (repliesTo command count) refl
+  read-brings fate.LostBefore = (refl, omega arith)
+  read-brings fate.LostAfter = (refl, omega arith)
+
+  -- which is lent where what is handed back says how long it is
+  pub read-lent : (f : Fate) (r : handed.Effect) (whole part w v : List ℕ) → ((bytes : List ℕ) → r ≡ told (effectOf f (read command count) gauge bytes))
+      → whole ≡ replyOf gauge flash → part ≡ take (r .replied) whole → v ≡ blockIn 36 part w → v ≡ blockIn 36 (effectOf f (read command count) gauge flash .reply) w
+  read-lent f r whole part w v known all cut laid = laid ∙ rw (cut, all, known flash, read-brings f .0)
+
+  -- and stands at the front of 36 lent bytes
+  pub read-back : (f : Fate) (w : List ℕ) → length w ≡ 36
+      → take (length (effectOf f (read command count) gauge flash .reply)) (blockIn 36 (effectOf f (read command count) gauge flash .reply) w) ≡ effectOf f (read command count) gauge flash .reply
+  read-back f w long =
+      let few = read-brings f .1 in
+      rw (block-whole 36 (effectOf f (read command count) gauge flash .reply) w few (omega arith)) (take-over (effectOf f (read command count) gauge flash .reply) w)
 
 -- three bytes, 32 more and the PEC fill a reply
 module _ (lead block w w1 w2 : List ℕ) (led : length lead ≡ 3) (blocked : length block ≡ 32) (long : length w ≡ 36)

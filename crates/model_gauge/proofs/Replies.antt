@@ -5,32 +5,23 @@ use mathlib.Core.Path.{_≡_, refl, ap}
 use mathlib.Core.Bool.{true, false}
 use mathlib.Core.List.{List, [], _∷_, _++_}
 use native.Mathlib.Omega.{arith}
-use lib.ListN.{length, take, drop, replicate, length-append}
+use lib.ListN.{length, take, drop, replicate}
 use lib.Seq.{take-nil}
 use borrow.Author.Tests.{le-leb, lt-leb, ne-eqb}
 use Rattle.smbus_pec.specs.Pec.{pecOf}
 use Rattle.protocol.specs.Pick.{if_then_else_}
 use Rattle.protocol.specs.Bytes.{over}
-use Rattle.engine.specs.declared.bus.Outcome.the-variants as outcome
-use Rattle.model_gauge.specs.Gauge.{actedOf, heardOf, repliesTo, blockAt, replyFront, replyOf, movedOf, repliedOf, readAfter, readOutcome}
-use Rattle.model_gauge.specs.Replies.{Replies, said}
-use Rattle.model_gauge.specs.declared.gauge.Event.{Event}
-use Rattle.model_gauge.specs.declared.gauge.Event.the-variants as event
+use Rattle.engine.specs.Made.{read}
+use Rattle.model_gauge.specs.Gauge.{blockAt, replyFront, replyOf, movedOf, repliesTo, taken, effectOf}
+use Rattle.model_gauge.specs.Replies.{Replies, said, Unreplied}
+use Rattle.model_gauge.specs.declared.gauge.Fate.{Fate}
+use Rattle.model_gauge.specs.declared.gauge.Fate.the-variants as fate
 use Rattle.model_gauge.specs.declared.gauge.Gauge.{Gauge}
-use Rattle.model_gauge.proofs.Laws.{block-long}
-use Rattle.model_gauge.proofs.Untaken.{untaken}
+use Rattle.model_gauge.proofs.Laws.{reply-long, read-taken, read-untaken, read-stores}
 
 replies : (count : ℕ) → count ≤ 36 → repliesTo 0x44 count ≡ true
 unfolding repliesTo if_then_else_
 replies count h = le-leb count 36 h
-
-acknowledged : (count : ℕ) → count ≤ 36 → readOutcome event.Heard 0x44 count ≡ outcome.Acknowledged
-unfolding readOutcome heardOf if_then_else_
-acknowledged count h = rw (replies count h)
-
-moved : (count : ℕ) (gauge : Gauge) → count ≤ 36 → readAfter event.Heard 0x44 count gauge ≡ record { pointer = min (gauge .pointer + 32) 0x6000 }
-unfolding readAfter actedOf repliedOf movedOf if_then_else_
-moved count gauge h = rw (replies count h)
 
 no-more : (count : ℕ) → 36 < count → repliesTo 0x44 count ≡ false
 unfolding repliesTo if_then_else_
@@ -41,9 +32,22 @@ unfolding repliesTo if_then_else_
 no-other command count h = rw (ne-eqb command 0x44 h)
 
 -- a read that the gauge does not reply to is a bus error and leaves the pointer
-unreplied : (e : Event) (command count : ℕ) (gauge : Gauge) → repliesTo command count ≡ false
-    → (readOutcome event.Heard command count ≡ outcome.BusError 0) × (readAfter e command count gauge ≡ gauge)
-unreplied e command count gauge t = let both = untaken .reads e command count gauge t in (both .1, both .0)
+unreplied : (command count : ℕ) → repliesTo command count ≡ false → Unreplied command count
+unfolding effectOf
+unreplied command count t fate.Heard gauge flash = (read-untaken command count gauge flash t, rw (read-untaken command count gauge flash t))
+unreplied command count t fate.LostBefore gauge flash = (read-untaken command count gauge flash t, refl)
+unreplied command count t fate.LostAfter gauge flash = (read-untaken command count gauge flash t, rw (read-untaken command count gauge flash t))
+
+flash-still : (f : Fate) (command count : ℕ) (gauge : Gauge) (flash : List ℕ) → effectOf f (read command count) gauge flash .flash ≡ flash
+unfolding effectOf
+flash-still fate.Heard command count gauge flash = read-stores command count gauge flash
+flash-still fate.LostBefore command count gauge flash = refl
+flash-still fate.LostAfter command count gauge flash = read-stores command count gauge flash
+
+asks : (count : ℕ) (gauge : Gauge) (flash : List ℕ) → count ≤ 36
+    → effectOf fate.Heard (read 0x44 count) gauge flash ≡ taken (take count (replyOf gauge flash)) (record { pointer = min (gauge .pointer + 32) 0x6000 }) flash
+unfolding effectOf movedOf
+asks count gauge flash h = read-taken 0x44 count gauge flash (replies count h)
 
 -- n bytes of a list, and v for each that it lacks
 filled : (n m v : ℕ) (bytes : List ℕ) → n ≤ m → over (take n bytes) (replicate n v) ≡ take n (bytes ++ replicate m v)
@@ -61,16 +65,13 @@ reply-said : (gauge : Gauge) (flash : List ℕ) → replyOf gauge flash ≡ said
 unfolding replyOf
 reply-said gauge flash = ap (λ (l : List ℕ). l ++ (pecOf 0 (0x16 ∷ 0x44 ∷ 0x17 ∷ l) ∷ [])) (front-said gauge flash)
 
-reply-long : (gauge : Gauge) (flash : List ℕ) → length (replyOf gauge flash) ≡ 36
-unfolding replyOf replyFront
-reply-long gauge flash = simp (length-append, block-long) (omega arith)
-
 -- which reads the gauge replies to, and what it replies
 pub replied : Replies
 replied = record {
-  asked = λ count gauge h. (acknowledged count h, moved count gauge h);
-  too-many = λ e count gauge h. unreplied e 0x44 count gauge (no-more count h);
-  other-command = λ e command count gauge h. unreplied e command count gauge (no-other command count h);
+  asked = asks;
+  too-many = λ count h. unreplied 0x44 count (no-more count h);
+  other-command = λ command count h. unreplied command count (no-other command count h);
+  flash = flash-still;
   reply = reply-said;
   whole = reply-long;
 }

@@ -16,15 +16,12 @@ use Rattle.protocol.specs.Bytes.{storedAt}
 use Rattle.protocol.specs.Frame.{sealed}
 use Rattle.protocol.specs.Window.{inWindow}
 use Rattle.protocol.proofs.Shared.{laws}
-use Rattle.engine.specs.declared.bus.Outcome.the-variants as outcome
 use Rattle.model_gauge.specs.Frame.{readFrame}
-use Rattle.model_gauge.specs.Gauge.{storedForm, stored, pointedForm, pointed, takesForm, takes, flashAfter, actedOf, gaugeAfter, heardOf, outcomeOf}
+use Rattle.model_gauge.specs.Gauge.{taken as taking, untaken, heardFrame, acts, effectOf}
 use Rattle.model_gauge.specs.Forms.{counted}
-use Rattle.model_gauge.specs.Taken.{Taken}
+use Rattle.model_gauge.specs.Taken.{Taken, sent}
 use Rattle.model_gauge.specs.declared.frame.Form.the-variants as form
-use Rattle.model_gauge.specs.declared.gauge.Event.the-variants as event
 use Rattle.model_gauge.specs.declared.gauge.Gauge.{Gauge}
-use Rattle.model_gauge.proofs.Untaken.{untaken}
 use Rattle.model_gauge.proofs.Forms.{forms}
 
 -- ---- the window in numbers
@@ -66,39 +63,23 @@ laid o room bytes flash r = by (leb o (length flash)) refl
 
 -- ---- by what was read
 
-heard : (frame : List ℕ) → takes frame ≡ true → outcomeOf event.Heard frame ≡ outcome.Acknowledged
-unfolding outcomeOf heardOf if_then_else_
-heard frame t = rw t
+module _ (frame : List ℕ) (at : ℕ) (gauge : Gauge) (flash : List ℕ) where
+  block-in : (bytes : List ℕ) → readFrame frame ≡ form.BlockWrite at (length bytes) → inWindow at (length bytes) ≡ true → take (length bytes) (drop 4 frame) ≡ bytes
+      → sent frame gauge flash ≡ taking [] gauge (storedAt (at - 0x4000) (length bytes) bytes flash)
+  unfolding effectOf acts heardFrame if_then_else_
+  block-in bytes read w back = rw (read, w, back)
 
-unheard : (frame flash : List ℕ) (gauge : Gauge) → takes frame ≡ false
-    → (outcomeOf event.Heard frame ≡ outcome.BusError 0) × (flashAfter event.Heard frame flash ≡ flash) × (gaugeAfter event.Heard frame gauge ≡ gauge)
-unheard frame flash gauge t = let (kept, still, error) = untaken .frames event.Heard frame flash gauge t in (error, kept, still)
+  block-out : (n : ℕ) → readFrame frame ≡ form.BlockWrite at n → inWindow at n ≡ false → sent frame gauge flash ≡ untaken gauge flash
+  unfolding effectOf acts heardFrame if_then_else_
+  block-out n read w = rw (read, w)
 
-module _ (frame : List ℕ) (at n : ℕ) (read : readFrame frame ≡ form.BlockWrite at n) where
-  takes-block : takes frame ≡ inWindow at n
-  unfolding takes takesForm
-  takes-block = rw read
+  address-in : readFrame frame ≡ form.Address at → inWindow at 1 ≡ true → sent frame gauge flash ≡ taking [] (record { pointer = at }) flash
+  unfolding effectOf acts heardFrame if_then_else_
+  address-in read w = rw (read, w)
 
-  stores-block : (bytes flash : List ℕ) → inWindow at n ≡ true → take n (drop 4 frame) ≡ bytes → flashAfter event.Heard frame flash ≡ storedAt (at - 0x4000) n bytes flash
-  unfolding flashAfter stored storedForm if_then_else_
-  stores-block bytes flash w back = rw (read, w, back)
-
-  block-points : (gauge : Gauge) → gaugeAfter event.Heard frame gauge ≡ gauge
-  unfolding gaugeAfter actedOf pointed pointedForm
-  block-points gauge = rw read
-
-module _ (frame : List ℕ) (at : ℕ) (read : readFrame frame ≡ form.Address at) where
-  takes-address : takes frame ≡ inWindow at 1
-  unfolding takes takesForm
-  takes-address = rw read
-
-  address-stores : (flash : List ℕ) → flashAfter event.Heard frame flash ≡ flash
-  unfolding flashAfter stored storedForm
-  address-stores flash = rw read
-
-  address-points : (gauge : Gauge) → inWindow at 1 ≡ true → gaugeAfter event.Heard frame gauge ≡ record { pointer = at }
-  unfolding gaugeAfter actedOf pointed pointedForm if_then_else_
-  address-points gauge w = rw (read, w)
+  address-out : readFrame frame ≡ form.Address at → inWindow at 1 ≡ false → sent frame gauge flash ≡ untaken gauge flash
+  unfolding effectOf acts heardFrame if_then_else_
+  address-out read w = rw (read, w)
 
 -- ---- of the frames themselves
 
@@ -119,22 +100,12 @@ address-read pec low high at here = rw here (forms .address pec low high)
 pub taken : Taken
 taken = record {
   block = λ pec low high at room bytes flash gauge here fits some few from to.
-      let frame : List ℕ = counted pec low high bytes in
-      let read : readFrame frame ≡ form.BlockWrite at (length bytes) = block-read pec low high at bytes here some few in
-      let within : inWindow at (length bytes) ≡ true = inside at (length bytes) some from to in (
-        heard frame (takes-block frame at (length bytes) read ∙ within),
-        stores-block frame at (length bytes) read bytes flash within (data-back pec low high bytes) ∙ laid (at - 0x4000) room bytes flash fits,
-        block-points frame at (length bytes) read gauge,
-      );
+      block-in (counted pec low high bytes) at gauge flash bytes (block-read pec low high at bytes here some few) (inside at (length bytes) some from to) (data-back pec low high bytes)
+      ∙ ap (λ (l : List ℕ). taking [] gauge l) (laid (at - 0x4000) room bytes flash fits);
   block-outside = λ pec low high at bytes flash gauge here some few off.
-      let frame : List ℕ = counted pec low high bytes in
-      unheard frame flash gauge (takes-block frame at (length bytes) (block-read pec low high at bytes here some few) ∙ outside at (length bytes) some off);
+      block-out (counted pec low high bytes) at gauge flash (length bytes) (block-read pec low high at bytes here some few) (outside at (length bytes) some off);
   address = λ pec low high at flash gauge here from to.
-      let frame : List ℕ = counted pec low high [] in
-      let read : readFrame frame ≡ form.Address at = address-read pec low high at here in
-      let within : inWindow at 1 ≡ true = inside at 1 (omega arith) from (omega arith) in
-      (heard frame (takes-address frame at read ∙ within), address-stores frame at read flash, address-points frame at read gauge within);
+      address-in (counted pec low high []) at gauge flash (address-read pec low high at here) (inside at 1 (omega arith) from (omega arith));
   address-outside = λ pec low high at flash gauge here off.
-      let frame : List ℕ = counted pec low high [] in
-      unheard frame flash gauge (takes-address frame at (address-read pec low high at here) ∙ outside at 1 (omega arith) (⊎-map (λ h. h) (λ h. omega arith) off));
+      address-out (counted pec low high []) at gauge flash (address-read pec low high at here) (outside at 1 (omega arith) (⊎-map (λ h. h) (λ h. omega arith) off));
 }

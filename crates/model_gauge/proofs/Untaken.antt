@@ -1,69 +1,53 @@
--- What the gauge does not take changes nothing: each form that is stored or points is one that is taken.
+-- What the gauge does not take changes nothing: a transfer that is heard is acknowledged, or comes to the one effect of what is not taken.
 -- Assumes nothing.
 use Prim.Native.Nat.{ℕ}
 use mathlib.Core.Path.{_≡_, refl}
-use mathlib.Core.Bool.{false}
+use mathlib.Core.Bool.{Bool, true, false}
 use mathlib.Core.List.{List}
 use Rattle.protocol.specs.Pick.{if_then_else_}
+use Rattle.protocol.specs.Window.{inWindow}
+use Rattle.engine.specs.Made.{Made, write, read}
 use Rattle.engine.specs.declared.bus.Outcome.the-variants as outcome
 use Rattle.model_gauge.specs.Frame.{readFrame}
-use Rattle.model_gauge.specs.Gauge.{storedForm, stored, pointedForm, pointed, takesForm, takes, flashAfter, actedOf, gaugeAfter, heardOf, outcomeOf, repliesTo, repliedOf, readAfter, readOutcome}
+use Rattle.model_gauge.specs.Gauge.{repliesTo, taken, untaken as nothing, heardFrame, heardRead, acts, effectOf}
 use Rattle.model_gauge.specs.Untaken.{Untaken}
 use Rattle.model_gauge.specs.declared.frame.Form.{Form}
 use Rattle.model_gauge.specs.declared.frame.Form.the-variants as form
-use Rattle.model_gauge.specs.declared.gauge.Event.{Event}
-use Rattle.model_gauge.specs.declared.gauge.Event.the-variants as event
+use Rattle.model_gauge.specs.declared.gauge.Fate.{Fate}
+use Rattle.model_gauge.specs.declared.gauge.Fate.the-variants as fate
 use Rattle.model_gauge.specs.declared.gauge.Gauge.{Gauge}
 
-not-taken : (frame : List ℕ) → readFrame frame ≡ form.Other → takes frame ≡ false
-unfolding takes takesForm
-not-taken frame e = rw e
+-- taken, or not
+taken-or-not : (t : Bool) (gauge : Gauge) (flash reply : List ℕ) (pointed : Gauge) (stored : List ℕ)
+    → ((if t then taken reply pointed stored else nothing gauge flash) .outcome ≡ outcome.Acknowledged → ⊥)
+    → (if t then taken reply pointed stored else nothing gauge flash) ≡ nothing gauge flash
+unfolding if_then_else_
+taken-or-not true gauge flash reply pointed stored never = absurd (never refl)
+taken-or-not false gauge flash reply pointed stored never = refl
 
-stores-none : (f : Form) (frame flash : List ℕ) → takesForm f ≡ false → storedForm f frame flash ≡ flash
-unfolding takesForm storedForm if_then_else_
-stores-none (form.BlockWrite address count) frame flash e = rw e
-stores-none (form.Address address) frame flash e = refl
-stores-none form.Other frame flash e = refl
+frame-untaken : (f : Form) (frame : List ℕ) (gauge : Gauge) (flash : List ℕ) → (heardFrame f frame gauge flash .outcome ≡ outcome.Acknowledged → ⊥) → heardFrame f frame gauge flash ≡ nothing gauge flash
+unfolding heardFrame
+frame-untaken (form.BlockWrite address count) frame gauge flash never = taken-or-not (inWindow address count) gauge flash _ _ _ never
+frame-untaken (form.Address address) frame gauge flash never = taken-or-not (inWindow address 1) gauge flash _ _ _ never
+frame-untaken form.Other frame gauge flash never = refl
 
-points-none : (f : Form) (gauge : Gauge) → takesForm f ≡ false → pointedForm f gauge ≡ gauge
-unfolding takesForm pointedForm if_then_else_
-points-none (form.BlockWrite address count) gauge e = refl
-points-none (form.Address address) gauge e = rw e
-points-none form.Other gauge e = refl
+acts-untaken : (made : Made) (gauge : Gauge) (flash : List ℕ) → (acts made gauge flash .outcome ≡ outcome.Acknowledged → ⊥) → acts made gauge flash ≡ nothing gauge flash
+unfolding acts heardRead
+acts-untaken (write frame) gauge flash never = frame-untaken (readFrame frame) frame gauge flash never
+acts-untaken (read command count) gauge flash never = taken-or-not (repliesTo command count) gauge flash _ _ _ never
 
-flash-kept : (e : Event) (frame flash : List ℕ) → takes frame ≡ false → flashAfter e frame flash ≡ flash
-unfolding takes stored flashAfter
-flash-kept event.Heard frame flash t = stores-none (readFrame frame) frame flash t
-flash-kept event.LostBefore frame flash t = refl
-flash-kept event.LostAfter frame flash t = stores-none (readFrame frame) frame flash t
-
--- a gauge that does not act stays as it is
-acted-kept : (e : Event) (gauge acted : Gauge) → acted ≡ gauge → actedOf e gauge acted ≡ gauge
-unfolding actedOf
-acted-kept event.Heard gauge acted p = p
-acted-kept event.LostBefore gauge acted p = refl
-acted-kept event.LostAfter gauge acted p = p
-
-gauge-kept : (e : Event) (frame : List ℕ) (gauge : Gauge) → takes frame ≡ false → gaugeAfter e frame gauge ≡ gauge
-unfolding takes pointed gaugeAfter
-gauge-kept e frame gauge t = acted-kept e gauge (pointed frame gauge) (points-none (readFrame frame) gauge t)
-
-read-kept : (e : Event) (command count : ℕ) (gauge : Gauge) → repliesTo command count ≡ false → readAfter e command count gauge ≡ gauge
-unfolding readAfter repliedOf if_then_else_
-read-kept e command count gauge t = acted-kept e gauge (repliedOf command count gauge) (rw t)
-
-not-heard : (frame : List ℕ) → takes frame ≡ false → outcomeOf event.Heard frame ≡ outcome.BusError 0
-unfolding outcomeOf heardOf if_then_else_
-not-heard frame t = rw t
-
-not-replied : (command count : ℕ) → repliesTo command count ≡ false → readOutcome event.Heard command count ≡ outcome.BusError 0
-unfolding readOutcome heardOf if_then_else_
-not-replied command count t = rw t
+keeps : (f : Fate) (made : Made) (gauge : Gauge) (flash : List ℕ) → acts made gauge flash ≡ nothing gauge flash
+    → (effectOf f made gauge flash .flash ≡ flash) × (effectOf f made gauge flash .gauge ≡ gauge)
+unfolding effectOf
+keeps fate.Heard made gauge flash e = (rw e, rw e)
+keeps fate.LostBefore made gauge flash e = (refl, refl)
+keeps fate.LostAfter made gauge flash e = (rw e, rw e)
 
 -- what is not taken changes nothing
 pub untaken : Untaken
+unfolding acts heardFrame effectOf
 untaken = record {
-  other = not-taken;
-  frames = λ e frame flash gauge t. (flash-kept e frame flash t, gauge-kept e frame gauge t, not-heard frame t);
-  reads = λ e command count gauge t. (read-kept e command count gauge t, not-replied command count t);
+  other = λ frame flash gauge e. rw e;
+  heard = acts-untaken;
+  still = λ f made gauge flash never. keeps f made gauge flash (acts-untaken made gauge flash never);
 }

@@ -2,18 +2,18 @@
 -- Assumes nothing.
 use Prim.Native.Nat.{ℕ}
 use mathlib.Core.Path.{_≡_, refl}
-use mathlib.Core.Bool.{false}
 use mathlib.Core.List.{List, [], _∷_, _++_}
 use lib.ListN.{take, replicate}
 use Rattle.smbus_pec.specs.Pec.{bitStep, bitSteps, byteStep, pecOf}
 use Rattle.protocol.specs.Pick.{if_then_else_}
 use Rattle.protocol.specs.Bytes.{over, blockIn, storedAt}
 use Rattle.protocol.specs.Window.{inWindow}
+use Rattle.engine.specs.Made.{Made, write, read}
 use Rattle.engine.specs.declared.bus.Outcome.the-variants as outcome
 use Rattle.model_gauge.specs.Frame.{wholeOf, formOf, readFrame}
-use Rattle.model_gauge.specs.Gauge.{newGauge, storedForm, stored, pointedForm, pointed, takesForm, takes, flashAfter, actedOf, gaugeAfter, heardOf, outcomeOf, repliesTo, readOutcome, blockAt, replyFront, replyOf, movedOf, repliedOf, readAfter}
+use Rattle.model_gauge.specs.Gauge.{newGauge, blockAt, replyFront, replyOf, movedOf, repliesTo, Effect, taken, untaken, heardFrame, heardRead, acts, effectOf}
 use Rattle.model_gauge.specs.declared.frame.Form.the-variants as form
-use Rattle.model_gauge.specs.declared.gauge.Event.the-variants as event
+use Rattle.model_gauge.specs.declared.gauge.Fate.the-variants as fate
 use Rattle.model_gauge.specs.declared.gauge.Gauge.{Gauge}
 
 -- the gauge that reads from an address on
@@ -21,8 +21,8 @@ abbrev pub reading : ℕ → Gauge
 reading address = record { pointer = address }
 
 -- 44, a count, the address 4000 hex, and n bytes 07
-abbrev pub write : ℕ → ℕ → List ℕ
-write count n = 0x44 ∷ count ∷ 0x00 ∷ 0x40 ∷ replicate n 7
+abbrev pub sevens : ℕ → ℕ → List ℕ
+sevens count n = 0x44 ∷ count ∷ 0x00 ∷ 0x40 ∷ replicate n 7
 
 -- the address frame of a low and a high byte
 abbrev pub pointing : ℕ → ℕ → List ℕ
@@ -36,92 +36,90 @@ before-start = 0x44 ∷ 3 ∷ 0xFF ∷ 0x3F ∷ 7 ∷ []
 abbrev pub past-end : List ℕ
 past-end = 0x44 ∷ 4 ∷ 0xFF ∷ 0x5F ∷ 7 ∷ 7 ∷ []
 
+-- a frame that is heard sets the pointer to an address; it is not taken
+abbrev pub Points : List ℕ → ℕ → Type 0
+Points frame address = (gauge : Gauge) (flash : List ℕ) → effectOf fate.Heard (write frame) gauge flash ≡ taken [] (reading address) flash
+
+abbrev pub Untaken : Made → Type 0
+Untaken made = (gauge : Gauge) (flash : List ℕ) → effectOf fate.Heard made gauge flash ≡ untaken gauge flash
+
 pub record Figures : Type 0 where
   -- a new gauge reads from 4000 on
   pub new : newGauge ≡ reading 0x4000
   -- an address frame sets the pointer, without its PEC and with it
-  pub address : (gauge : Gauge) → gaugeAfter event.Heard (pointing 0x00 0x40) gauge ≡ reading 0x4000
-  pub address-pec : (gauge : Gauge) → gaugeAfter event.Heard (0x44 ∷ 0x02 ∷ 0x00 ∷ 0x40 ∷ 0xAB ∷ []) gauge ≡ reading 0x4000
-  -- one at 5FFF does, those at 3FFF and 6000 leave it
-  pub address-last : (gauge : Gauge) → gaugeAfter event.Heard (pointing 0xFF 0x5F) gauge ≡ reading 0x5FFF
-  pub address-before : (gauge : Gauge) → gaugeAfter event.Heard (pointing 0xFF 0x3F) gauge ≡ gauge
-  pub address-past : (gauge : Gauge) → gaugeAfter event.Heard (pointing 0x00 0x60) gauge ≡ gauge
+  pub address : Points (pointing 0x00 0x40) 0x4000
+  pub address-pec : Points (0x44 ∷ 0x02 ∷ 0x00 ∷ 0x40 ∷ 0xAB ∷ []) 0x4000
+  -- one at 5FFF does, those at 3FFF and 6000 are not taken
+  pub address-last : Points (pointing 0xFF 0x5F) 0x5FFF
+  pub address-before : Untaken (write (pointing 0xFF 0x3F))
+  pub address-past : Untaken (write (pointing 0x00 0x60))
   -- a wrong PEC
   pub wrong-pec : readFrame (0x44 ∷ 0x02 ∷ 0x00 ∷ 0x40 ∷ 0xAC ∷ []) ≡ form.Other
-  pub wrong-pec-heard : outcomeOf event.Heard (0x44 ∷ 0x02 ∷ 0x00 ∷ 0x40 ∷ 0xAC ∷ []) ≡ outcome.BusError 0
+  pub wrong-pec-heard : Untaken (write (0x44 ∷ 0x02 ∷ 0x00 ∷ 0x40 ∷ 0xAC ∷ []))
   -- a frame of another command
   pub other-command : readFrame (0x45 ∷ 0x02 ∷ 0x00 ∷ 0x40 ∷ []) ≡ form.Other
   -- a block write of 1 byte, of 32 and of 33
-  pub one : readFrame (write 3 1) ≡ form.BlockWrite 0x4000 1
-  pub most : readFrame (write 34 32) ≡ form.BlockWrite 0x4000 32
-  pub too-many : readFrame (write 35 33) ≡ form.Other
+  pub one : readFrame (sevens 3 1) ≡ form.BlockWrite 0x4000 1
+  pub most : readFrame (sevens 34 32) ≡ form.BlockWrite 0x4000 32
+  pub too-many : readFrame (sevens 35 33) ≡ form.Other
   -- what they store
-  pub one-stored : flashAfter event.Heard (write 3 1) (replicate 40 0xFF) ≡ 7 ∷ replicate 39 0xFF
-  pub most-stored : flashAfter event.LostAfter (write 34 32) (replicate 40 0xFF) ≡ replicate 32 7 ++ replicate 8 0xFF
-  pub lost : flashAfter event.LostBefore (write 34 32) (replicate 40 0xFF) ≡ replicate 40 0xFF
+  pub one-stored : (gauge : Gauge) → effectOf fate.Heard (write (sevens 3 1)) gauge (replicate 40 0xFF) ≡ taken [] gauge (7 ∷ replicate 39 0xFF)
+  pub most-stored : (gauge : Gauge) → effectOf fate.LostAfter (write (sevens 34 32)) gauge (replicate 40 0xFF) .flash ≡ replicate 32 7 ++ replicate 8 0xFF
+  pub lost : (gauge : Gauge) → effectOf fate.LostBefore (write (sevens 34 32)) gauge (replicate 40 0xFF) .flash ≡ replicate 40 0xFF
   -- two bytes with the count of one, and with that of three
-  pub count-low : readFrame (write 3 2) ≡ form.Other
-  pub count-low-heard : outcomeOf event.Heard (write 3 2) ≡ outcome.BusError 0
-  pub count-high : readFrame (write 5 2) ≡ form.Other
-  pub count-high-heard : outcomeOf event.Heard (write 5 2) ≡ outcome.BusError 0
-  -- a byte at 3FFF is not taken, and changes nothing
-  pub start-taken : takes before-start ≡ false
-  pub start-stored : (flash : List ℕ) → flashAfter event.Heard before-start flash ≡ flash
-  -- two bytes at 5FFF are not taken, and change nothing
-  pub end-taken : takes past-end ≡ false
-  pub end-stored : (flash : List ℕ) → flashAfter event.Heard past-end flash ≡ flash
-  pub end-heard : outcomeOf event.Heard past-end ≡ outcome.BusError 0
+  pub count-low : readFrame (sevens 3 2) ≡ form.Other
+  pub count-low-heard : Untaken (write (sevens 3 2))
+  pub count-high : readFrame (sevens 5 2) ≡ form.Other
+  pub count-high-heard : Untaken (write (sevens 5 2))
+  -- a byte at 3FFF, and two bytes at 5FFF
+  pub start-heard : Untaken (write before-start)
+  pub end-heard : Untaken (write past-end)
   -- a read of 36 bytes and of 37
-  pub read-36 : readOutcome event.Heard 0x44 36 ≡ outcome.Acknowledged
-  pub read-37 : readOutcome event.Heard 0x44 37 ≡ outcome.BusError 0
-  -- a read of another command leaves the pointer
-  pub read-other : readOutcome event.Heard 0x45 36 ≡ outcome.BusError 0
-  pub read-other-after : (gauge : Gauge) → readAfter event.Heard 0x45 36 gauge ≡ gauge
-  -- a read that is lost before leaves it, one that is lost after moves it
-  pub read-before : readAfter event.LostBefore 0x44 36 (reading 0x4000) ≡ reading 0x4000
-  pub read-after : readAfter event.LostAfter 0x44 36 (reading 0x4000) ≡ reading 0x4020
+  pub read-36 : (gauge : Gauge) (flash : List ℕ) → effectOf fate.Heard (read 0x44 36) gauge flash .outcome ≡ outcome.Acknowledged
+  pub read-37 : Untaken (read 0x44 37)
+  -- a read of another command
+  pub read-other : Untaken (read 0x45 36)
+  -- a read that is lost before leaves the pointer, one that is lost after moves it
+  pub read-before : (flash : List ℕ) → effectOf fate.LostBefore (read 0x44 36) (reading 0x4000) flash .gauge ≡ reading 0x4000
+  pub read-after : (flash : List ℕ) → effectOf fate.LostAfter (read 0x44 36) (reading 0x4000) flash .gauge ≡ reading 0x4020
   -- the reply at 5FFF has one byte of the flash, and that at 6000 none
   pub reply-last : take 35 (replyOf (reading 0x5FFF) (replicate 8192 7)) ≡ 0x22 ∷ 0xFF ∷ 0x5F ∷ 7 ∷ replicate 31 0xFF
   pub reply-past : take 35 (replyOf (reading 0x6000) (replicate 8192 7)) ≡ 0x22 ∷ 0x00 ∷ 0x60 ∷ replicate 32 0xFF
   -- the pointer goes from 5FF0 to 6000, and stays there
-  pub to-end : readAfter event.Heard 0x44 36 (reading 0x5FF0) ≡ reading 0x6000
-  pub at-end : readAfter event.Heard 0x44 36 (reading 0x6000) ≡ reading 0x6000
+  pub to-end : (flash : List ℕ) → effectOf fate.Heard (read 0x44 36) (reading 0x5FF0) flash .gauge ≡ reading 0x6000
+  pub at-end : (flash : List ℕ) → effectOf fate.Heard (read 0x44 36) (reading 0x6000) flash .gauge ≡ reading 0x6000
 
 pub figures : Figures
-unfolding newGauge bitStep bitSteps byteStep pecOf if_then_else_ over blockIn storedAt inWindow wholeOf formOf readFrame storedForm stored pointedForm pointed takesForm takes flashAfter actedOf gaugeAfter heardOf outcomeOf repliesTo readOutcome blockAt replyFront replyOf movedOf repliedOf readAfter
+unfolding newGauge bitStep bitSteps byteStep pecOf if_then_else_ over blockIn storedAt inWindow wholeOf formOf readFrame blockAt replyFront replyOf movedOf repliesTo heardFrame heardRead acts effectOf
 figures = record {
   new = refl;
-  address = λ gauge. refl;
-  address-pec = λ gauge. refl;
-  address-last = λ gauge. refl;
-  address-before = λ gauge. refl;
-  address-past = λ gauge. refl;
+  address = λ gauge flash. refl;
+  address-pec = λ gauge flash. refl;
+  address-last = λ gauge flash. refl;
+  address-before = λ gauge flash. refl;
+  address-past = λ gauge flash. refl;
   wrong-pec = refl;
-  wrong-pec-heard = refl;
+  wrong-pec-heard = λ gauge flash. refl;
   other-command = refl;
   one = refl;
   most = refl;
   too-many = refl;
-  one-stored = refl;
-  most-stored = refl;
-  lost = refl;
+  one-stored = λ gauge. refl;
+  most-stored = λ gauge. refl;
+  lost = λ gauge. refl;
   count-low = refl;
-  count-low-heard = refl;
+  count-low-heard = λ gauge flash. refl;
   count-high = refl;
-  count-high-heard = refl;
-  start-taken = refl;
-  start-stored = λ flash. refl;
-  end-taken = refl;
-  end-stored = λ flash. refl;
-  end-heard = refl;
-  read-36 = refl;
-  read-37 = refl;
-  read-other = refl;
-  read-other-after = λ gauge. refl;
-  read-before = refl;
-  read-after = refl;
+  count-high-heard = λ gauge flash. refl;
+  start-heard = λ gauge flash. refl;
+  end-heard = λ gauge flash. refl;
+  read-36 = λ gauge flash. refl;
+  read-37 = λ gauge flash. refl;
+  read-other = λ gauge flash. refl;
+  read-before = λ flash. refl;
+  read-after = λ flash. refl;
   reply-last = refl;
   reply-past = refl;
-  to-end = refl;
-  at-end = refl;
+  to-end = λ flash. refl;
+  at-end = λ flash. refl;
 }

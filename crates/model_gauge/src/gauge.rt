@@ -10,8 +10,11 @@ use protocol::consts::LARGEST_DF_BLOCK_SIZE_BYTES;
 use protocol::consts::MAC_CMD;
 use protocol::window;
 ghost use mathlib.Core.Path.{_≡_};
-ghost use Prim.Native.Nat.{_+_, _-_, min};
-ghost use Rattle.model_gauge.specs.Gauge.{newGauge, offsetOf, stored, addressed, takes, pointed, flashAfter, actedOf, gaugeAfter, heardOf, outcomeOf, blockAt, replyOf, repliesTo, movedOf, repliedOf, readAfter, readOutcome};
+ghost use mathlib.Core.List.{List, []};
+ghost use Prim.Native.Nat.{ℕ, _+_, _-_, min};
+ghost use Rattle.protocol.specs.Bytes.{blockIn};
+ghost use Rattle.engine.specs.Made.{write, read};
+ghost use Rattle.model_gauge.specs.Gauge.{newGauge, offsetOf, blockAt, replyOf, movedOf, repliesTo, lost, acts, effectOf, told};
 
 // The data flash has a byte for each address from 4000 to 5FFF hex.
 pub const FLASH_BYTES: usize = DF_SIZE_BYTES;
@@ -20,7 +23,7 @@ pub const FLASH_BYTES: usize = DF_SIZE_BYTES;
 pub const REPLY_BYTES: usize = 36;
 
 // What becomes of a transfer on its way.
-pub enum Event {
+pub enum Fate {
     // It is heard, and so is what the gauge makes of it.
     Heard,
     // It is lost before the gauge acts.
@@ -32,6 +35,14 @@ pub enum Event {
 // The gauge's read pointer.
 pub struct Gauge {
     pub pointer: u16,
+}
+
+// What a transfer comes to, beside what it leaves in the lent bytes.
+pub struct Effect {
+    pub outcome: Outcome,
+    // How many bytes of a reply reach the host.
+    pub replied: usize,
+    pub gauge: Gauge,
 }
 
 // The address a block further on, at most the end of the window.
@@ -56,75 +67,6 @@ fn offset(address: u16) -> usize
     }
 }
 
-// What a frame stores: a block write wholly inside the window, its bytes; any other frame, nothing.
-fn store(frame: &[u8], flash: &mut [u8])
-    ensures { λ _. ⌜ now (flash .exit) ≡ stored (now (frame .entry)) (now (flash .entry)) ⌝ }
-{
-    let form = frame::read_frame(frame);
-    let Form::BlockWrite { address, count } = form else {
-        return;
-    };
-    if window::check_df_range(address, count) {
-        bytes::store_block(flash, offset(address), bytes::block(frame, 4, count), count);
-    }
-}
-
-// Whether the gauge takes a form as an address: one in the window.
-fn addressed(form: Form) -> bool
-    ensures { λ r. ⌜ r ≡ addressed form ⌝ }
-{
-    let Form::Address(address) = form else {
-        return false;
-    };
-    window::check_df_range(address, 1)
-}
-
-// Whether the gauge takes a frame: a block write wholly inside the window, or an address in it.
-fn takes(frame: &[u8]) -> bool
-    ensures { λ r. ⌜ r ≡ takes (now (frame .entry)) ⌝ }
-{
-    let form = frame::read_frame(frame);
-    let Form::BlockWrite { address, count } = form else {
-        return addressed(form);
-    };
-    window::check_df_range(address, count)
-}
-
-// What a frame does to the flash, as the transfer is heard or lost.
-pub fn land(event: Event, frame: &[u8], flash: &mut [u8])
-    ensures { λ _. ⌜ now (flash .exit) ≡ flashAfter event (now (frame .entry)) (now (flash .entry)) ⌝ }
-{
-    match event {
-        Event::Heard => store(frame, flash),
-        Event::LostBefore => {}
-        Event::LostAfter => store(frame, flash),
-    }
-}
-
-// What the host hears of a transfer, by whether the gauge takes it.
-fn hear(event: Event, taken: bool) -> Outcome
-    ensures { λ r. ⌜ r ≡ heardOf event taken ⌝ }
-{
-    match event {
-        Event::Heard => {
-            if taken {
-                Outcome::Acknowledged
-            } else {
-                Outcome::BusError(0)
-            }
-        }
-        Event::LostBefore => Outcome::Timeout,
-        Event::LostAfter => Outcome::Timeout,
-    }
-}
-
-// What the host hears of a write.
-pub fn outcome(event: Event, frame: &[u8]) -> Outcome
-    ensures { λ r. ⌜ r ≡ outcomeOf event (now (frame .entry)) ⌝ }
-{
-    hear(event, takes(frame))
-}
-
 // Whether the gauge replies to a read: of the command 44, and of at most a whole reply.
 fn replies(command: u8, count: usize) -> bool
     ensures { λ r. ⌜ r ≡ repliesTo command count ⌝ }
@@ -134,13 +76,6 @@ fn replies(command: u8, count: usize) -> bool
     } else {
         false
     }
-}
-
-// What the host hears of a read.
-pub fn read_outcome(event: Event, command: u8, count: usize) -> Outcome
-    ensures { λ r. ⌜ r ≡ readOutcome event command count ⌝ }
-{
-    hear(event, replies(command, count))
 }
 
 // The 32 bytes from an offset on, FF past the end.
@@ -156,6 +91,20 @@ fn block_at(flash: &[u8], at: usize) -> [u8; 32]
     data
 }
 
+impl Effect {
+    // The gauge has acted, and the host hears nothing of it.
+    fn unheard(self) -> Effect
+        ensures { λ r. ⌜ r ≡ told (lost (self .gauge) []) ⌝ }
+    {
+        let gauge = self.gauge;
+        Effect {
+            outcome: Outcome::Timeout,
+            replied: 0,
+            gauge,
+        }
+    }
+}
+
 impl Gauge {
     // The gauge as it starts: it reads from the first address.
     pub fn new() -> Gauge
@@ -166,41 +115,52 @@ impl Gauge {
         }
     }
 
-    // What a frame does to the pointer: an address in the window sets it; any other frame leaves it.
-    fn point(self, frame: &[u8]) -> Gauge
-        ensures { λ r. ⌜ r ≡ pointed (now (frame .entry)) self ⌝ }
+    // What the host hears, and no reply.
+    fn tells(self, outcome: Outcome) -> Effect
+        ensures { λ r. ⌜ r ≡ record { outcome = outcome; replied = 0; gauge = self } ⌝ }
+    {
+        Effect {
+            outcome,
+            replied: 0,
+            gauge: self,
+        }
+    }
+
+    // A frame that is heard.
+    fn hear(self, frame: &[u8], flash: &mut [u8]) -> Effect
+        ensures { λ r. ⌜ (r ≡ told (acts (write (now (frame .entry))) self (now (flash .entry)))) × (now (flash .exit) ≡ acts (write (now (frame .entry))) self (now (flash .entry)) .flash) ⌝ }
     {
         let form = frame::read_frame(frame);
-        let Form::Address(address) = form else {
-            return self;
+        let Form::BlockWrite { address, count } = form else {
+            let Form::Address(address) = form else {
+                return self.tells(Outcome::BusError(0));
+            };
+            if window::check_df_range(address, 1) {
+                return Gauge { pointer: address }.tells(Outcome::Acknowledged);
+            }
+            return self.tells(Outcome::BusError(0));
         };
-        if window::check_df_range(address, 1) {
-            Gauge { pointer: address }
+        if window::check_df_range(address, count) {
+            bytes::store_block(flash, offset(address), bytes::block(frame, 4, count), count);
+            self.tells(Outcome::Acknowledged)
         } else {
-            self
+            self.tells(Outcome::BusError(0))
         }
     }
 
-    // The gauge that has acted, or not where the transfer was lost before.
-    fn when(self, event: Event, acted: Gauge) -> Gauge
-        ensures { λ r. ⌜ r ≡ actedOf event self acted ⌝ }
+    // A frame goes to the gauge.
+    pub fn write(self, fate: Fate, frame: &[u8], flash: &mut [u8]) -> Effect
+        ensures { λ r. ⌜ (r ≡ told (effectOf fate (write (now (frame .entry))) self (now (flash .entry)))) × (now (flash .exit) ≡ effectOf fate (write (now (frame .entry))) self (now (flash .entry)) .flash) ⌝ }
     {
-        match event {
-            Event::Heard => acted,
-            Event::LostBefore => self,
-            Event::LostAfter => acted,
+        match fate {
+            Fate::Heard => self.hear(frame, flash),
+            Fate::LostBefore => self.tells(Outcome::Timeout),
+            Fate::LostAfter => self.hear(frame, flash).unheard(),
         }
-    }
-
-    // The gauge after a write, as the transfer is heard or lost.
-    pub fn after_write(self, event: Event, frame: &[u8]) -> Gauge
-        ensures { λ r. ⌜ r ≡ gaugeAfter event (now (frame .entry)) self ⌝ }
-    {
-        self.when(event, self.point(frame))
     }
 
     // The whole reply to a read: 22 hex, the pointer, 32 bytes from there on, the PEC.
-    pub fn reply(self, flash: &[u8]) -> [u8; 36]
+    fn reply(self, flash: &[u8]) -> [u8; 36]
         ensures { λ r. ⌜ r ≡ replyOf self (now (flash .entry)) ⌝ }
     {
         let pointer = self.pointer;
@@ -223,21 +183,46 @@ impl Gauge {
         }
     }
 
-    // The gauge after a read that it may reply to.
-    fn replied(self, command: u8, count: usize) -> Gauge
-        ensures { λ r. ⌜ r ≡ repliedOf command count self ⌝ }
+    // A read that is heard: one that is replied to moves the pointer on.
+    fn ask(self, command: u8, count: usize) -> Effect
+        ensures { λ r. ⌜ ((flash : List ℕ) → r ≡ told (acts (read command count) self flash)) ⌝ }
     {
         if replies(command, count) {
-            self.moved()
+            Effect {
+                outcome: Outcome::Acknowledged,
+                replied: count,
+                gauge: self.moved(),
+            }
         } else {
-            self
+            self.tells(Outcome::BusError(0))
         }
     }
 
-    // The gauge after a read, as the transfer is heard or lost.
-    pub fn after_read(self, event: Event, command: u8, count: usize) -> Gauge
-        ensures { λ r. ⌜ r ≡ readAfter event command count self ⌝ }
+    // What becomes of a read.
+    fn asked(self, fate: Fate, command: u8, count: usize) -> Effect
+        ensures { λ r. ⌜ ((flash : List ℕ) → r ≡ told (effectOf fate (read command count) self flash)) ⌝ }
     {
-        self.when(event, self.replied(command, count))
+        match fate {
+            Fate::Heard => self.ask(command, count),
+            Fate::LostBefore => self.tells(Outcome::Timeout),
+            Fate::LostAfter => self.ask(command, count).unheard(),
+        }
+    }
+
+    // A read goes to the gauge, and what it brings stands at the front of `reply`, as much of it as there is room for.
+    pub fn read(
+        self,
+        fate: Fate,
+        command: u8,
+        count: usize,
+        flash: &[u8],
+        reply: &mut [u8],
+    ) -> Effect
+        ensures { λ r. ⌜ (r ≡ told (effectOf fate (read command count) self (now (flash .entry)))) × (now (reply .exit) ≡ blockIn 36 (effectOf fate (read command count) self (now (flash .entry)) .reply) (now (reply .entry))) ⌝ }
+    {
+        let effect = self.asked(fate, command, count);
+        let whole = self.reply(flash);
+        bytes::copy_block(reply, bytes::front(&whole, effect.replied), REPLY_BYTES);
+        effect
     }
 }

@@ -17,8 +17,8 @@ new-requires c κs = search needs
 loop-holds : tie.Need-loop-holds Inv-loop μ-loop
 loop-holds c = search needs
 
-events-requires : tie.Need-events-requires Inv-loop μ-loop
-events-requires c κs = search needs
+fates-requires : tie.Need-fates-requires Inv-loop μ-loop
+fates-requires c κs = search needs
 
 add-count : tie.Need-add-count Inv-loop μ-loop
 add-count c = search needs
@@ -40,7 +40,7 @@ numbers-spec =
     μ-loop
     new-requires
     loop-holds
-    events-requires
+    fates-requires
     add-count
     loop-less
     loop-again
