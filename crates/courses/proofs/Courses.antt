@@ -9,8 +9,9 @@ use lib.ListN.{length, drop, getD, drop-of-length-le}
 use lib.Seq.{drop-cons}
 use borrow.Author.Tests.{lt-ltb, le-ltb}
 use Rattle.protocol.specs.Pick.{if_then_else_}
-use Rattle.courses.specs.Course.{eventOf, eventsOf, soundOf}
-use Rattle.model_gauge.specs.declared.gauge.Event.{Event}
+use Rattle.courses.specs.Course.{fateOf, fatesOf, soundOf}
+use Rattle.courses.specs.Run.{World, stepOf, driveOf}
+use Rattle.model_gauge.specs.declared.gauge.Fate.{Fate}
 
 -- ---- whether it is sound
 
@@ -26,24 +27,23 @@ pub sound-all : (course : List ℕ) (i : ℕ) → length course ≤ i → soundO
 unfolding soundOf
 sound-all course i h = rw (drop-of-length-le course h)
 
--- ---- its events
+-- ---- its fates
 
-pub events-next : (course : List ℕ) (i : ℕ) → i < length course → eventsOf (drop i course) ≡ eventOf (getD course i 0) ∷ eventsOf (drop (i + 1) course)
-unfolding eventsOf
-events-next course i h = rw (add-one, drop-cons course i 0 h)
+pub fates-next : (course : List ℕ) (i : ℕ) → i < length course → fatesOf (drop i course) ≡ fateOf (getD course i 0) ∷ fatesOf (drop (i + 1) course)
+unfolding fatesOf
+fates-next course i h = rw (add-one, drop-cons course i 0 h)
 
-pub events-done : (course : List ℕ) (i : ℕ) → length course ≤ i → eventsOf (drop i course) ≡ []
-unfolding eventsOf
-events-done course i h = rw (drop-of-length-le course h)
+pub fates-done : (course : List ℕ) (i : ℕ) → length course ≤ i → fatesOf (drop i course) ≡ []
+unfolding fatesOf
+fates-done course i h = rw (drop-of-length-le course h)
 
--- a run over the events, given as a step and a fold of it
-module _ {W : Type 0} (step : Event → W → W) (drive : List Event → W → W)
-    (none : (w : W) → drive [] w ≡ w) (some : (e : Event) (es : List Event) (w : W) → drive (e ∷ es) w ≡ drive es (step e w)) where
-  -- a turn takes the next event
-  pub drive-turn : (course : List ℕ) (i : ℕ) (e : Event) (w w′ : W) → i < length course → e ≡ eventOf (getD course i 0) → w′ ≡ step e w
-      → drive (eventsOf (drop (i + 1) course)) w′ ≡ drive (eventsOf (drop i course)) w
-  drive-turn course i e w w′ h p q = rw (events-next course i h, some, ← p, ← q)
+-- a turn takes the next byte
+pub drive-turn : (payload course : List ℕ) (i : ℕ) (f : Fate) (w v : World) → i < length course → f ≡ fateOf (getD course i 0) → v ≡ stepOf payload f w
+    → driveOf payload (fatesOf (drop (i + 1) course)) v ≡ driveOf payload (fatesOf (drop i course)) w
+unfolding driveOf
+drive-turn payload course i f w v h p q = rw (fates-next course i h, ← p, q)
 
-  -- at the end of the course nothing is left to do
-  pub drive-done : (course : List ℕ) (i : ℕ) (w : W) → length course ≤ i → drive (eventsOf (drop i course)) w ≡ w
-  drive-done course i w h = rw (events-done course i h, none)
+-- at the end of the course nothing is left to do
+pub drive-done : (payload course : List ℕ) (i : ℕ) (w : World) → length course ≤ i → driveOf payload (fatesOf (drop i course)) w ≡ w
+unfolding driveOf
+drive-done payload course i w h = rw (fates-done course i h)

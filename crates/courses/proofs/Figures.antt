@@ -11,21 +11,24 @@ use Rattle.protocol.specs.Pick.{if_then_else_}
 use Rattle.protocol.specs.declared.error.Answer.{Answer}
 use Rattle.protocol.specs.declared.error.Answer.the-variants as answer
 use Rattle.engine.specs.Pick.{case_waiting_ended_}
-use Rattle.engine.specs.Bus.{fitsOf}
+use Rattle.engine.specs.Bus as bus
 use Rattle.engine.specs.declared.bus.Lent.{Lent}
 use Rattle.engine.specs.declared.bus.Phase.the-variants as phase
+use Rattle.engine.specs.declared.bus.Transfer.{Transfer}
+use Rattle.engine.specs.declared.bus.Transfer.the-variants as transfer
 use Rattle.writing.specs.Writing as writing
 use Rattle.reading.specs.Reading as reading
-use Rattle.model_gauge.specs.declared.gauge.Event.{Event}
-use Rattle.courses.specs.Pick.{case_write_read_none_, case_refused_admitted_}
-use Rattle.courses.specs.Course.{eventOf, eventsOf, soundOf, admitOf, endOf}
-use Rattle.courses.specs.Figures.{BadByte, Figures, wrote-nothing, read-nothing}
-use Rattle.courses.specs.WriteRun as writes
-use Rattle.courses.specs.ReadRun as reads
+use Rattle.calls.specs.Call.{nextOf, workAfter, phaseOf, fitsOf}
+use Rattle.calls.specs.declared.call.Call.{Call}
+use Rattle.calls.specs.declared.call.Call.the-variants as call
+use Rattle.model_gauge.specs.declared.gauge.Fate.{Fate}
+use Rattle.courses.specs.Pick.{case_sending_to_none_, case_refused_admitted_}
+use Rattle.courses.specs.Course.{fateOf, fatesOf, soundOf, admitOf, endOf}
+use Rattle.courses.specs.Figures.{BadByte, LentAgain, unchanged, Figures}
+use Rattle.courses.specs.Run.{world, stepOf, driveOf, endedOf, refusedOf, leftOf, runOf}
 use Rattle.courses.specs.declared.course.Admitted.the-variants as admitted
 use Rattle.courses.specs.declared.course.End.the-variants as end
-use Rattle.courses.specs.declared.read_run.Reader.{Reader}
-use Rattle.courses.specs.declared.write_run.Writer.{Writer}
+use Rattle.courses.specs.declared.run.Link.{Link}
 
 -- ---- whether a run starts
 
@@ -72,8 +75,8 @@ admit-all n course h s = rw (eq-eqb n 8192 h, s)
 
 -- ---- what is lent
 
-other-lengths : (lent : Lent) (n w : ℕ) → ((n ≡ lent .length) × (w ≡ lent .work) → ⊥) → fitsOf lent n w ≡ false
-unfolding fitsOf
+other-lengths : (lent : Lent) (n w : ℕ) → ((n ≡ lent .length) × (w ≡ lent .work) → ⊥) → bus.fitsOf lent n w ≡ false
+unfolding bus.fitsOf
 other-lengths lent n w other = by (eqb n (lent .length)) refl (eqb w (lent .work)) refl
   where
     by : (a : Bool) → eqb n (lent .length) ≡ a → (b : Bool) → eqb w (lent .work) ≡ b → (eqb n (lent .length) && eqb w (lent .work)) ≡ false
@@ -81,81 +84,71 @@ other-lengths lent n w other = by (eqb n (lent .length)) refl (eqb w (lent .work
     by true a false b = rw (a, b)
     by false a t b = rw a
 
--- ---- writing runs
+fits-not : (c : Call) (p n w : ℕ) → (LentAgain c p n w → ⊥) → fitsOf c p n w ≡ false
+unfolding fitsOf
+fits-not (call.Write c) p n w other = other-lengths (c .task .lent) p w other
+fits-not (call.Read c) p n w other = other-lengths (c .task .lent) n w other
 
-module _ (payload work flash : List ℕ) (writer : Writer) where
-  writes-refused : (course : List ℕ) (a : Answer) → admitOf (length flash) course ≡ admitted.Refused a
-      → writes.runOf payload course (writes.world writer work flash) ≡ wrote-nothing a writer work flash
-  unfolding writes.runOf writes.refusedOf case_refused_admitted_
-  writes-refused course a e = rw e
+-- ---- what a call shows that has ended, or is lent other lengths
+
+shows-over : (c : Call) (payload : List ℕ) (n : ℕ) (work : List ℕ) (a : Answer) → phaseOf c ≡ phase.Ended a
+    → (nextOf c payload n (length work) ≡ transfer.Ended a) × (workAfter c payload n work ≡ work)
+unfolding phaseOf nextOf workAfter writing.nextOf writing.workAfter reading.nextOf reading.workAfter case_waiting_ended_
+shows-over (call.Write c) payload n work a over = (rw over, rw over)
+shows-over (call.Read c) payload n work a over = (rw over, rw over)
+
+shows-other : (c : Call) (payload : List ℕ) (n : ℕ) (work : List ℕ) → phaseOf c ≡ phase.Waiting → fitsOf c (length payload) n (length work) ≡ false
+    → (nextOf c payload n (length work) ≡ transfer.Refused answer.WrongBuffer) × (workAfter c payload n work ≡ work)
+unfolding phaseOf fitsOf nextOf workAfter writing.nextOf writing.workAfter reading.nextOf reading.workAfter case_waiting_ended_ if_then_else_
+shows-other (call.Write c) payload n work waits other = (rw (waits, other), rw (waits, other))
+shows-other (call.Read c) payload n work waits other = (rw (waits, other), rw (waits, other))
+
+-- ---- runs
+
+module _ (payload buffer work flash : List ℕ) (link : Link) where
+  refuses : (course : List ℕ) (a : Answer) → admitOf (length flash) course ≡ admitted.Refused a
+      → runOf payload course (world link buffer work flash) ≡ unchanged a link buffer work flash
+  unfolding runOf refusedOf case_refused_admitted_
+  refuses course a e = rw e
 
   -- a call that shows no transfer is left as it was
-  module _ (stays : (e : Event) → writes.stepOf payload e (writes.world writer work flash) ≡ writes.world writer work flash) where
-    writes-stay : (es : List Event) → writes.driveOf payload es (writes.world writer work flash) ≡ writes.world writer work flash
-    unfolding writes.driveOf
-    writes-stay [] = refl
-    writes-stay (e ∷ es) = rw (stays e) (writes-stay es)
+  module _ (laid : workAfter (link .call) payload (length buffer) work ≡ work)
+      (stays : (f : Fate) → stepOf payload f (world link buffer work flash) ≡ world link buffer (workAfter (link .call) payload (length buffer) work) flash) where
+    drives-none : (fs : List Fate) → driveOf payload fs (world link buffer work flash) ≡ world link buffer work flash
+    unfolding driveOf
+    drives-none [] = refl
+    drives-none (f ∷ fs) = rw (stays f, laid) (drives-none fs)
 
-    write-idle : (course : List ℕ) (a : Answer) → length flash ≡ 8192 → soundOf course ≡ true
-        → endOf (writer .call .phase) (writer .call .task .lent) (length payload) (length work) ≡ end.Answered a
-        → writes.runOf payload course (writes.world writer work flash) ≡ wrote-nothing a writer work flash
-    unfolding writes.runOf writes.leftOf writes.endedOf case_refused_admitted_
-    write-idle course a h s e = rw (admit-all (length flash) course h s, writes-stay (eventsOf course), e)
+    idle : (course : List ℕ) (a : Answer) → length flash ≡ 8192 → soundOf course ≡ true
+        → endOf (phaseOf (link .call)) (fitsOf (link .call) (length payload) (length buffer) (length work)) ≡ end.Answered a
+        → runOf payload course (world link buffer work flash) ≡ unchanged a link buffer work flash
+    unfolding runOf leftOf endedOf case_refused_admitted_
+    idle course a h s e = rw (admit-all (length flash) course h s, drives-none (fatesOf course), e)
 
-  write-over : (course : List ℕ) (a : Answer) → length flash ≡ 8192 → soundOf course ≡ true → writer .call .phase ≡ phase.Ended a
-      → writes.runOf payload course (writes.world writer work flash) ≡ wrote-nothing a writer work flash
-  unfolding writes.stepOf writing.nextOf writing.workAfter endOf case_waiting_ended_ case_write_read_none_
-  write-over course a h s over = write-idle (λ e. rw over) course a h s (rw over)
+  is-over : (course : List ℕ) (a : Answer) → length flash ≡ 8192 → soundOf course ≡ true → phaseOf (link .call) ≡ phase.Ended a
+      → runOf payload course (world link buffer work flash) ≡ unchanged a link buffer work flash
+  unfolding stepOf endOf case_waiting_ended_ case_sending_to_none_
+  is-over course a h s over =
+      let shown = shows-over (link .call) payload (length buffer) work a over in
+      idle (shown .1) (λ f. rw (shown .0)) course a h s (rw over)
 
-  write-other : (course : List ℕ) → length flash ≡ 8192 → soundOf course ≡ true → writer .call .phase ≡ phase.Waiting
-      → fitsOf (writer .call .task .lent) (length payload) (length work) ≡ false
-      → writes.runOf payload course (writes.world writer work flash) ≡ wrote-nothing answer.WrongBuffer writer work flash
-  unfolding writes.stepOf writing.nextOf writing.workAfter endOf case_waiting_ended_ case_write_read_none_ if_then_else_
-  write-other course h s waits other = write-idle (λ e. rw (waits, other)) course answer.WrongBuffer h s (rw (waits, other))
-
--- ---- reading runs
-
-module _ (buffer work flash : List ℕ) (reader : Reader) where
-  reads-refused : (course : List ℕ) (a : Answer) → admitOf (length flash) course ≡ admitted.Refused a
-      → reads.runOf course (reads.world reader buffer work flash) ≡ read-nothing a reader buffer work flash
-  unfolding reads.runOf reads.refusedOf case_refused_admitted_
-  reads-refused course a e = rw e
-
-  module _ (stays : (e : Event) → reads.stepOf e (reads.world reader buffer work flash) ≡ reads.world reader buffer work flash) where
-    reads-stay : (es : List Event) → reads.driveOf es (reads.world reader buffer work flash) ≡ reads.world reader buffer work flash
-    unfolding reads.driveOf
-    reads-stay [] = refl
-    reads-stay (e ∷ es) = rw (stays e) (reads-stay es)
-
-    read-idle : (course : List ℕ) (a : Answer) → length flash ≡ 8192 → soundOf course ≡ true
-        → endOf (reader .call .phase) (reader .call .task .lent) (length buffer) (length work) ≡ end.Answered a
-        → reads.runOf course (reads.world reader buffer work flash) ≡ read-nothing a reader buffer work flash
-    unfolding reads.runOf reads.leftOf reads.endedOf case_refused_admitted_
-    read-idle course a h s e = rw (admit-all (length flash) course h s, reads-stay (eventsOf course), e)
-
-  read-over : (course : List ℕ) (a : Answer) → length flash ≡ 8192 → soundOf course ≡ true → reader .call .phase ≡ phase.Ended a
-      → reads.runOf course (reads.world reader buffer work flash) ≡ read-nothing a reader buffer work flash
-  unfolding reads.stepOf reading.nextOf reading.workAfter endOf case_waiting_ended_ case_write_read_none_
-  read-over course a h s over = read-idle (λ e. rw over) course a h s (rw over)
-
-  read-other : (course : List ℕ) → length flash ≡ 8192 → soundOf course ≡ true → reader .call .phase ≡ phase.Waiting
-      → fitsOf (reader .call .task .lent) (length buffer) (length work) ≡ false
-      → reads.runOf course (reads.world reader buffer work flash) ≡ read-nothing answer.WrongBuffer reader buffer work flash
-  unfolding reads.stepOf reading.nextOf reading.workAfter endOf case_waiting_ended_ case_write_read_none_ if_then_else_
-  read-other course h s waits other = read-idle (λ e. rw (waits, other)) course answer.WrongBuffer h s (rw (waits, other))
+  is-other : (course : List ℕ) → length flash ≡ 8192 → soundOf course ≡ true → phaseOf (link .call) ≡ phase.Waiting
+      → fitsOf (link .call) (length payload) (length buffer) (length work) ≡ false
+      → runOf payload course (world link buffer work flash) ≡ unchanged answer.WrongBuffer link buffer work flash
+  unfolding stepOf endOf case_waiting_ended_ case_sending_to_none_ if_then_else_
+  is-other course h s waits other =
+      let shown = shows-other (link .call) payload (length buffer) work waits other in
+      idle (shown .1) (λ f. rw (shown .0)) course answer.WrongBuffer h s (rw (waits, other))
 
 pub figures : Figures
-unfolding eventOf eventsOf if_then_else_
+unfolding fateOf fatesOf if_then_else_
 figures = record {
-  events-none = refl;
-  events = λ course. (refl, refl, refl);
+  fates-none = refl;
+  fates = λ course. (refl, refl, refl);
   sound = λ course. (λ s b. false≢true (sym (unsound course b) ∙ s), all-good course);
-  write-flash = λ payload course work flash writer h. writes-refused payload work flash writer course answer.WrongBuffer (admit-flash (length flash) course h);
-  read-flash = λ course buffer work flash reader h. reads-refused buffer work flash reader course answer.WrongBuffer (admit-flash (length flash) course h);
-  write-course = λ payload course work flash writer h b. writes-refused payload work flash writer course answer.BadLine (admit-course (length flash) course h b);
-  read-course = λ course buffer work flash reader h b. reads-refused buffer work flash reader course answer.BadLine (admit-course (length flash) course h b);
-  write-refused = λ payload course work flash writer a h s p. write-over payload work flash writer course a h s p;
-  read-refused = λ course buffer work flash reader a h s p. read-over buffer work flash reader course a h s p;
-  write-lent = λ payload course work flash writer h s p q. write-other payload work flash writer course h s p (other-lengths (writer .call .task .lent) (length payload) (length work) q);
-  read-lent = λ course buffer work flash reader h s p q. read-other buffer work flash reader course h s p (other-lengths (reader .call .task .lent) (length buffer) (length work) q);
+  other-flash = λ payload course buffer work flash link h. refuses payload buffer work flash link course answer.WrongBuffer (admit-flash (length flash) course h);
+  bad-course = λ payload course buffer work flash link h b. refuses payload buffer work flash link course answer.BadLine (admit-course (length flash) course h b);
+  over = λ payload course buffer work flash link a h s p. is-over payload buffer work flash link course a h s p;
+  other-lent = λ payload course buffer work flash link h s p q.
+      is-other payload buffer work flash link course h s p (fits-not (link .call) (length payload) (length buffer) (length work) q);
 }

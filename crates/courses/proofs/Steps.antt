@@ -1,30 +1,29 @@
--- A step of a reading call, put together from what the call showed and what the gauge made of it.
+-- A transfer, put together from what the gauge made of it and what the call heard.
 -- Assumes nothing.
 use Prim.Native.Nat.{ℕ}
-use mathlib.Core.Path.{_≡_}
+use mathlib.Core.Path.{_≡_, _∙_}
 use mathlib.Core.List.{List}
 use lib.ListN.{length, take}
-use Rattle.engine.specs.declared.bus.Transfer.{Transfer}
-use Rattle.engine.specs.declared.bus.Transfer.the-variants as transfer
-use Rattle.reading.specs.Reading.{nextOf, workAfter}
-use Rattle.model_gauge.specs.Gauge.{flashAfter}
-use Rattle.courses.specs.ReadRun.{world, sentOf, sentBuffer, askedOf, askedBuffer, stepOf}
-use Rattle.model_gauge.specs.declared.gauge.Event.{Event}
-use Rattle.courses.specs.declared.read_run.Reader.{Reader}
-use Rattle.courses.proofs.Cases.{at-write, at-read}
+use Rattle.protocol.specs.Bytes.{blockIn}
+use Rattle.engine.specs.Made.{read}
+use Rattle.calls.specs.Call.{reportOf, bufferAfter}
+use Rattle.model_gauge.specs.Gauge.{Effect, effectOf, told}
+use Rattle.model_gauge.specs.declared.gauge.Effect as handed
+use Rattle.model_gauge.specs.declared.gauge.Fate.{Fate}
+use Rattle.model_gauge.specs.declared.gauge.Gauge.{Gauge}
+use Rattle.model_gauge.proofs.Laws.{read-back}
+use Rattle.courses.specs.Run.{world, takenOf, heardIn}
+use Rattle.courses.specs.declared.run.Link.{Link}
 
-module _ (e : Event) (reader r : Reader) (buffer work flash shown b : List ℕ) (t : Transfer)
-    (next : t ≡ nextOf (reader .call) (length buffer) (length work)) (lay : shown ≡ workAfter (reader .call) (length buffer) work) where
-  -- a head was shown and went to the gauge
-  pub step-sent : (f : List ℕ) (n : ℕ) → t ≡ transfer.Write n → r ≡ sentOf e (take n shown) (length buffer) (length shown) reader
-      → b ≡ sentBuffer e (take n shown) (length shown) reader buffer → f ≡ flashAfter e (take n shown) flash
-      → world r b shown f ≡ stepOf e (world reader buffer work flash)
-  unfolding stepOf
-  step-sent f n p q s u = at-write t _ _ _ _ _ n next p (rw (← lay, q, s, u))
+-- the call hears what is handed back of an effect, beside the lent bytes
+pub hears : (p : ℕ) (e : Effect) (h : handed.Effect) (link r : Link) (buffer work flash reply b f : List ℕ) → h ≡ told e → reply ≡ e .reply → f ≡ e .flash
+    → r ≡ record { call = takenOf (reportOf (link .call) (h .outcome) reply p (length buffer) (length work)); gauge = h .gauge }
+    → b ≡ bufferAfter (link .call) (h .outcome) reply buffer (length work) → world r b work f ≡ heardIn p e (world link buffer work flash)
+unfolding heardIn
+hears p e h link r buffer work flash reply b f is brought stored q s = rw (q, s, stored, is, brought)
 
-  -- a read was shown and went to the gauge
-  pub step-asked : (command count : ℕ) → t ≡ transfer.Read command count → r ≡ askedOf e command count (length buffer) (length shown) flash reader
-      → b ≡ askedBuffer e command count (length shown) flash reader buffer
-      → world r b shown flash ≡ stepOf e (world reader buffer work flash)
-  unfolding stepOf
-  step-asked command count p q s = at-read t _ _ _ _ _ command count next p (rw (← lay, q, s))
+-- the front of what was lent is the reply
+pub brings : (f : Fate) (command count : ℕ) (gauge : Gauge) (flash lent lent′ reply : List ℕ) (h : handed.Effect) → h ≡ told (effectOf f (read command count) gauge flash)
+    → length lent ≡ 36 → lent′ ≡ blockIn 36 (effectOf f (read command count) gauge flash .reply) lent → reply ≡ take (h .replied) lent′
+    → reply ≡ effectOf f (read command count) gauge flash .reply
+brings f command count gauge flash lent lent′ reply h is long laid cut = cut ∙ rw (is, laid) (read-back command count gauge flash f lent long)

@@ -1,5 +1,4 @@
 pub mod Pick
 pub mod Course
-pub mod WriteRun
-pub mod ReadRun
+pub mod Run
 pub mod Figures

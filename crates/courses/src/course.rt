@@ -1,11 +1,10 @@
 // A course: a byte for each transfer, 0 heard, 1 lost before the gauge acts, 2 lost after.
-use engine::bus::Lent;
 use engine::bus::Phase;
-use model_gauge::gauge::Event;
 use model_gauge::gauge::FLASH_BYTES;
+use model_gauge::gauge::Fate;
 use protocol::error::Answer;
 ghost use mathlib.Core.Path.{_≡_};
-ghost use Rattle.courses.specs.Course.{eventOf, soundOf, endOf, admitOf};
+ghost use Rattle.courses.specs.Course.{fateOf, soundOf, endOf, admitOf};
 
 // How a run over a course ends.
 pub enum End {
@@ -22,16 +21,16 @@ pub(crate) enum Admitted {
 }
 
 // What a byte of a sound course says.
-pub(crate) fn event(byte: u8) -> Event
-    ensures { λ r. ⌜ r ≡ eventOf byte ⌝ }
+pub(crate) fn fate(byte: u8) -> Fate
+    ensures { λ r. ⌜ r ≡ fateOf byte ⌝ }
 {
     if byte == 0 {
-        return Event::Heard;
+        return Fate::Heard;
     }
     if byte == 1 {
-        return Event::LostBefore;
+        return Fate::LostBefore;
     }
-    Event::LostAfter
+    Fate::LostAfter
 }
 
 // Whether each byte of a course is 0, 1 or 2.
@@ -64,14 +63,14 @@ pub(crate) fn admit(flash: usize, course: &[u8]) -> Admitted
     }
 }
 
-// How a run ends that leaves its call in this phase, with these lengths lent to it.
-pub(crate) fn end_of(phase: Phase, lent: Lent, length: usize, work: usize) -> End
-    ensures { λ r. ⌜ r ≡ endOf phase lent length work ⌝ }
+// How a run ends that leaves its call in this phase, with the lengths of its start lent to it or others.
+pub(crate) fn end_of(phase: Phase, fits: bool) -> End
+    ensures { λ r. ⌜ r ≡ endOf phase fits ⌝ }
 {
     match phase {
         Phase::Ended(answer) => End::Answered(answer),
         Phase::Waiting => {
-            if lent.fits(length, work) {
+            if fits {
                 End::Cut
             } else {
                 End::Answered(Answer::WrongBuffer)

@@ -1,4 +1,3 @@
 // Whole calls run over a course against the model gauge: one byte of the course for each transfer.
 pub mod course;
-pub mod read_run;
-pub mod write_run;
+pub mod run;

@@ -81,6 +81,24 @@ pub stores : (frame : List ℕ) (gauge : Gauge) (flash : List ℕ) → acts (wri
 unfolding stored acts
 stores frame gauge flash = form-stores (readFrame frame) frame gauge newGauge flash
 
+-- a write brings nothing
+either-brings : (t : Bool) (a b : Effect) → a .reply ≡ [] → b .reply ≡ [] → (if t then a else b) .reply ≡ []
+unfolding if_then_else_
+either-brings true a b e f = e
+either-brings false a b e f = f
+
+form-brings : (f : Form) (frame : List ℕ) (gauge : Gauge) (flash : List ℕ) → heardFrame f frame gauge flash .reply ≡ []
+unfolding heardFrame
+form-brings (form.BlockWrite address count) frame gauge flash = either-brings (inWindow address count) _ _ refl refl
+form-brings (form.Address address) frame gauge flash = either-brings (inWindow address 1) _ _ refl refl
+form-brings form.Other frame gauge flash = refl
+
+pub write-brings : (f : Fate) (frame : List ℕ) (gauge : Gauge) (flash : List ℕ) → effectOf f (write frame) gauge flash .reply ≡ []
+unfolding effectOf acts
+write-brings fate.Heard frame gauge flash = form-brings (readFrame frame) frame gauge flash
+write-brings fate.LostBefore frame gauge flash = refl
+write-brings fate.LostAfter frame gauge flash = refl
+
 -- what a read comes to
 module _ (command count : ℕ) (gauge : Gauge) (flash : List ℕ) where
   pub read-taken : repliesTo command count ≡ true → acts (read command count) gauge flash ≡ taken (take count (replyOf gauge flash)) (movedOf gauge) flash

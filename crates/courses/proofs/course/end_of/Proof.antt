@@ -13,9 +13,6 @@ enum-known-phase c = search needs
 enum-told : tie.Need-enum-told
 enum-told c = search needs
 
-fits-requires : tie.Need-fits-requires
-fits-requires c κs = search needs
-
 returns : tie.Need-returns
 unfolding endOf
 returns c = search cases
@@ -30,4 +27,4 @@ returns-3 c = search cases
 
 pub end-of-spec : {M : Type 1} → statement M
 end-of-spec =
-    tie.close (tie.spec enum-known-phase enum-told fits-requires returns returns-2 returns-3)
+    tie.close (tie.spec enum-known-phase enum-told returns returns-2 returns-3)
