@@ -30,7 +30,7 @@ use Rattle.reading.specs.Reading.{dueAsk, heardHead, verdictOf, heardBlock, ack
 use Rattle.reading.specs.declared.call.ReadCall.{ReadCall}
 use Rattle.reading.specs.declared.call.Verdict.the-variants as verdict
 use Rattle.r5.specs.Plans.{readDataflash}
-use Rattle.model_gauge.specs.Gauge.{pointed, repliedOf}
+use Rattle.model_gauge.specs.Gauge.{movedOf}
 use Rattle.model_gauge.specs.declared.gauge.Gauge.{Gauge}
 use Rattle.answers.specs.Runs.{callR}
 use Rattle.promises.specs.Events.{after, flashAfter, ackedAfter, each}
@@ -39,7 +39,7 @@ use Rattle.promises.specs.Reads.{ReadWorld, readBegan, lending, readShow
 use Rattle.promises.specs.Demand3.{Accepted}
 use Rattle.promises.proofs.Window.{within}
 use Rattle.promises.proofs.Hosted.{answers, not-fits, hosted-run}
-use Rattle.promises.proofs.ReadSteps.{readAt, readWorld, headOf, shows-head, shows-read, head-long, made-head, countAt, broughtAt, made-read, heard-same, made-over}
+use Rattle.promises.proofs.ReadSteps.{pointedBy, readAt, readWorld, headOf, shows-head, shows-read, head-long, made-head, broughtAt, made-read, heard-same, made-over}
 use Rattle.promises.proofs.Reading.{Reading, buffer-long, reading-step}
 use Rattle.promises.proofs.ReadStopped.{start, read-empty, reading}
 
@@ -117,16 +117,15 @@ module _ (config : Config) (address size n : ℕ) (room : 39 ≤ n) where
         over (headOf config address size n i) work′,
         laid′,
         made-head config address size n i b t g buffer work′ flash fits may room e beside
-            ∙ heard-same config address size n i b t g buffer work flash fits long′ room e true [] beside (over (headOf config address size n i) work) (over (headOf config address size n i) work′) work′ laid laid′ (after e g (pointed (headOf config address size n i) g)) (flashAfter e (headOf config address size n i) flash) i
+            ∙ heard-same config address size n i b t g buffer work flash fits long′ room e true [] beside (over (headOf config address size n i) work) (over (headOf config address size n i) work′) work′ laid laid′ (after e g (pointedBy (headOf config address size n i) g flash)) (flashAfter e (headOf config address size n i) flash) i
             ∙ ap (lending (over (headOf config address size n i) work′)) (sym (made-head config address size n i b t g buffer work flash fits long′ room e [])),
       )
   does-at (transfers e work′ beside) m phase.Waiting false i b t g buffer work flash fits long long′ may =
-      let count : ℕ = countAt config address size n i b t g buffer work flash fits long′ room in
       let brought : List ℕ = broughtAt config address size n i b t g buffer work flash fits long′ room in (
         work′,
         may,
         made-read config address size n i b t g buffer work′ flash fits may room e beside
-            ∙ heard-same config address size n i b t g buffer work flash fits long′ room e false brought beside work work′ work′ long′ may (after e g (repliedOf 0x44 count g)) flash (ackedAfter e i)
+            ∙ heard-same config address size n i b t g buffer work flash fits long′ room e false brought beside work work′ work′ long′ may (after e g (movedOf g)) flash (ackedAfter e i)
             ∙ ap (lending work′) (sym (made-read config address size n i b t g buffer work flash fits long′ room e [])),
       )
   does-at (transfers e work′ beside) m (phase.Ended a) h i b t g buffer work flash fits long long′ may = (

@@ -21,6 +21,7 @@ use Rattle.protocol.specs.declared.reply.Heard.the-variants as reply
 use Rattle.protocol.proofs.Laws.{take-over, length-over, take-min, laid-more}
 use Rattle.engine.specs.Pick.{case_waiting_ended_, case_acknowledged_error_timeout_}
 use Rattle.engine.specs.Bus.{writeOf, phaseAfter, fitsOf}
+use Rattle.engine.specs.Made.{write, read}
 use Rattle.engine.specs.declared.budget.Budget.{Budget}
 use Rattle.engine.specs.declared.budget.Tally.{Tally}
 use Rattle.engine.specs.declared.bus.Outcome.the-variants as outcome
@@ -34,11 +35,12 @@ use Rattle.reading.specs.Reading.{dueAsk, shownHead, workHead, shownOf, workSho
 use Rattle.reading.specs.declared.call.ReadCall.{ReadCall}
 use Rattle.reading.specs.declared.call.ReadTask.{ReadTask}
 use Rattle.r5.specs.Plans.{readDataflash}
-use Rattle.model_gauge.specs.Gauge.{stored, pointed, repliesTo, replyOf, repliedOf}
+use Rattle.model_gauge.specs.Gauge.{replyOf, movedOf, taken, acts, effectOf}
 use Rattle.model_gauge.specs.declared.gauge.Gauge.{Gauge}
+use Rattle.model_gauge.proofs.Replies.{replied}
 use Rattle.answers.specs.Runs.{callR}
 use Rattle.promises.specs.Flash.{blockOf}
-use Rattle.promises.specs.Events.{Cause, busError, timedOut, Event, acknowledged, failed, unheard, causeOf, weighOf as heardBy, lentOf, after, flashAfter, ackedAfter}
+use Rattle.promises.specs.Events.{Cause, busError, timedOut, Event, acknowledged, failed, unheard, causeOf, heardAs as heardBy, lentOf, after, flashAfter, ackedAfter}
 use Rattle.promises.specs.Host.{makes}
 use Rattle.promises.specs.Reads.{ReadWorld, heard, headSent, asked, lending, readMade, readStep, damaged, readOver}
 use Rattle.promises.proofs.Machine.{whyOf}
@@ -68,6 +70,15 @@ pub ask-small : (pec : Bool) (left : ℕ) → bytesAsked (blockAsk left pec) ≤
 unfolding if_then_else_
 ask-small true left = rw count-of (omega arith)
 ask-small false left = rw count-of (omega arith)
+
+-- where a frame that is heard points
+abbrev pub pointedBy : List ℕ → Gauge → List ℕ → Gauge
+pointedBy frame g flash = acts (write frame) g flash .gauge
+
+-- a read of at most a whole reply that is heard
+pub read-acts : (count : ℕ) (g : Gauge) (flash : List ℕ) → count ≤ 36 → acts (read 0x44 count) g flash ≡ taken (take count (replyOf g flash)) (movedOf g) flash
+unfolding effectOf movedOf
+read-acts count g flash few = replied .asked count g flash few
 
 module _ (config : Config) (address size n : ℕ) where
   abbrev pub readTask : ReadTask
@@ -100,7 +111,7 @@ module _ (config : Config) (address size n : ℕ) where
 
     pub made-head : (e : Event) (beside : List ℕ)
         → readMade e beside (readWorld phase.Waiting true i b t g buffer work flash)
-        ≡ heard e [] beside (over (headOf i) work) (after e g (pointed (headOf i) g)) (flashAfter e (headOf i) flash) i (readWorld phase.Waiting true i b t g buffer work flash)
+        ≡ heard e [] beside (over (headOf i) work) (after e g (pointedBy (headOf i) g flash)) (flashAfter e (headOf i) flash) i (readWorld phase.Waiting true i b t g buffer work flash)
     unfolding readMade makes headSent
     made-head e beside = rw (shows-head, lays-head, take-over)
 
@@ -123,10 +134,10 @@ module _ (config : Config) (address size n : ℕ) where
 
     pub made-read : (e : Event) (beside : List ℕ)
         → readMade e beside (readWorld phase.Waiting false i b t g buffer work flash)
-        ≡ heard e broughtAt beside work (after e g (repliedOf 0x44 countAt g)) flash (ackedAfter e i) (readWorld phase.Waiting false i b t g buffer work flash)
-    unfolding readMade makes asked repliesTo if_then_else_
+        ≡ heard e broughtAt beside work (after e g (movedOf g)) flash (ackedAfter e i) (readWorld phase.Waiting false i b t g buffer work flash)
+    unfolding readMade makes asked
     made-read e beside =
-        rw (shows-read, lays-none, le-leb countAt 36 (ask-small (config .«pec_read») (size - i * 32)))
+        rw (shows-read, lays-none, read-acts countAt g flash (ask-small (config .«pec_read») (size - i * 32)))
 
     -- ---- what the call hears
 
@@ -200,12 +211,12 @@ module _ (config : Config) (address size n : ℕ) where
 
     pub made-damaged : config .«pec_read» ≡ true → (front : List ℕ) (last : ℕ) → length front ≡ 35 → (pecOf 0 (0x16 ∷ 0x44 ∷ 0x17 ∷ front) ≡ last → ⊥)
         → readOver (damaged front last) (readWorld phase.Waiting false i b t g buffer work flash)
-        ≡ record { call = failOf (readAt phase.Waiting false i b t) answer.Pec; gauge = repliedOf 0x44 36 g; buffer = buffer; work = work; flash = flash; got = i }
+        ≡ record { call = failOf (readAt phase.Waiting false i b t) answer.Pec; gauge = movedOf g; buffer = buffer; work = work; flash = flash; got = i }
     unfolding readOver makes heard if_then_else_
     made-damaged pec front last full other =
         let wrong : heardOf (blockAsk (size - i * 32) (config .«pec_read»)) (front ++ (last ∷ [])) ≡ reply.WrongPec = rw pec (reply-damaged (size - i * 32) front last full other) in
         let asks : countAt ≡ 36 = rw pec (count-of true (size - i * 32)) in
-        rw (shows-read, lays-none, asks, long, disbelieved-buffer (front ++ (last ∷ [])) wrong, fits, disbelieved (front ++ (last ∷ [])) wrong)
+        rw (shows-read, lays-none, asks, read-acts 36 g flash (omega arith), long, disbelieved-buffer (front ++ (last ∷ [])) wrong, fits, disbelieved (front ++ (last ∷ [])) wrong)
 
 -- an ended call stays as it is, whatever reply is damaged
 pub damaged-over : (config : Config) (address size n : ℕ) (front : List ℕ) (last : ℕ) (a : Answer) (h : Bool) (i : ℕ) (b : Budget) (t : Tally) (g : Gauge) (buffer work flash : List ℕ)

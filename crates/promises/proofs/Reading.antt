@@ -27,7 +27,7 @@ use Rattle.engine.specs.declared.bus.Phase.the-variants as phase
 use Rattle.reading.specs.Parts.{hasHead, blockAsk}
 use Rattle.reading.specs.Reading.{retryOf, endOf, failOf}
 use Rattle.r5.specs.Plans.{readDataflash}
-use Rattle.model_gauge.specs.Gauge.{offsetOf, pointed, repliesTo, movedOf, repliedOf}
+use Rattle.model_gauge.specs.Gauge.{offsetOf, movedOf}
 use Rattle.model_gauge.specs.declared.gauge.Gauge.{Gauge}
 use Rattle.promises.specs.Flash.{placeOf, blockOf}
 use Rattle.promises.specs.Events.{Cause, Event, acknowledged, failed, unheard, causeOf, heardAs as heardBy, after, flashAfter, ackedAfter, each}
@@ -35,8 +35,8 @@ use Rattle.promises.specs.Reads.{ReadWorld, heard, readStep, readRun, Co
 use Rattle.promises.specs.Reading.{flashBytes, ReadAnswered, all-got, gave-up, disbelieved}
 use Rattle.promises.proofs.Machine.{whyOf, why-number}
 use Rattle.promises.proofs.Replies.{cutReply, reply-good, reply-data}
-use Rattle.promises.proofs.Frames.{address-points, address-stores}
-use Rattle.promises.proofs.ReadSteps.{wanted-block, ask-small, readAt, readWorld, headOf, head-long, made-head, countAt, broughtAt, made-read, heard-failed, head-heard, head-heard-buffer, received, received-buffer, made-damaged, made-over, damaged-head, damaged-over, block-in}
+use Rattle.promises.proofs.Frames.{address-acts, address-stores}
+use Rattle.promises.proofs.ReadSteps.{wanted-block, pointedBy, readAt, readWorld, headOf, head-long, made-head, broughtAt, made-read, heard-failed, head-heard, head-heard-buffer, received, received-buffer, made-damaged, made-over, damaged-head, damaged-over, block-in}
 
 -- as many bytes of the flash as are wanted
 pub flash-long : (address size : ℕ) (flash : List ℕ) → length flash ≡ 8192 → 0x4000 ≤ address → address + size ≤ 0x6000 → length (flashBytes address size flash) ≡ size
@@ -129,15 +129,15 @@ module _ (noisy : Bool) (config : Config) (address n : ℕ) (old flash : List �
     step-head-heard =
         let a : address + i * 32 < 0x6000 = omega arith in
         made-head config address size n i b t g buffer work flash fits long room acknowledged []
-        ∙ rw (head-long config address size n i b t g buffer work flash fits long room, address-points (config .«pec_read») (address + i * 32) (omega arith) a g, address-stores (config .«pec_read») (address + i * 32) (omega arith) a flash, head-heard-buffer config address size n i b t g buffer work flash fits long room, fits, head-heard config address size n i b t g buffer work flash fits long room)
+        ∙ rw (head-long config address size n i b t g buffer work flash fits long room, address-acts (config .«pec_read») (address + i * 32) (omega arith) a g flash, address-stores (config .«pec_read») (address + i * 32) (omega arith) a flash, head-heard-buffer config address size n i b t g buffer work flash fits long room, fits, head-heard config address size n i b t g buffer work flash fits long room)
 
     -- the head is lost, before the gauge acts or after
     head-failed : (e : Event) (c : Cause) → heardBy e ≡ causeOf c → (g′ : Gauge)
-        → after e g (pointed (headOf config address size n i) g) ≡ g′ → flashAfter e (headOf config address size n i) flash ≡ flash
+        → after e g (pointedBy (headOf config address size n i) g flash) ≡ g′ → flashAfter e (headOf config address size n i) flash ≡ flash
         → Reading (readStep e (readWorld config address size n phase.Waiting true i b t g buffer work flash))
     head-failed e c o g′ p q =
         let laid : length (over (headOf config address size n i) work) ≡ n = head-long config address size n i b t g buffer work flash fits long room in
-        rw (made-head config address size n i b t g buffer work flash fits long room e [], heard-failed config address size n i b t g buffer work flash fits long room e c o true [] [] (over (headOf config address size n i) work) laid (after e g (pointed (headOf config address size n i) g)) (flashAfter e (headOf config address size n i) flash) i, p, q)
+        rw (made-head config address size n i b t g buffer work flash fits long room e [], heard-failed config address size n i b t g buffer work flash fits long room e c o true [] [] (over (headOf config address size n i) work) laid (after e g (pointedBy (headOf config address size n i) g flash)) (flashAfter e (headOf config address size n i) flash) i, p, q)
         (reading-failed (whyOf c) true i b t g′ buffer (over (headOf config address size n i) work) laid l (gave-up (why-number c) l) f)
 
     head-event : (e : Event) → Reading (readStep e (readWorld config address size n phase.Waiting true i b t g buffer work flash))
@@ -169,11 +169,11 @@ module _ (noisy : Bool) (config : Config) (address n : ℕ) (old flash : List �
     -- the block has come: the pointer moves on
     pub step-read-heard : readStep acknowledged (readWorld config address size n phase.Waiting false i b t g buffer work flash)
         ≡ readWorld config address size n (phaseAfter (blocksOf size) (suc i)) false (suc i) b t (record { pointer = min (g .pointer + 32) 0x6000 }) blockAfter work flash
-    unfolding heard repliedOf movedOf repliesTo if_then_else_
+    unfolding heard movedOf
     step-read-heard =
         let good = reply-good g flash (config .«pec_read») (size - i * 32) in
         made-read config address size n i b t g buffer work flash fits long room acknowledged []
-        ∙ rw (long, le-leb (countAt config address size n i b t g buffer work flash fits long room) 36 (ask-small (config .«pec_read») (size - i * 32)), received-buffer config address size n i b t g buffer work flash fits long room (cutReply g flash (config .«pec_read») (size - i * 32)) good, fits, received config address size n i b t g buffer work flash fits long room (cutReply g flash (config .«pec_read») (size - i * 32)) good (omega arith))
+        ∙ rw (long, received-buffer config address size n i b t g buffer work flash fits long room (cutReply g flash (config .«pec_read») (size - i * 32)) good, fits, received config address size n i b t g buffer work flash fits long room (cutReply g flash (config .«pec_read») (size - i * 32)) good (omega arith))
 
     -- its data is the block that is due
     pub block-after : g .pointer ≡ address + i * 32 → blockAfter ≡ over (take (suc i * 32) wanted) old
@@ -187,9 +187,8 @@ module _ (noisy : Bool) (config : Config) (address n : ℕ) (old flash : List �
     read-failed : (e : Event) (c : Cause) → heardBy e ≡ causeOf c → ackedAfter e i ≡ i
         → Reading (readStep e (readWorld config address size n phase.Waiting false i b t g buffer work flash))
     read-failed e c o k =
-        let count : ℕ = countAt config address size n i b t g buffer work flash fits long room in
-        rw (made-read config address size n i b t g buffer work flash fits long room e [], k, heard-failed config address size n i b t g buffer work flash fits long room e c o false (broughtAt config address size n i b t g buffer work flash fits long room) [] work long (after e g (repliedOf 0x44 count g)) flash i)
-        (reading-failed (whyOf c) false i b t (after e g (repliedOf 0x44 count g)) buffer work long l (gave-up (why-number c) l) f)
+        rw (made-read config address size n i b t g buffer work flash fits long room e [], k, heard-failed config address size n i b t g buffer work flash fits long room e c o false (broughtAt config address size n i b t g buffer work flash fits long room) [] work long (after e g (movedOf g)) flash i)
+        (reading-failed (whyOf c) false i b t (after e g (movedOf g)) buffer work long l (gave-up (why-number c) l) f)
 
     read-event : (e : Event) → g .pointer ≡ address + i * 32 → Reading (readStep e (readWorld config address size n phase.Waiting false i b t g buffer work flash))
     read-event acknowledged q =
@@ -216,7 +215,7 @@ module _ (noisy : Bool) (config : Config) (address n : ℕ) (old flash : List �
         → Reading (readOver (damaged front last) (readWorld config address size n phase.Waiting false i b t g buffer work flash))
     read-damaged noise pec front last full other =
         rw (made-damaged config address size n i b t g buffer work flash fits long room pec front last full other)
-        (reading-failed answer.Pec false i b t (repliedOf 0x44 36 g) buffer work long l (disbelieved noise refl l) f)
+        (reading-failed answer.Pec false i b t (movedOf g) buffer work long l (disbelieved noise refl l) f)
 
   -- ---- every event
 

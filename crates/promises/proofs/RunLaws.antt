@@ -9,154 +9,120 @@ use Rattle.protocol.specs.Pick.{if_then_else_}
 use Rattle.protocol.specs.Window.{inWindow}
 use Rattle.protocol.specs.declared.error.Answer.{Answer}
 use Rattle.engine.specs.Pick.{case_waiting_ended_}
+use Rattle.engine.specs.Made.{Made, write, read}
 use Rattle.engine.specs.declared.bus.Phase.the-variants as phase
 use Rattle.engine.specs.declared.bus.Transfer.the-variants as transfer
-use Rattle.writing.specs.Writing as writing
-use Rattle.writing.specs.declared.call.WriteCall.{WriteCall}
-use Rattle.reading.specs.Reading as reading
-use Rattle.reading.specs.declared.call.ReadCall.{ReadCall}
+use Rattle.calls.specs.Call.{nextOf, workAfter, phaseOf}
+use Rattle.calls.specs.declared.call.Call.{Call}
+use Rattle.calls.specs.declared.call.Reported.{Reported}
+use Rattle.calls.specs.declared.call.Reported.the-variants as reported
 use Rattle.model_gauge.specs.Frame.{readFrame}
-use Rattle.model_gauge.specs.Gauge.{offsetOf, storedForm, stored, flashAfter}
+use Rattle.model_gauge.specs.Gauge.{offsetOf, Effect, heardFrame, acts, effectOf}
 use Rattle.model_gauge.specs.declared.frame.Form.{Form}
 use Rattle.model_gauge.specs.declared.frame.Form.the-variants as form
-use Rattle.model_gauge.specs.declared.gauge.Event.{Event}
-use Rattle.model_gauge.specs.declared.gauge.Event.the-variants as event
+use Rattle.model_gauge.specs.declared.gauge.Fate.{Fate}
+use Rattle.model_gauge.specs.declared.gauge.Fate.the-variants as fate
 use Rattle.model_gauge.specs.declared.gauge.Gauge.{Gauge}
-use Rattle.courses.specs.Pick.{case_write_read_none_}
-use Rattle.courses.specs.Course.{eventOf, eventsOf, soundOf, endOf}
-use Rattle.courses.specs.WriteRun as writes
-use Rattle.courses.specs.ReadRun as reads
+use Rattle.model_gauge.proofs.Laws.{read-stores}
+use Rattle.courses.specs.Pick.{case_sending_to_none_}
+use Rattle.courses.specs.Course.{fateOf, fatesOf, soundOf, endOf}
+use Rattle.courses.specs.Figures.{LentAgain}
+use Rattle.courses.specs.Run.{World, world, left, takenOf, heardIn, stepOf, driveOf, endedOf, leftOf, runOf}
 use Rattle.courses.specs.declared.course.End.the-variants as end
-use Rattle.courses.specs.declared.read_run.Reader.{Reader}
-use Rattle.courses.specs.declared.write_run.Writer.{Writer}
-use Rattle.answers.specs.Rows.{Same}
+use Rattle.courses.specs.declared.run.Link.{Link}
 use Rattle.answers.proofs.Kept.{stored-length}
-use Rattle.answers.proofs.Laws.{same-fits}
-use Rattle.promises.specs.RunLaws.{Means, heard, lost-before, lost-after, wroteTo, headTo, readFrom, RunLaws}
-use Rattle.promises.proofs.CourseRows.{admitted-write, admitted-read, wrote-taken, read-taken}
+use Rattle.promises.specs.RunLaws.{Means, heard, lost-before, lost-after, callOf, reportedTo, Shows, shows-write, shows-read, RunLaws}
+use Rattle.promises.proofs.RunRows.{again-fits}
+use Rattle.promises.proofs.CourseRows.{admitted}
 
 -- ---- a transfer keeps the flash's length
 
-form-kept : (f : Form) (frame flash : List ℕ) → length (storedForm f frame flash) ≡ length flash
-unfolding storedForm if_then_else_
-form-kept (form.BlockWrite address count) frame flash = by (inWindow address count) refl
-  where
-    by : (t : Bool) → inWindow address count ≡ t → length (storedForm (form.BlockWrite address count) frame flash) ≡ length flash
-    by true t = rw t (stored-length (offsetOf address) count (take count (drop 4 frame)) flash)
-    by false t = rw t
-form-kept (form.Address address) frame flash = refl
-form-kept form.Other frame flash = refl
+either-kept : (t : Bool) (a b : Effect) (n : ℕ) → length (a .flash) ≡ n → length (b .flash) ≡ n → length ((if t then a else b) .flash) ≡ n
+unfolding if_then_else_
+either-kept true a b n p q = p
+either-kept false a b n p q = q
 
-flash-kept : (e : Event) (frame flash : List ℕ) → length (flashAfter e frame flash) ≡ length flash
-unfolding flashAfter stored
-flash-kept event.Heard frame flash = form-kept (readFrame frame) frame flash
-flash-kept event.LostBefore frame flash = refl
-flash-kept event.LostAfter frame flash = form-kept (readFrame frame) frame flash
+form-kept : (f : Form) (frame : List ℕ) (gauge : Gauge) (flash : List ℕ) → length (heardFrame f frame gauge flash .flash) ≡ length flash
+unfolding heardFrame
+form-kept (form.BlockWrite address count) frame gauge flash =
+    either-kept (inWindow address count) _ _ (length flash) (stored-length (offsetOf address) count (take count (drop 4 frame)) flash) refl
+form-kept (form.Address address) frame gauge flash = either-kept (inWindow address 1) _ _ (length flash) refl refl
+form-kept form.Other frame gauge flash = refl
+
+acts-kept : (made : Made) (gauge : Gauge) (flash : List ℕ) → length (acts made gauge flash .flash) ≡ length flash
+unfolding acts
+acts-kept (write frame) gauge flash = form-kept (readFrame frame) frame gauge flash
+acts-kept (read command count) gauge flash = ap length (read-stores command count gauge flash)
+
+flash-kept : (f : Fate) (made : Made) (gauge : Gauge) (flash : List ℕ) → length (effectOf f made gauge flash .flash) ≡ length flash
+unfolding effectOf
+flash-kept fate.Heard made gauge flash = acts-kept made gauge flash
+flash-kept fate.LostBefore made gauge flash = refl
+flash-kept fate.LostAfter made gauge flash = acts-kept made gauge flash
 
 -- ---- a byte of a course
 
-first-event : (byte : ℕ) (e : Event) → Means byte e → (rest : List ℕ) → eventsOf (byte ∷ rest) ≡ e ∷ eventsOf rest
-unfolding eventsOf eventOf if_then_else_
-first-event byte e heard rest = refl
-first-event byte e lost-before rest = refl
-first-event byte e lost-after rest = refl
+first-fate : (byte : ℕ) (f : Fate) → Means byte f → (rest : List ℕ) → fatesOf (byte ∷ rest) ≡ f ∷ fatesOf rest
+unfolding fatesOf fateOf if_then_else_
+first-fate byte f heard rest = refl
+first-fate byte f lost-before rest = refl
+first-fate byte f lost-after rest = refl
 
-first-sound : (byte : ℕ) (e : Event) → Means byte e → (rest : List ℕ) → soundOf rest ≡ true → soundOf (byte ∷ rest) ≡ true
+first-sound : (byte : ℕ) (f : Fate) → Means byte f → (rest : List ℕ) → soundOf rest ≡ true → soundOf (byte ∷ rest) ≡ true
 unfolding soundOf if_then_else_
-first-sound byte e heard rest sound = sound
-first-sound byte e lost-before rest sound = sound
-first-sound byte e lost-after rest sound = sound
+first-sound byte f heard rest sound = sound
+first-sound byte f lost-before rest sound = sound
+first-sound byte f lost-after rest sound = sound
 
 none-sound : soundOf [] ≡ true
 unfolding soundOf
 none-sound = refl
 
--- ---- a writing call
+-- ---- a step
 
-write-cut : (payload work flash : List ℕ) (writer : Writer) → length flash ≡ 8192 → writer .call .phase ≡ phase.Waiting
-    → Same (writer .call .task .lent) (length payload) (length work)
-    → writes.runOf payload [] (writes.world writer work flash) ≡ writes.left (record { writer = writer; end = end.Cut }) work flash
-unfolding writes.leftOf writes.endedOf writes.driveOf eventsOf endOf case_waiting_ended_ if_then_else_
-write-cut payload work flash writer whole waits same =
-    admitted-write payload (writes.world writer work flash) [] whole none-sound ∙ rw (waits, same-fits _ _ _ same)
+pub is-taken-so : (r : Reported) → takenOf r ≡ callOf r
+unfolding takenOf
+is-taken-so (reported.Refused a call) = refl
+is-taken-so (reported.Taken call) = refl
 
-write-step : (payload work flash : List ℕ) (call : WriteCall) (gauge : Gauge) (n : ℕ) (e : Event) → writing.nextOf call payload (length work) ≡ transfer.Write n
-    → writes.stepOf payload e (writes.world (record { call = call; gauge = gauge }) work flash) ≡ wroteTo payload e n call gauge work flash
-unfolding writes.stepOf writes.sentOf writes.sentFlash writes.reportedOf case_write_read_none_
-write-step payload work flash call gauge n e shows = rw (shows, wrote-taken)
+is-cut : (payload buffer work flash : List ℕ) (link : Link) → length flash ≡ 8192 → phaseOf (link .call) ≡ phase.Waiting
+    → LentAgain (link .call) (length payload) (length buffer) (length work)
+    → runOf payload [] (world link buffer work flash) ≡ left (record { link = link; end = end.Cut }) buffer work flash
+unfolding leftOf endedOf driveOf fatesOf endOf case_waiting_ended_ if_then_else_
+is-cut payload buffer work flash link whole waits again =
+    admitted payload (world link buffer work flash) [] whole none-sound ∙ rw (waits, again-fits (link .call) (length payload) (length buffer) (length work) again)
 
-write-none : (payload work flash : List ℕ) (writer : Writer) (e : Event) (a : Answer) → writing.nextOf (writer .call) payload (length work) ≡ transfer.Refused a
-    → writes.stepOf payload e (writes.world writer work flash) ≡ writes.world writer (writing.workAfter (writer .call) payload work) flash
-unfolding writes.stepOf case_write_read_none_
-write-none payload work flash writer e a shows = rw shows
+module _ (payload buffer work flash : List ℕ) (call : Call) (gauge : Gauge) where
+  steps : (f : Fate) (made : Made) → Shows call payload buffer work made
+      → stepOf payload f (world (record { call = call; gauge = gauge }) buffer work flash)
+      ≡ reportedTo payload (effectOf f made gauge flash) call buffer (workAfter call payload (length buffer) work)
+  unfolding stepOf heardIn case_sending_to_none_
+  steps f made (shows-write n shows) = rw (shows, is-taken-so)
+  steps f made (shows-read command count shows) = rw (shows, is-taken-so)
 
--- a step of a run, wherever it leads
-write-on : (payload rest : List ℕ) (w v : writes.World) (byte : ℕ) (e : Event) → Means byte e → length (w .flash) ≡ 8192 → length (v .flash) ≡ 8192 → soundOf rest ≡ true
-    → writes.stepOf payload e w ≡ v → writes.runOf payload (byte ∷ rest) w ≡ writes.runOf payload rest v
-unfolding writes.driveOf
-write-on payload rest w v byte e means whole whole′ sound step =
-    admitted-write payload w (byte ∷ rest) whole (first-sound byte e means rest sound)
-    ∙ ap (λ (es : List Event). writes.leftOf (length payload) (writes.driveOf payload es w)) (first-event byte e means rest)
-    ∙ ap (λ (v : writes.World). writes.leftOf (length payload) (writes.driveOf payload (eventsOf rest) v)) step
-    ∙ sym (admitted-write payload v rest whole′ sound)
-
--- ---- a reading call
-
-read-cut : (buffer work flash : List ℕ) (reader : Reader) → length flash ≡ 8192 → reader .call .phase ≡ phase.Waiting
-    → Same (reader .call .task .lent) (length buffer) (length work)
-    → reads.runOf [] (reads.world reader buffer work flash) ≡ reads.left (record { reader = reader; end = end.Cut }) buffer work flash
-unfolding reads.leftOf reads.endedOf reads.driveOf eventsOf endOf case_waiting_ended_ if_then_else_
-read-cut buffer work flash reader whole waits same = admitted-read (reads.world reader buffer work flash) [] whole none-sound ∙ rw (waits, same-fits _ _ _ same)
+steps-none : (payload buffer work flash : List ℕ) (link : Link) (f : Fate) (a : Answer) → nextOf (link .call) payload (length buffer) (length work) ≡ transfer.Refused a
+    → stepOf payload f (world link buffer work flash) ≡ world link buffer (workAfter (link .call) payload (length buffer) work) flash
+unfolding stepOf case_sending_to_none_
+steps-none payload buffer work flash link f a shows = rw shows
 
 -- a step of a run, wherever it leads
-read-on : (rest : List ℕ) (w v : reads.World) (byte : ℕ) (e : Event) → Means byte e → length (w .flash) ≡ 8192 → length (v .flash) ≡ 8192 → soundOf rest ≡ true
-    → reads.stepOf e w ≡ v → reads.runOf (byte ∷ rest) w ≡ reads.runOf rest v
-unfolding reads.driveOf
-read-on rest w v byte e means whole whole′ sound step =
-    admitted-read w (byte ∷ rest) whole (first-sound byte e means rest sound)
-    ∙ ap (λ (es : List Event). reads.leftOf (reads.driveOf es w)) (first-event byte e means rest)
-    ∙ ap (λ (v : reads.World). reads.leftOf (reads.driveOf (eventsOf rest) v)) step
-    ∙ sym (admitted-read v rest whole′ sound)
-
-module _ (buffer work flash : List ℕ) (call : ReadCall) (gauge : Gauge) where
-  abbrev here : reads.World
-  here = reads.world (record { call = call; gauge = gauge }) buffer work flash
-
-  head-step : (n : ℕ) (e : Event) → reading.nextOf call (length buffer) (length work) ≡ transfer.Write n → reads.stepOf e here ≡ headTo e n call gauge buffer work flash
-  unfolding reads.stepOf reads.sentOf reads.sentBuffer reads.reportedOf case_write_read_none_
-  head-step n e shows = rw (shows, read-taken)
-
-  ask-step : (command count : ℕ) (e : Event) → reading.nextOf call (length buffer) (length work) ≡ transfer.Read command count
-      → reads.stepOf e here ≡ readFrom e command count call gauge buffer work flash
-  unfolding reads.stepOf reads.askedOf reads.askedBuffer reads.reportedOf case_write_read_none_
-  ask-step command count e shows = rw (shows, read-taken)
-
-read-none : (buffer work flash : List ℕ) (reader : Reader) (e : Event) (a : Answer) → reading.nextOf (reader .call) (length buffer) (length work) ≡ transfer.Refused a
-    → reads.stepOf e (reads.world reader buffer work flash) ≡ reads.world reader buffer (reading.workAfter (reader .call) (length buffer) work) flash
-unfolding reads.stepOf case_write_read_none_
-read-none buffer work flash reader e a shows = rw shows
+run-on : (payload rest : List ℕ) (w v : World) (byte : ℕ) (f : Fate) → Means byte f → length (w .flash) ≡ 8192 → length (v .flash) ≡ 8192 → soundOf rest ≡ true
+    → stepOf payload f w ≡ v → runOf payload (byte ∷ rest) w ≡ runOf payload rest v
+unfolding driveOf
+run-on payload rest w v byte f means whole whole′ sound step =
+    admitted payload w (byte ∷ rest) whole (first-sound byte f means rest sound)
+    ∙ ap (λ (fs : List Fate). leftOf (length payload) (driveOf payload fs w)) (first-fate byte f means rest)
+    ∙ ap (λ (v : World). leftOf (length payload) (driveOf payload (fatesOf rest) v)) step
+    ∙ sym (admitted payload v rest whole′ sound)
 
 -- THE LAWS OF A RUN
 pub run-laws : RunLaws
 run-laws = record {
-  writing = record {
-    taken = λ writer work flash. refl;
-    told = λ run work flash. refl;
-    cut = write-cut;
-    writes-on = λ payload rest work flash call gauge byte n e means whole sound shows.
-        write-on payload rest _ (wroteTo payload e n call gauge work flash) byte e means whole (flash-kept e _ flash ∙ whole) sound (write-step payload work flash call gauge n e shows);
-    none-on = λ payload rest work flash writer byte e a means whole sound shows.
-        write-on payload rest (writes.world writer work flash) _ byte e means whole whole sound (write-none payload work flash writer e a shows);
-  };
-  reading = record {
-    taken = λ reader buffer work flash. refl;
-    told = λ run buffer work flash. refl;
-    cut = read-cut;
-    heads-on = λ rest buffer work flash call gauge byte n e means whole sound shows.
-        read-on rest (here buffer work flash call gauge) (headTo e n call gauge buffer work flash) byte e means whole (flash-kept e _ flash ∙ whole) sound (head-step buffer work flash call gauge n e shows);
-    reads-on = λ rest buffer work flash call gauge byte command count e means whole sound shows.
-        read-on rest (here buffer work flash call gauge) (readFrom e command count call gauge buffer work flash) byte e means whole whole sound (ask-step buffer work flash call gauge command count e shows);
-    none-on = λ rest buffer work flash reader byte e a means whole sound shows.
-        read-on rest (reads.world reader buffer work flash) _ byte e means whole whole sound (read-none buffer work flash reader e a shows);
-  };
+  taken = λ link buffer work flash. refl;
+  told = λ run buffer work flash. refl;
+  cut = is-cut;
+  goes-on = λ payload rest buffer work flash call gauge byte f made means whole sound shows.
+      run-on payload rest _ _ byte f means whole (flash-kept f made gauge flash ∙ whole) sound (steps payload buffer work flash call gauge f made shows);
+  none-on = λ payload rest buffer work flash link byte f a means whole sound shows.
+      run-on payload rest (world link buffer work flash) _ byte f means whole whole sound (steps-none payload buffer work flash link f a shows);
 }

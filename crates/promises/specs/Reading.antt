@@ -13,15 +13,18 @@ use Rattle.protocol.specs.declared.common.Config.{Config}
 use Rattle.protocol.specs.declared.error.Answer.{Answer}
 use Rattle.engine.specs.declared.bus.Transfer.{Transfer}
 use Rattle.engine.specs.declared.bus.Transfer.the-variants as transfer
+use Rattle.calls.specs.Call.{startOf}
+use Rattle.calls.specs.declared.call.Call.the-variants as call
+use Rattle.calls.specs.declared.kind.Kind.the-variants as kind
 use Rattle.model_gauge.specs.declared.gauge.Gauge.{Gauge}
 use Rattle.courses.specs.Course.{soundOf}
-use Rattle.courses.specs.ReadRun.{World, Left, world, left, runOf}
+use Rattle.courses.specs.Run.{World, Left, world, left, runOf}
 use Rattle.promises.specs.Flash.{placeOf}
 use Rattle.promises.specs.Events.{Event}
 use Rattle.promises.specs.Host.{Doing, events, Allowed}
 use Rattle.promises.specs.Reads.{ReadWorld, readBegan, readShows, readRun, Coming, Damages, readNoisily, readDoes, ReadMay, readHosted, ReadAlike}
 use Rattle.promises.specs.Demand3.{endIn, EndedWell, Accepted}
-use Rattle.promises.specs.Courses.{eventsAt, ran}
+use Rattle.promises.specs.Courses.{eventsAt, ran, left-over}
 
 -- the n bytes of the flash from an address on
 abbrev pub flashBytes : ℕ → ℕ → List ℕ → List ℕ
@@ -55,11 +58,13 @@ pub record ReadPromised (noisy : Bool) (address : ℕ) (buffer flash : List ℕ)
 
 -- the call and the gauge, the buffer, the work buffer and the flash, as the model's runs have them
 abbrev pub inModel : ReadWorld → World
-inModel w = world (record { call = w .call; gauge = w .gauge }) (w .buffer) (w .work) (w .flash)
+inModel w = world (record { call = call.Read (w .call); gauge = w .gauge }) (w .buffer) (w .work) (w .flash)
 
--- a read starts beside a gauge and is run over a course
-abbrev pub readRan : Config → ℕ → List ℕ → List ℕ → List ℕ → Gauge → List ℕ → Left
-readRan config address buffer work flash gauge course = runOf course (inModel (readBegan gauge config address buffer work flash))
+-- a read starts beside a gauge and is run over a course; it does not look at the payload
+abbrev pub readRan : Config → ℕ → (payload buffer work flash : List ℕ) → Gauge → List ℕ → Left
+readRan config address payload buffer work flash gauge course =
+    runOf payload course
+    (world (record { call = startOf (kind.ReadDataflash address) config (length payload) (length buffer) (length work); gauge = gauge }) buffer work flash)
 
 -- the same read over the same events
 abbrev pub readRanIn : Config → ℕ → List ℕ → List ℕ → List ℕ → Gauge → List ℕ → ReadWorld
@@ -68,11 +73,8 @@ readRanIn config address buffer work flash gauge course = readRun (eventsAt cour
 -- what a run leaves that stops there: the call and the gauge, the buffer, the work buffer and the flash; it is cut where the machine shows a transfer, and
 -- else has the answer that it shows
 abbrev pub readStoppedAt : ReadWorld → Left
-readStoppedAt w = left (record { reader = record { call = w .call; gauge = w .gauge }; end = endIn (readShows w) }) (w .buffer) (w .work) (w .flash)
-
--- what a run left, to be run on
-abbrev pub read-over : Left → World
-read-over l = world (l .run .reader) (l .buffer) (l .work) (l .flash)
+readStoppedAt w =
+    left (record { link = record { call = call.Read (w .call); gauge = w .gauge }; end = endIn (readShows w) }) (w .buffer) (w .work) (w .flash)
 
 pub record ReadsTrue : Type 0 where
   -- stop anywhere, whatever each failure's cause, with a PEC or without, from whatever pointer
@@ -86,22 +88,22 @@ pub record ReadsTrue : Type 0 where
       → (doings : List Doing) → Allowed readDoes (ReadMay (length buffer) (length work)) doings (readBegan gauge config address buffer work flash)
       → ReadAlike (readHosted doings (readBegan gauge config address buffer work flash)) (readRun (events doings) (readBegan gauge config address buffer work flash))
   -- on a course: a run leaves what the run over the course's events leaves, and ends as the machine then shows
-  pub same : (config : Config) (address : ℕ) (buffer work flash : List ℕ) → Accepted address buffer work flash
+  pub same : (config : Config) (address : ℕ) (payload buffer work flash : List ℕ) → Accepted address buffer work flash
       → (gauge : Gauge) (course : List ℕ) → soundOf course ≡ true
-      → readRan config address buffer work flash gauge course ≡ readStoppedAt (readRanIn config address buffer work flash gauge course)
+      → readRan config address payload buffer work flash gauge course ≡ readStoppedAt (readRanIn config address buffer work flash gauge course)
   -- no read changes the flash, and one that ends well returns its bytes
-  pub reads : (config : Config) (address : ℕ) (buffer work flash : List ℕ) → Accepted address buffer work flash
+  pub reads : (config : Config) (address : ℕ) (payload buffer work flash : List ℕ) → Accepted address buffer work flash
       → (gauge : Gauge) (course : List ℕ) → soundOf course ≡ true
-      → (readRan config address buffer work flash gauge course .flash ≡ flash)
-      × (EndedWell (readRan config address buffer work flash gauge course .run .end)
-      → readRan config address buffer work flash gauge course .buffer ≡ flashBytes address (length buffer) flash)
+      → (readRan config address payload buffer work flash gauge course .flash ≡ flash)
+      × (EndedWell (readRan config address payload buffer work flash gauge course .run .end)
+      → readRan config address payload buffer work flash gauge course .buffer ≡ flashBytes address (length buffer) flash)
   -- a read that was cut and is run on over a further course is the read run over both
-  pub runs-on : (config : Config) (address : ℕ) (buffer work flash : List ℕ) → Accepted address buffer work flash
+  pub runs-on : (config : Config) (address : ℕ) (payload buffer work flash : List ℕ) → Accepted address buffer work flash
       → (gauge : Gauge) (course further : List ℕ) → soundOf course ≡ true → soundOf further ≡ true
-      → readRan config address buffer work flash gauge (course ++ further) ≡ runOf further (read-over (readRan config address buffer work flash gauge course))
+      → readRan config address payload buffer work flash gauge (course ++ further) ≡ runOf payload further (left-over (readRan config address payload buffer work flash gauge course))
   -- on courses of heard transfers, long enough, a write and then a read of the same range, each by settings of its own: the read ends well and has the payload
-  pub reads-back : (config config′ : Config) (address : ℕ) (payload work flash buffer work′ : List ℕ) → Accepted address payload work flash
+  pub reads-back : (config config′ : Config) (address : ℕ) (payload beside work flash payload′ buffer work′ : List ℕ) → Accepted address payload work flash
       → length buffer ≡ length payload → 39 ≤ length work′
       → (gauge gauge′ : Gauge) (n m : ℕ) → length payload ≤ n * 32 → length payload + 32 ≤ m * 32
-      → EndedWell (readRan config′ address buffer work′ (ran config address payload work flash gauge (replicate n 0) .flash) gauge′ (replicate m 0) .run .end)
-      × (readRan config′ address buffer work′ (ran config address payload work flash gauge (replicate n 0) .flash) gauge′ (replicate m 0) .buffer ≡ payload)
+      → EndedWell (readRan config′ address payload′ buffer work′ (ran config address payload beside work flash gauge (replicate n 0) .flash) gauge′ (replicate m 0) .run .end)
+      × (readRan config′ address payload′ buffer work′ (ran config address payload beside work flash gauge (replicate n 0) .flash) gauge′ (replicate m 0) .buffer ≡ payload)

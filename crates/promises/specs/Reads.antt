@@ -5,14 +5,14 @@ use mathlib.Core.Path.{_≡_}
 use mathlib.Core.List.{List, [], _∷_, _++_}
 use lib.ListN.{length, take}
 use Rattle.smbus_pec.specs.Pec.{pecOf}
-use Rattle.protocol.specs.Pick.{if_then_else_}
 use Rattle.protocol.specs.Bytes.{over}
 use Rattle.protocol.specs.declared.common.Config.{Config}
+use Rattle.engine.specs.Made.{write, read}
 use Rattle.engine.specs.declared.bus.Transfer.{Transfer}
 use Rattle.reading.specs.Reading.{startOf, nextOf, workAfter, reportOf, bufferAfter}
 use Rattle.reading.specs.declared.call.ReadCall.{ReadCall}
 use Rattle.r5.specs.Plans.{readDataflash}
-use Rattle.model_gauge.specs.Gauge.{pointed, repliesTo, replyOf, repliedOf}
+use Rattle.model_gauge.specs.Gauge.{acts}
 use Rattle.model_gauge.specs.declared.gauge.Gauge.{Gauge}
 use Rattle.answers.specs.Runs.{callR}
 use Rattle.promises.specs.Events.{Event, acknowledged, heardAs, lentOf, after, flashAfter, ackedAfter, each}
@@ -52,16 +52,12 @@ heard e brought beside work gauge flash got w = record {
 -- a head of n bytes goes to the gauge from the front of the work buffer, and brings none
 unfoldable pub headSent : Event → (beside work : List ℕ) → ℕ → ReadWorld → ReadWorld
 headSent e beside work n w =
-    heard e [] beside work (after e (w .gauge) (pointed (take n work) (w .gauge))) (flashAfter e (take n work) (w .flash)) (w .got) w
+    heard e [] beside work (after e (w .gauge) (acts (write (take n work)) (w .gauge) (w .flash) .gauge)) (flashAfter e (take n work) (w .flash)) (w .got) w
 
--- what a read brings: the gauge's reply, cut to the number asked, where it replies to such a read
-abbrev pub broughtBy : (command count : ℕ) → Gauge → List ℕ → List ℕ
-broughtBy command count gauge flash = if repliesTo command count then take count (replyOf gauge flash) else []
-
--- a read goes to the gauge
+-- a read goes to the gauge, and brings the reply that it gives to such a read
 unfoldable pub asked : Event → (beside work : List ℕ) → (command count : ℕ) → ReadWorld → ReadWorld
 asked e beside work command count w =
-    heard e (broughtBy command count (w .gauge) (w .flash)) beside work (after e (w .gauge) (repliedOf command count (w .gauge))) (w .flash) (ackedAfter e (w .got)) w
+    heard e (acts (read command count) (w .gauge) (w .flash) .reply) beside work (after e (w .gauge) (acts (read command count) (w .gauge) (w .flash) .gauge)) (w .flash) (ackedAfter e (w .got)) w
 
 -- the same with another work buffer
 abbrev pub lending : List ℕ → ReadWorld → ReadWorld
@@ -101,7 +97,7 @@ readOver (comes e) w = readStep e w
 readOver (damaged front last) w =
     let laid : List ℕ = readLaid w in
     makes (λ n. headSent acknowledged [] laid n w)
-    (λ command count. heard acknowledged (front ++ (last ∷ [])) [] laid (repliedOf command count (w .gauge)) (w .flash) (w .got) w) (lending laid w) (readShows w)
+    (λ command count. heard acknowledged (front ++ (last ∷ [])) [] laid (acts (read command count) (w .gauge) (w .flash) .gauge) (w .flash) (w .got) w) (lending laid w) (readShows w)
 
 -- where a reply has a PEC it has 36 bytes, and is damaged where the last is not the PEC of 16, 44, 17 and the others
 abbrev pub Damages : List Coming → Type 0
