@@ -48,10 +48,10 @@ use Rattle.promises.proofs.RunRows.{again-fits, Came, came, rows-of, ke
 
 -- ---- a run that is not refused drives its call
 
-pub admitted : (payload : List ℕ) (w : World) (course : List ℕ) → length (w .flash) ≡ 8192 → soundOf course ≡ true
+pub is-admitted : (payload : List ℕ) (w : World) (course : List ℕ) → length (w .flash) ≡ 8192 → soundOf course ≡ true
     → runOf payload course w ≡ leftOf (length payload) (driveOf payload (fatesOf course) w)
 unfolding runOf admitOf case_refused_admitted_ if_then_else_
-admitted payload w course whole sound = rw (eq-eqb (length (w .flash)) 8192 whole, sound)
+is-admitted payload w course whole sound = rw (eq-eqb (length (w .flash)) 8192 whole, sound)
 
 -- ---- what a run keeps of its call
 
@@ -135,6 +135,7 @@ module _ (payload : List ℕ) (c : Call) (n w : ℕ) where
 
   -- a call that came of one with these lengths ends as its own
   ends-own : (d : Call) → Follows c d → LentAgain c (length payload) n w → GivesOneOf (ownOf c) (endOf (phaseOf d) (fitsOf d (length payload) n w))
+  unfolding phaseOf
   ends-own d k again = rw (fits c d k again) (end-own (ownOf c) (phaseOf d) (among c d k))
     where
       among : (c d : Call) → Follows c d → Among (ownOf c) (phaseOf d)
@@ -155,7 +156,7 @@ module _ (payload course buffer work flash : List ℕ) (link : Link) (waits : ph
   unfolding leftOf endedOf
   driven whole sound again =
       let k = drive-keeps payload (link .call) (length buffer) (length work) (fatesOf course) (world link buffer work flash) (record { follows = begins (link .call) waits; size = refl; long = refl }) in
-      rw (admitted payload (world link buffer work flash) course whole sound, k .size, k .long) (ends-own payload (link .call) (length buffer) (length work) _ (k .follows) again)
+      rw (is-admitted payload (world link buffer work flash) course whole sound, k .size, k .long) (ends-own payload (link .call) (length buffer) (length work) _ (k .follows) again)
 
   run-came : Came (length flash) course (link .call) (length payload) (length buffer) (length work) link buffer work flash (runOf payload course (world link buffer work flash))
   run-came =

@@ -13,7 +13,6 @@ use Rattle.answers.proofs.Unique.{unique}
 use Rattle.answers.proofs.Unlooked.{unlooked-w, unlooked-r}
 use Rattle.answers.proofs.Within.{stays, within}
 use Rattle.original.proofs.Fronts.{fronts}
-use Rattle.original.proofs.Fronts.{fronts}
 use Rattle.promises.specs.Demand1.{Demand1}
 use Rattle.promises.proofs.CourseRows.{course-rows}
 use Rattle.promises.proofs.RunLaws.{run-laws}

@@ -50,6 +50,9 @@ module _ (pec : Bool) (a : ℕ) (low : 0x4000 ≤ a) (high : a < 0x6000) where
   unfolding effectOf
   address-acts gauge flash = rw (counts pec a [] (omega arith) (omega arith)) (taken .address pec (a % 256) (a / 256) a flash gauge (omega arith) low high)
 
+  pub address-points : (gauge : Gauge) (flash : List ℕ) → acts (write (sealed pec (macBytes (pairOf a) []))) gauge flash .gauge ≡ record { pointer = a }
+  address-points gauge flash = ap (λ (e : Effect). e .gauge) (address-acts gauge flash)
+
   pub address-stores : (flash : List ℕ) → stored (sealed pec (macBytes (pairOf a) [])) flash ≡ flash
   unfolding stored
   address-stores flash = ap (λ (e : Effect). e .flash) (address-acts _ flash)

@@ -20,7 +20,7 @@ use Rattle.engine.specs.declared.budget.Budget.{Budget}
 use Rattle.engine.specs.declared.budget.Tally.{Tally}
 use Rattle.engine.specs.declared.bus.Phase.{Phase}
 use Rattle.engine.specs.declared.bus.Phase.the-variants as phase
-use Rattle.reading.specs.Parts.{hasHead}
+use Rattle.reading.specs.Parts.{hasHead, firstAddress}
 use Rattle.reading.specs.Reading.{startOf, nextOf}
 use Rattle.r5.specs.Plans.{readDataflash}
 use Rattle.model_gauge.specs.declared.gauge.Gauge.{Gauge}
@@ -56,7 +56,7 @@ module _ (config : Config) (address : ℕ) (buffer work flash : List ℕ) (a : A
   -- an accepted read waits with its head due, or is done where nothing is to be read
   pub start-is : (t : Bool) → eqb (length buffer) 0 ≡ t
       → start ≡ readWorld config address (length buffer) (length work) (if t then phase.Ended answer.Done else phase.Waiting) true 0 (record { left = config .«max_bus_retries» }) nothing gauge buffer work flash
-  unfolding readBegan startOf admitted measured windowed readDataflash hasHead if_then_else_
+  unfolding readBegan startOf admitted measured windowed readDataflash hasHead firstAddress if_then_else_
   start-is t e = rw (le-ltb (length work) 39 (a .room), a .window, e)
 
   -- nothing is to be read: it has ended before its first transfer

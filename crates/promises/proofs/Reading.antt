@@ -35,7 +35,7 @@ use Rattle.promises.specs.Reads.{ReadWorld, heard, readStep, readRun, Co
 use Rattle.promises.specs.Reading.{flashBytes, ReadAnswered, all-got, gave-up, disbelieved}
 use Rattle.promises.proofs.Machine.{whyOf, why-number}
 use Rattle.promises.proofs.Replies.{cutReply, reply-good, reply-data}
-use Rattle.promises.proofs.Frames.{address-acts, address-stores}
+use Rattle.promises.proofs.Frames.{address-points, address-stores}
 use Rattle.promises.proofs.ReadSteps.{wanted-block, pointedBy, readAt, readWorld, headOf, head-long, made-head, broughtAt, made-read, heard-failed, head-heard, head-heard-buffer, received, received-buffer, made-damaged, made-over, damaged-head, damaged-over, block-in}
 
 -- as many bytes of the flash as are wanted
@@ -129,7 +129,7 @@ module _ (noisy : Bool) (config : Config) (address n : ℕ) (old flash : List �
     step-head-heard =
         let a : address + i * 32 < 0x6000 = omega arith in
         made-head config address size n i b t g buffer work flash fits long room acknowledged []
-        ∙ rw (head-long config address size n i b t g buffer work flash fits long room, address-acts (config .«pec_read») (address + i * 32) (omega arith) a g flash, address-stores (config .«pec_read») (address + i * 32) (omega arith) a flash, head-heard-buffer config address size n i b t g buffer work flash fits long room, fits, head-heard config address size n i b t g buffer work flash fits long room)
+        ∙ rw (head-long config address size n i b t g buffer work flash fits long room, address-points (config .«pec_read») (address + i * 32) (omega arith) a g flash, address-stores (config .«pec_read») (address + i * 32) (omega arith) a flash, head-heard-buffer config address size n i b t g buffer work flash fits long room, fits, head-heard config address size n i b t g buffer work flash fits long room)
 
     -- the head is lost, before the gauge acts or after
     head-failed : (e : Event) (c : Cause) → heardBy e ≡ causeOf c → (g′ : Gauge)

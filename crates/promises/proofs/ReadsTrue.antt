@@ -29,7 +29,7 @@ use Rattle.reading.specs.Reading.{nextOf}
 use Rattle.reading.specs.declared.call.ReadCall.{ReadCall}
 use Rattle.model_gauge.specs.declared.gauge.Gauge.{Gauge}
 use Rattle.courses.specs.Course.{soundOf}
-use Rattle.courses.specs.ReadRun.{Left}
+use Rattle.courses.specs.Run.{Left}
 use Rattle.promises.specs.Flash.{placeOf, store}
 use Rattle.promises.specs.Events.{acknowledged, each}
 use Rattle.promises.specs.Reads.{ReadWorld, readShows, readRun}
@@ -79,20 +79,20 @@ all-over wanted old m long h =
     let e : take m wanted ≡ wanted = take-all m wanted (omega arith) in
     rw (e, long, drop-length, append-nil)
 
-module _ (config : Config) (address : ℕ) (buffer work flash : List ℕ) (a : Accepted address buffer work flash) (gauge : Gauge) where
+module _ (payload : List ℕ) (config : Config) (address : ℕ) (buffer work flash : List ℕ) (a : Accepted address buffer work flash) (gauge : Gauge) where
   -- no read changes the flash, and one that ends well returns its bytes
   reads : (course : List ℕ) → soundOf course ≡ true
-      → (readRan config address buffer work flash gauge course .flash ≡ flash)
-      × (EndedWell (readRan config address buffer work flash gauge course .run .end)
-      → readRan config address buffer work flash gauge course .buffer ≡ flashBytes address (length buffer) flash)
+      → (readRan config address payload buffer work flash gauge course .flash ≡ flash)
+      × (EndedWell (readRan config address payload buffer work flash gauge course .run .end)
+      → readRan config address payload buffer work flash gauge course .buffer ≡ flashBytes address (length buffer) flash)
   reads course sound =
       let w : ReadWorld = readRanIn config address buffer work flash gauge course in
       let s = stopped config address buffer work flash a gauge (eventsAt course) in
-      let is = same config address buffer work flash a gauge course sound in (
+      let is = same payload config address buffer work flash a gauge course sound in (
         ap (λ (l : Left). l .flash) is ∙ s .kept,
         λ well.
             let all : length buffer ≤ w .got * 32 =
-            well-all (length buffer) (w .got) (readShows w) (subst EndedWell (ends config address buffer work flash a gauge course sound) well) (s .told) in
+            well-all (length buffer) (w .got) (readShows w) (subst EndedWell (ends payload config address buffer work flash a gauge course sound) well) (s .told) in
             ap (λ (l : Left). l .buffer) is ∙ s .front ∙ all-over (flashBytes address (length buffer) flash) buffer (w .got * 32) (wanted-long address buffer work flash a) all,
       )
 
@@ -136,15 +136,15 @@ shows-done : (call : ReadCall) (n w : ℕ) → call .phase ≡ phase.Ended answe
 unfolding nextOf case_waiting_ended_
 shows-done call n w e = rw e
 
-module _ (config : Config) (address : ℕ) (buffer work flash : List ℕ) (a : Accepted address buffer work flash) (gauge : Gauge) where
+module _ (payload : List ℕ) (config : Config) (address : ℕ) (buffer work flash : List ℕ) (a : Accepted address buffer work flash) (gauge : Gauge) where
   -- a read over heard transfers ends well
-  heard-ends : (m : ℕ) → blocksOf (length buffer) < m → EndedWell (readRan config address buffer work flash gauge (replicate m 0) .run .end)
+  heard-ends : (m : ℕ) → blocksOf (length buffer) < m → EndedWell (readRan config address payload buffer work flash gauge (replicate m 0) .run .end)
   unfolding if_then_else_
   heard-ends m k =
       let w : ReadWorld = readRanIn config address buffer work flash gauge (replicate m 0) in
       let shown : readShows w ≡ transfer.Ended answer.Done =
       shows-done (w .call) (length (w .buffer)) (length (w .work)) (rw (heard-in m) (by (eqb (length buffer) 0) refl)) in
-      rw (ends config address buffer work flash a gauge (replicate m 0) (heard-sound m), shown) refl
+      rw (ends payload config address buffer work flash a gauge (replicate m 0) (heard-sound m), shown) refl
     where
       by : (t : Bool) → eqb (length buffer) 0 ≡ t → readRun (replicate m acknowledged) (start config address buffer work flash a gauge) .call .phase ≡ phase.Ended answer.Done
       by true t = ap (λ (w : ReadWorld). w .call .phase) (read-empty config address buffer work flash a gauge (eqb-true _ _ t) (replicate m acknowledged))
@@ -161,20 +161,20 @@ clean-bytes address payload flash fits =
     let front : length (take (placeOf address) flash) ≡ placeOf address = length-take-le (placeOf address) flash (omega arith) in
     rw (append-assoc, drop-at (take (placeOf address) flash) _ (placeOf address) front) (take-append-seam payload _)
 
-reads-back : (config config′ : Config) (address : ℕ) (payload work flash buffer work′ : List ℕ) → Accepted address payload work flash
+reads-back : (config config′ : Config) (address : ℕ) (payload beside work flash payload′ buffer work′ : List ℕ) → Accepted address payload work flash
     → length buffer ≡ length payload → 39 ≤ length work′
     → (gauge gauge′ : Gauge) (n m : ℕ) → length payload ≤ n * 32 → length payload + 32 ≤ m * 32
-    → EndedWell (readRan config′ address buffer work′ (ran config address payload work flash gauge (replicate n 0) .flash) gauge′ (replicate m 0) .run .end)
-    × (readRan config′ address buffer work′ (ran config address payload work flash gauge (replicate n 0) .flash) gauge′ (replicate m 0) .buffer ≡ payload)
-reads-back config config′ address payload work flash buffer work′ a fits room gauge gauge′ n m blocks spare =
+    → EndedWell (readRan config′ address payload′ buffer work′ (ran config address payload beside work flash gauge (replicate n 0) .flash) gauge′ (replicate m 0) .run .end)
+    × (readRan config′ address payload′ buffer work′ (ran config address payload beside work flash gauge (replicate n 0) .flash) gauge′ (replicate m 0) .buffer ≡ payload)
+reads-back config config′ address payload beside work flash payload′ buffer work′ a fits room gauge gauge′ n m blocks spare =
     let more : blocksOf (length payload) < m = omega arith in
-    let now : List ℕ = ran config address payload work flash gauge (replicate n 0) .flash in
-    let clean-now : now ≡ clean address payload flash = unbroken config address payload work flash a gauge n (omega arith) .1 in
+    let now : List ℕ = ran config address payload beside work flash gauge (replicate n 0) .flash in
+    let clean-now : now ≡ clean address payload flash = unbroken config address payload beside work flash a gauge n (omega arith) .1 in
     let c : Accepted address buffer work′ now =
-    record { window = rw fits (a .window); room = room; whole = run-leaves config address payload work flash a gauge (replicate n 0) (heard-sound n) .bytes .size ∙ a .whole } in
-    let well : EndedWell (readRan config′ address buffer work′ now gauge′ (replicate m 0) .run .end) = heard-ends config′ address buffer work′ now c gauge′ m (rw fits more) in (
+    record { window = rw fits (a .window); room = room; whole = run-leaves config address payload work flash a gauge beside (replicate n 0) (heard-sound n) .bytes .size ∙ a .whole } in
+    let well : EndedWell (readRan config′ address payload′ buffer work′ now gauge′ (replicate m 0) .run .end) = heard-ends payload′ config′ address buffer work′ now c gauge′ m (rw fits more) in (
       well,
-      reads config′ address buffer work′ now c gauge′ (replicate m 0) (heard-sound m) .1 well
+      reads payload′ config′ address buffer work′ now c gauge′ (replicate m 0) (heard-sound m) .1 well
           ∙ rw (fits, clean-now) (by (eqb (length payload) 0) refl),
     )
   where
@@ -196,8 +196,8 @@ reads-true =
       stopped = λ config address buffer work flash a gauge es. stopped config address buffer work flash a gauge es;
       damaged = λ config address buffer work flash a pec gauge cs d. damaged config address buffer work flash a gauge pec cs d;
       any-host = λ config address buffer work flash a gauge doings allowed. any-host config address buffer work flash a gauge doings allowed;
-      same = λ config address buffer work flash a gauge course sound. same config address buffer work flash a gauge course sound;
-      reads = λ config address buffer work flash a gauge course sound. reads config address buffer work flash a gauge course sound;
-      runs-on = λ config address buffer work flash a gauge course further p q. runs-on config address buffer work flash a gauge course further p q;
+      same = λ config address payload buffer work flash a gauge course sound. same payload config address buffer work flash a gauge course sound;
+      reads = λ config address payload buffer work flash a gauge course sound. reads payload config address buffer work flash a gauge course sound;
+      runs-on = λ config address payload buffer work flash a gauge course further p q. runs-on payload config address buffer work flash a gauge course further p q;
       reads-back = reads-back;
     }

@@ -33,7 +33,7 @@ use Rattle.courses.specs.declared.run.Link.{Link}
 use Rattle.answers.proofs.Kept.{stored-length}
 use Rattle.promises.specs.RunLaws.{Means, heard, lost-before, lost-after, callOf, reportedTo, Shows, shows-write, shows-read, RunLaws}
 use Rattle.promises.proofs.RunRows.{again-fits}
-use Rattle.promises.proofs.CourseRows.{admitted}
+use Rattle.promises.proofs.CourseRows.{is-admitted}
 
 -- ---- a transfer keeps the flash's length
 
@@ -90,7 +90,7 @@ is-cut : (payload buffer work flash : List ℕ) (link : Link) → length flash �
     → runOf payload [] (world link buffer work flash) ≡ left (record { link = link; end = end.Cut }) buffer work flash
 unfolding leftOf endedOf driveOf fatesOf endOf case_waiting_ended_ if_then_else_
 is-cut payload buffer work flash link whole waits again =
-    admitted payload (world link buffer work flash) [] whole none-sound ∙ rw (waits, again-fits (link .call) (length payload) (length buffer) (length work) again)
+    is-admitted payload (world link buffer work flash) [] whole none-sound ∙ rw (waits, again-fits (link .call) (length payload) (length buffer) (length work) again)
 
 module _ (payload buffer work flash : List ℕ) (call : Call) (gauge : Gauge) where
   steps : (f : Fate) (made : Made) → Shows call payload buffer work made
@@ -110,10 +110,10 @@ run-on : (payload rest : List ℕ) (w v : World) (byte : ℕ) (f : Fate) → Mea
     → stepOf payload f w ≡ v → runOf payload (byte ∷ rest) w ≡ runOf payload rest v
 unfolding driveOf
 run-on payload rest w v byte f means whole whole′ sound step =
-    admitted payload w (byte ∷ rest) whole (first-sound byte f means rest sound)
+    is-admitted payload w (byte ∷ rest) whole (first-sound byte f means rest sound)
     ∙ ap (λ (fs : List Fate). leftOf (length payload) (driveOf payload fs w)) (first-fate byte f means rest)
     ∙ ap (λ (v : World). leftOf (length payload) (driveOf payload (fatesOf rest) v)) step
-    ∙ sym (admitted payload v rest whole′ sound)
+    ∙ sym (is-admitted payload v rest whole′ sound)
 
 -- THE LAWS OF A RUN
 pub run-laws : RunLaws

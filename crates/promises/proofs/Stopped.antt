@@ -22,7 +22,7 @@ use Rattle.engine.specs.declared.budget.Budget.{Budget}
 use Rattle.engine.specs.declared.budget.Tally.{Tally}
 use Rattle.engine.specs.declared.bus.Phase.{Phase}
 use Rattle.engine.specs.declared.bus.Phase.the-variants as phase
-use Rattle.writing.specs.Frames.{isFlash, blockBytes}
+use Rattle.writing.specs.Frames.{isFlash, firstAddress, blockBytes}
 use Rattle.writing.specs.Writing.{planOf, startOf, gaveUp, retryOf, endOf, failOf}
 use Rattle.r5.specs.Plans.{writeDataflash}
 use Rattle.model_gauge.specs.Gauge.{stored}
@@ -158,7 +158,7 @@ module _ (config : Config) (address : ℕ) (payload old : List ℕ) (n : ℕ) (r
 pub began-is : (config : Config) (address : ℕ) (payload work flash : List ℕ) → Accepted address payload work flash → (t : Bool) → eqb (length payload) 0 ≡ t
     → began config address payload work flash
     ≡ worldAt config address payload (length work) (if t then phase.Ended answer.Done else phase.Waiting) 0 (record { left = config .«max_bus_retries» }) nothing work flash
-unfolding began startOf admitted measured windowed planOf writeDataflash if_then_else_
+unfolding began startOf admitted measured windowed planOf writeDataflash firstAddress if_then_else_
 began-is config address payload work flash a t e = rw (le-ltb (length work) 39 (a .room), a .window, e)
 
 -- what nothing in a list changes stays as it is over all of it

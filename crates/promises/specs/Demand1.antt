@@ -31,8 +31,8 @@ use Rattle.promises.specs.RunLaws.{RunLaws}
 pub record Demand1 : Type 1 where
   -- the answers' numbers and details
   pub numbers : Numbers
-  -- at the start, for every limit; and which limit each call has
-  pub starts : (l : Limit) (n w k d : ℕ) → Says k d (admitted l n w) ↔ Starts n w l k d
+  -- at the start, for every limit and first address; and which limit each call has
+  pub starts : (l : Limit) (start n w k d : ℕ) → Says k d (admitted l start n w) ↔ Starts start n w l k d
   pub starts-so : Admitted
   pub limits : (config : Config) → Limits config
   -- at a report, for every state, outcome, reply and lent length
