@@ -1,4 +1,4 @@
--- However the input is cut into pieces, the lines that are put together are those of the whole input.
+-- However the input is cut into chunks, the lines that are put together are those of the whole input.
 -- Assumes nothing.
 use Prim.Native.Nat.{ℕ, suc, _+_, _-_, _≤_, _<_, min}
 use mathlib.Core.Path.{_≡_, refl, sym, ap, _∙_}
@@ -11,9 +11,9 @@ use lib.Dec.{eqb}
 use borrow.Author.Tests.{le-leb}
 use Rattle.protocol.specs.Pick.{if_then_else_}
 use Rattle.protocol.specs.Bytes.{over, blockIn, storedAt}
-use Rattle.pieces.specs.Pieces.{beforeFeed, lineTook, linesFrom, restFrom}
+use Rattle.lines.specs.Lines.{beforeFeed, linesFrom, restFrom}
 
--- one piece after the other
+-- one chunk after the other
 pub lines-append : (s t held : List ℕ) → linesFrom held (s ++ t) ≡ linesFrom held s ++ linesFrom (restFrom held s) t
 unfolding linesFrom restFrom if_then_else_
 lines-append [] t held = refl
@@ -36,7 +36,7 @@ rest-append (b ∷ s) t held = by (rest-append s t []) (rest-append s t (held ++
     by p q true = p
     by p q false = q
 
--- a piece with no line feed: all of it is held
+-- a chunk with no line feed: all of it is held
 pub lines-more : (s held : List ℕ) → length s ≤ length (beforeFeed s) → (linesFrom held s ≡ []) × (restFrom held s ≡ held ++ s)
 unfolding linesFrom restFrom beforeFeed if_then_else_
 lines-more [] held h = (refl, sym (append-nil held))
@@ -48,7 +48,7 @@ lines-more (b ∷ s) held h = by (λ k. lines-more s (held ++ (b ∷ [])) k) (eq
     by rest true h = absurd (omega arith)
     by rest false h = let r = rest (omega arith) in (r .0, r .1 ∙ append-assoc held (b ∷ []) s)
 
--- a piece with a line feed: a line is whole, and what follows is read from there
+-- a chunk with a line feed: a line is whole, and what follows is read from there
 pub lines-whole : (s held : List ℕ) → length (beforeFeed s) < length s
     → (linesFrom held s ≡ (held ++ beforeFeed s) ∷ linesFrom [] (drop (suc (length (beforeFeed s))) s)) × (restFrom held s ≡ restFrom [] (drop (suc (length (beforeFeed s))) s))
 unfolding linesFrom restFrom beforeFeed if_then_else_
@@ -67,18 +67,16 @@ lines-whole (b ∷ s) held h = by (λ k. lines-whole s (held ++ (b ∷ [])) k) (
         let r = rest (omega arith) in
         (r .0 ∙ ap (λ (l : List ℕ). l ∷ linesFrom [] (drop (suc (length (beforeFeed s))) s)) (append-assoc held (b ∷ []) (beforeFeed s)), r .1)
 
--- what is held after a turn, where it has room: what was held, and the bytes before the line feed
-pub held-after : (piece line : List ℕ) (from have : ℕ) → have + length (beforeFeed (drop from piece)) ≤ length line
-    → take (have + length (beforeFeed (drop from piece))) (lineTook piece from line have) ≡ take have line ++ beforeFeed (drop from piece)
-unfolding lineTook storedAt if_then_else_ blockIn over
-held-after piece line from have h =
-    let b : List ℕ = beforeFeed (drop from piece) in
-    let d : List ℕ = drop have line in
-    let n : length d ≡ length line - have = length-drop have line in
-    let le : have ≤ length line = omega arith in
+-- what is held once the bytes before a line feed are put after what was held, where they have room
+pub held-more : (b held : List ℕ) (have : ℕ) → have + length b ≤ length held → take (have + length b) (storedAt have (length b) b held) ≡ take have held ++ b
+unfolding storedAt if_then_else_ blockIn over
+held-more b held have h =
+    let d : List ℕ = drop have held in
+    let n : length d ≡ length held - have = length-drop have held in
+    let le : have ≤ length held = omega arith in
     let m : min (length b) (min (length b) (length d)) ≡ length b = omega arith in
-    let k : length (take have line ++ b) ≡ have + length b = rw (length-append, length-take-le have line le) refl in
-    rw (le-leb have (length line) le, m, take-length b)
-    (ap (λ (t : List ℕ). take (have + length b) t) (sym (append-assoc (take have line) b (drop (length b) d)))
-    ∙ ap (λ (j : ℕ). take j (take have line ++ b ++ drop (length b) d)) (sym k)
-    ∙ take-append-seam (take have line ++ b) (drop (length b) d))
+    let k : length (take have held ++ b) ≡ have + length b = rw (length-append, length-take-le have held le) refl in
+    rw (le-leb have (length held) le, m, take-length b)
+    (ap (λ (t : List ℕ). take (have + length b) t) (sym (append-assoc (take have held) b (drop (length b) d)))
+    ∙ ap (λ (j : ℕ). take j (take have held ++ b ++ drop (length b) d)) (sym k)
+    ∙ take-append-seam (take have held ++ b) (drop (length b) d))
