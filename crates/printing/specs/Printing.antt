@@ -10,6 +10,7 @@ use Rattle.protocol.specs.Bytes.{over}
 use Rattle.protocol.specs.Frame.{pairOf}
 use Rattle.protocol.specs.Answer.{numberOf, detailOf}
 use Rattle.protocol.specs.declared.error.Answer.{Answer}
+use Rattle.engine.specs.declared.budget.Tally.{Tally}
 
 -- upper-case hexadecimal and a line feed
 unfoldable pub feedBytes : List ℕ → List ℕ
@@ -36,9 +37,9 @@ unfoldable pub readSaid : ℕ → ℕ → List ℕ
 readSaid command count = 0x01 ∷ command ∷ pairOf count
 
 -- the end: FF, the answer, its two-byte detail, the waits and a reading call's buffer
-unfoldable pub endSaid : Answer → ℕ → List ℕ → List ℕ
-endSaid answer waits buffer = 0xFF ∷ numberOf answer ∷ pairOf (detailOf answer) ++ quadOf waits ++ buffer
+unfoldable pub endSaid : Answer → Tally → List ℕ → List ℕ
+endSaid answer tally buffer = 0xFF ∷ numberOf answer ∷ pairOf (detailOf answer) ++ quadOf (tally .waits) ++ buffer
 
 -- no outcomes left: FE, the waits and a reading call's buffer
-unfoldable pub openSaid : ℕ → List ℕ → List ℕ
-openSaid waits buffer = 0xFE ∷ quadOf waits ++ buffer
+unfoldable pub cutSaid : Tally → List ℕ → List ℕ
+cutSaid tally buffer = 0xFE ∷ quadOf (tally .waits) ++ buffer

@@ -1,11 +1,19 @@
 // The lines that the bench program prints: upper-case hexadecimal and a line feed, laid at the front of a lent slice.
+use engine::budget::Tally;
 use protocol::error::Answer;
+use requests::request::MOST_BYTES;
 ghost use mathlib.Core.Path.{_≡_};
 ghost use mathlib.Core.List.{_++_};
 ghost use Prim.Native.Nat.{_+_, _*_, _≤_};
 ghost use lib.ListN.{length};
 ghost use lib.Dec.{leb};
-ghost use Rattle.printing.specs.Printing.{feedBytes, printedOf, outPrinted, writeSaid, readSaid, endSaid, openSaid};
+ghost use Rattle.printing.specs.Printing.{feedBytes, printedOf, outPrinted, quadOf, writeSaid, readSaid, endSaid, cutSaid};
+
+// The bytes of an end before its buffer: FF, the answer, its detail and a count.
+const END_BYTES: usize = 8;
+
+// The longest line is the end of a call with the longest buffer, as digits, and a line feed.
+pub const LONGEST_LINE: usize = (END_BYTES + MOST_BYTES) * 2 + 1;
 
 // Whether two parts of so many bytes and a line feed have room, as digits, in so many bytes.
 fn fits(head: usize, body: usize, room: usize) -> bool
@@ -64,34 +72,42 @@ pub fn read(command: u8, count: usize, out: &mut [u8]) -> usize
     line(&head, b"", out)
 }
 
+// The four bytes of a count, low byte first.
+fn quad(n: u32) -> [u8; 4]
+    ensures { λ r. ⌜ r ≡ quadOf n ⌝ }
+{
+    [
+        (n % 256) as u8,
+        (n / 256 % 256) as u8,
+        (n / 65536 % 256) as u8,
+        (n / 16777216 % 256) as u8,
+    ]
+}
+
 // The end: FF, the answer, its two-byte detail, a four-byte count of waits and a reading call's buffer.
-pub fn end(answer: Answer, waits: u32, buffer: &[u8], out: &mut [u8]) -> usize
-    ensures { λ r. ⌜ (r ≡ printedOf (endSaid answer waits (now (buffer .entry))) (length (now (out .entry)))) × (now (out .exit) ≡ outPrinted (endSaid answer waits (now (buffer .entry))) (now (out .entry))) ⌝ }
+pub fn end(answer: Answer, tally: Tally, buffer: &[u8], out: &mut [u8]) -> usize
+    ensures { λ r. ⌜ (r ≡ printedOf (endSaid answer tally (now (buffer .entry))) (length (now (out .entry)))) × (now (out .exit) ≡ outPrinted (endSaid answer tally (now (buffer .entry))) (now (out .entry))) ⌝ }
 {
     let detail = answer.detail();
+    let waits = quad(tally.waits);
     let head = [
         0xFFu8,
         answer.number(),
         (detail % 256) as u8,
         (detail / 256 % 256) as u8,
-        (waits % 256) as u8,
-        (waits / 256 % 256) as u8,
-        (waits / 65536 % 256) as u8,
-        (waits / 16777216 % 256) as u8,
+        waits[0],
+        waits[1],
+        waits[2],
+        waits[3],
     ];
     line(&head, buffer, out)
 }
 
 // No outcomes left: FE, a four-byte count of waits and a reading call's buffer.
-pub fn open(waits: u32, buffer: &[u8], out: &mut [u8]) -> usize
-    ensures { λ r. ⌜ (r ≡ printedOf (openSaid waits (now (buffer .entry))) (length (now (out .entry)))) × (now (out .exit) ≡ outPrinted (openSaid waits (now (buffer .entry))) (now (out .entry))) ⌝ }
+pub fn cut(tally: Tally, buffer: &[u8], out: &mut [u8]) -> usize
+    ensures { λ r. ⌜ (r ≡ printedOf (cutSaid tally (now (buffer .entry))) (length (now (out .entry)))) × (now (out .exit) ≡ outPrinted (cutSaid tally (now (buffer .entry))) (now (out .entry))) ⌝ }
 {
-    let head = [
-        0xFEu8,
-        (waits % 256) as u8,
-        (waits / 256 % 256) as u8,
-        (waits / 65536 % 256) as u8,
-        (waits / 16777216 % 256) as u8,
-    ];
+    let waits = quad(tally.waits);
+    let head = [0xFEu8, waits[0], waits[1], waits[2], waits[3]];
     line(&head, buffer, out)
 }
