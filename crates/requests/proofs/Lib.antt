@@ -1,3 +1,4 @@
 pub mod Laws
+pub mod Every
 pub mod Long
 pub mod Small

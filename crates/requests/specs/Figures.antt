@@ -8,15 +8,14 @@ use lib.ListN.{replicate}
 use Rattle.protocol.specs.Pick.{if_then_else_}
 use Rattle.protocol.specs.declared.common.Config.{Config}
 use Rattle.engine.specs.declared.bus.Outcome.the-variants as outcome
+use Rattle.requests.specs.declared.kind.Kind.the-variants as kind
 use Rattle.requests.specs.Fields.{pairAt, quadAt}
-use Rattle.requests.specs.Request.{configOf, writesOf, wholeOf, readsOf, commandOf, readLine, writeLine, requestLine}
+use Rattle.requests.specs.Request.{configOf, bad, callOf, exactOf, askedOf, requestLine}
 use Rattle.requests.specs.Outcome.{acknowledgedLine, errorLine, timeoutLine, outcomeLine}
 use Rattle.requests.specs.declared.outcome.Told.{Told}
 use Rattle.requests.specs.declared.outcome.Told.the-variants as told
 use Rattle.requests.specs.declared.request.Request.{Request}
 use Rattle.requests.specs.declared.request.Request.the-variants as request
-use Rattle.requests.specs.declared.request.ReadKind.the-variants as reads
-use Rattle.requests.specs.declared.request.WriteKind.the-variants as writes
 
 pub data Figure : Type 0 where
   -- a request line's bytes, and what it asks for
@@ -32,64 +31,64 @@ line kind arguments = kind ∷ 0x00 ∷ 0x00 ∷ 0x00 ∷ arguments
 
 abbrev pub figures : List Figure
 figures =
-    asks (line 0x01 (0x34 ∷ 0x12 ∷ 0xAA ∷ 0xBB ∷ [])) (request.Write (writes.DataFlash 0x1234) 6)
-    ∷ asks (line 0x02 (0x34 ∷ 0x12 ∷ 0x02 ∷ 0x01 ∷ [])) (request.Read (reads.DataFlash 0x1234) 0x0102)
-    ∷ asks (line 0x03 (0x12 ∷ 0xAA ∷ [])) (request.Write (writes.Register 0x12) 5)
-    ∷ asks (line 0x04 (0x12 ∷ 0x02 ∷ 0x01 ∷ [])) (request.Read (reads.Register 0x12) 0x0102)
-    ∷ asks (line 0x05 (0x78 ∷ 0x56 ∷ 0x34 ∷ 0x12 ∷ 0x02 ∷ 0x01 ∷ 0xAA ∷ [])) (request.Read (reads.Command 0x12345678) 0x0102)
-    ∷ asks (line 0x06 (0x12 ∷ 0x02 ∷ 0x01 ∷ [])) (request.Read (reads.Buffer 0x12) 0x0102)
-    ∷ asks (line 0x07 (0x12 ∷ 0xAA ∷ [])) (request.Write (writes.Buffer 0x12) 5)
-    ∷ asks (line 0x08 []) (request.Read reads.SecurityKeys 28)
-    ∷ asks (line 0x09 (0xAA ∷ [])) (request.Write writes.SecurityKeys 4)
-    ∷ asks (line 0x0A []) (request.Read reads.AuthenticationKey 16)
-    ∷ asks (line 0x0B (0xAA ∷ [])) (request.Write writes.AuthenticationKey 4)
-    ∷ asks (line 0x0C (0x12 ∷ 0x02 ∷ 0x01 ∷ [])) (request.Read (reads.RegisterUnchecked 0x12) 0x0102)
-    ∷ asks (line 0x0D (0x12 ∷ 0xAA ∷ [])) (request.Write (writes.RegisterUnchecked 0x12) 5)
-    ∷ asks (line 0x0E (0x34 ∷ 0x12 ∷ 0x78 ∷ 0x56 ∷ [])) (request.Write (writes.AccessKey 0x1234 0x5678) 8)
-    ∷ asks (line 0x0F (0x02 ∷ 0x01 ∷ [])) (request.Read reads.MfgInfoC 0x0102)
-    ∷ asks (line 0x10 (0x34 ∷ 0x12 ∷ 0x78 ∷ 0x56 ∷ 0xAA ∷ [])) (request.Write (writes.MfgInfoC 0x1234 0x5678) 8)
-    ∷ asks (line 0x11 (0x02 ∷ 0x01 ∷ [])) (request.Read reads.MfgInfo 0x0102)
-    ∷ asks (line 0x12 (0xAA ∷ [])) (request.Write writes.MfgInfo 4)
-    ∷ asks (line 0x13 []) (request.Read reads.ChargingVoltageOverride 10)
-    ∷ asks (line 0x14 (replicate 10 0xAA)) (request.Write writes.ChargingVoltageOverride 4)
-    ∷ asks (line 0x15 (0xAA ∷ [])) (request.Write writes.Plain 4)
+    asks (line 0x01 (0x34 ∷ 0x12 ∷ 0xAA ∷ 0xBB ∷ [])) (request.Call (kind.WriteDataflash 0x1234) 6 0)
+    ∷ asks (line 0x02 (0x34 ∷ 0x12 ∷ 0x02 ∷ 0x01 ∷ [])) (request.Call (kind.ReadDataflash 0x1234) 8 0x0102)
+    ∷ asks (line 0x03 (0x12 ∷ 0xAA ∷ [])) (request.Call (kind.WriteRegister 0x12) 5 0)
+    ∷ asks (line 0x04 (0x12 ∷ 0x02 ∷ 0x01 ∷ [])) (request.Call (kind.ReadRegister 0x12) 7 0x0102)
+    ∷ asks (line 0x05 (0x78 ∷ 0x56 ∷ 0x34 ∷ 0x12 ∷ 0x02 ∷ 0x01 ∷ 0xAA ∷ [])) (request.Call (kind.DispatchCommand 0x12345678) 10 0x0102)
+    ∷ asks (line 0x06 (0x12 ∷ 0x02 ∷ 0x01 ∷ [])) (request.Call (kind.ReadBuffer 0x12) 7 0x0102)
+    ∷ asks (line 0x07 (0x12 ∷ 0xAA ∷ [])) (request.Call (kind.WriteBuffer 0x12) 5 0)
+    ∷ asks (line 0x08 []) (request.Call kind.ReadSecurityKeys 4 28)
+    ∷ asks (line 0x09 (0xAA ∷ [])) (request.Call kind.WriteSecurityKeys 4 0)
+    ∷ asks (line 0x0A []) (request.Call kind.ReadAuthenticationKey 4 16)
+    ∷ asks (line 0x0B (0xAA ∷ [])) (request.Call kind.WriteAuthenticationKey 4 0)
+    ∷ asks (line 0x0C (0x12 ∷ 0x02 ∷ 0x01 ∷ [])) (request.Call (kind.ReadRegisterUnchecked 0x12) 7 0x0102)
+    ∷ asks (line 0x0D (0x12 ∷ 0xAA ∷ [])) (request.Call (kind.WriteRegisterUnchecked 0x12) 5 0)
+    ∷ asks (line 0x0E (0x34 ∷ 0x12 ∷ 0x78 ∷ 0x56 ∷ [])) (request.Call (kind.SendAccessKey 0x1234 0x5678) 8 0)
+    ∷ asks (line 0x0F (0x02 ∷ 0x01 ∷ [])) (request.Call kind.ReadMfgInfoC 6 0x0102)
+    ∷ asks (line 0x10 (0x34 ∷ 0x12 ∷ 0x78 ∷ 0x56 ∷ 0xAA ∷ [])) (request.Call (kind.WriteMfgInfoC 0x1234 0x5678) 8 0)
+    ∷ asks (line 0x11 (0x02 ∷ 0x01 ∷ [])) (request.Call kind.ReadMfgInfo 6 0x0102)
+    ∷ asks (line 0x12 (0xAA ∷ [])) (request.Call kind.WriteMfgInfo 4 0)
+    ∷ asks (line 0x13 []) (request.Call kind.ReadChargingVoltageOverride 4 10)
+    ∷ asks (line 0x14 (replicate 10 0xAA)) (request.Call kind.WriteChargingVoltageOverride 4 0)
+    ∷ asks (line 0x15 (0xAA ∷ [])) (request.Call kind.WriteWithRetries 4 0)
     -- no such kind, a third flag, a header cut short
-    ∷ asks (line 0x00 []) request.Bad
-    ∷ asks (line 0x16 []) request.Bad
-    ∷ asks (0x08 ∷ 0x03 ∷ 0x00 ∷ 0x00 ∷ []) (request.Read reads.SecurityKeys 28)
-    ∷ asks (0x08 ∷ 0x04 ∷ 0x00 ∷ 0x00 ∷ []) request.Bad
-    ∷ asks (0x08 ∷ 0x00 ∷ 0x00 ∷ []) request.Bad
+    ∷ asks (line 0x00 []) bad
+    ∷ asks (line 0x16 []) bad
+    ∷ asks (0x08 ∷ 0x03 ∷ 0x00 ∷ 0x00 ∷ []) (request.Call kind.ReadSecurityKeys 4 28)
+    ∷ asks (0x08 ∷ 0x04 ∷ 0x00 ∷ 0x00 ∷ []) bad
+    ∷ asks (0x08 ∷ 0x00 ∷ 0x00 ∷ []) bad
     -- arguments that are missing, or too many
-    ∷ asks (line 0x01 (0x34 ∷ [])) request.Bad
-    ∷ asks (line 0x01 (0x34 ∷ 0x12 ∷ [])) (request.Write (writes.DataFlash 0x1234) 6)
-    ∷ asks (line 0x02 (0x34 ∷ 0x12 ∷ 0x02 ∷ [])) request.Bad
-    ∷ asks (line 0x02 (0x34 ∷ 0x12 ∷ 0x02 ∷ 0x01 ∷ 0x00 ∷ [])) request.Bad
-    ∷ asks (line 0x08 (0x00 ∷ [])) request.Bad
-    ∷ asks (line 0x14 (replicate 9 0xAA)) request.Bad
-    ∷ asks (line 0x14 (replicate 11 0xAA)) request.Bad
-    ∷ asks (line 0x04 (0x12 ∷ 0x02 ∷ [])) request.Bad
-    ∷ asks (line 0x04 (0x12 ∷ 0x02 ∷ 0x01 ∷ 0x00 ∷ [])) request.Bad
-    ∷ asks (line 0x05 (0x78 ∷ 0x56 ∷ 0x34 ∷ 0x12 ∷ 0x02 ∷ [])) request.Bad
-    ∷ asks (line 0x06 (0x12 ∷ 0x02 ∷ [])) request.Bad
-    ∷ asks (line 0x0C (0x12 ∷ 0x02 ∷ 0x01 ∷ 0x00 ∷ [])) request.Bad
-    ∷ asks (line 0x0E (0x34 ∷ 0x12 ∷ 0x78 ∷ [])) request.Bad
-    ∷ asks (line 0x0E (0x34 ∷ 0x12 ∷ 0x78 ∷ 0x56 ∷ 0x00 ∷ [])) request.Bad
-    ∷ asks (line 0x0F (0x02 ∷ [])) request.Bad
-    ∷ asks (line 0x10 (0x34 ∷ 0x12 ∷ 0x78 ∷ [])) request.Bad
-    ∷ asks (line 0x11 (0x02 ∷ 0x01 ∷ 0x00 ∷ [])) request.Bad
+    ∷ asks (line 0x01 (0x34 ∷ [])) bad
+    ∷ asks (line 0x01 (0x34 ∷ 0x12 ∷ [])) (request.Call (kind.WriteDataflash 0x1234) 6 0)
+    ∷ asks (line 0x02 (0x34 ∷ 0x12 ∷ 0x02 ∷ [])) bad
+    ∷ asks (line 0x02 (0x34 ∷ 0x12 ∷ 0x02 ∷ 0x01 ∷ 0x00 ∷ [])) bad
+    ∷ asks (line 0x08 (0x00 ∷ [])) bad
+    ∷ asks (line 0x14 (replicate 9 0xAA)) bad
+    ∷ asks (line 0x14 (replicate 11 0xAA)) bad
+    ∷ asks (line 0x04 (0x12 ∷ 0x02 ∷ [])) bad
+    ∷ asks (line 0x04 (0x12 ∷ 0x02 ∷ 0x01 ∷ 0x00 ∷ [])) bad
+    ∷ asks (line 0x05 (0x78 ∷ 0x56 ∷ 0x34 ∷ 0x12 ∷ 0x02 ∷ [])) bad
+    ∷ asks (line 0x06 (0x12 ∷ 0x02 ∷ [])) bad
+    ∷ asks (line 0x0C (0x12 ∷ 0x02 ∷ 0x01 ∷ 0x00 ∷ [])) bad
+    ∷ asks (line 0x0E (0x34 ∷ 0x12 ∷ 0x78 ∷ [])) bad
+    ∷ asks (line 0x0E (0x34 ∷ 0x12 ∷ 0x78 ∷ 0x56 ∷ 0x00 ∷ [])) bad
+    ∷ asks (line 0x0F (0x02 ∷ [])) bad
+    ∷ asks (line 0x10 (0x34 ∷ 0x12 ∷ 0x78 ∷ [])) bad
+    ∷ asks (line 0x11 (0x02 ∷ 0x01 ∷ 0x00 ∷ [])) bad
     -- a payload, an input or a read length of 8,192 bytes, and of one more
-    ∷ asks (line 0x01 (0x34 ∷ 0x12 ∷ replicate 8192 0xAA)) (request.Write (writes.DataFlash 0x1234) 6)
-    ∷ asks (line 0x01 (0x34 ∷ 0x12 ∷ replicate 8193 0xAA)) request.Bad
-    ∷ asks (line 0x02 (0x34 ∷ 0x12 ∷ 0x00 ∷ 0x20 ∷ [])) (request.Read (reads.DataFlash 0x1234) 8192)
-    ∷ asks (line 0x02 (0x34 ∷ 0x12 ∷ 0x01 ∷ 0x20 ∷ [])) request.Bad
-    ∷ asks (line 0x05 (0x78 ∷ 0x56 ∷ 0x34 ∷ 0x12 ∷ 0x00 ∷ 0x20 ∷ [])) (request.Read (reads.Command 0x12345678) 8192)
-    ∷ asks (line 0x05 (0x78 ∷ 0x56 ∷ 0x34 ∷ 0x12 ∷ 0x01 ∷ 0x20 ∷ [])) request.Bad
-    ∷ asks (line 0x15 (replicate 8192 0xAA)) (request.Write writes.Plain 4)
-    ∷ asks (line 0x15 (replicate 8193 0xAA)) request.Bad
-    ∷ asks (line 0x05 (0x78 ∷ 0x56 ∷ 0x34 ∷ 0x12 ∷ 0x00 ∷ 0x00 ∷ replicate 8192 0xAA)) (request.Read (reads.Command 0x12345678) 0)
-    ∷ asks (line 0x05 (0x78 ∷ 0x56 ∷ 0x34 ∷ 0x12 ∷ 0x00 ∷ 0x00 ∷ replicate 8193 0xAA)) request.Bad
-    ∷ asks (line 0x06 (0x12 ∷ 0x00 ∷ 0x20 ∷ [])) (request.Read (reads.Buffer 0x12) 8192)
-    ∷ asks (line 0x06 (0x12 ∷ 0x01 ∷ 0x20 ∷ [])) request.Bad
+    ∷ asks (line 0x01 (0x34 ∷ 0x12 ∷ replicate 8192 0xAA)) (request.Call (kind.WriteDataflash 0x1234) 6 0)
+    ∷ asks (line 0x01 (0x34 ∷ 0x12 ∷ replicate 8193 0xAA)) bad
+    ∷ asks (line 0x02 (0x34 ∷ 0x12 ∷ 0x00 ∷ 0x20 ∷ [])) (request.Call (kind.ReadDataflash 0x1234) 8 8192)
+    ∷ asks (line 0x02 (0x34 ∷ 0x12 ∷ 0x01 ∷ 0x20 ∷ [])) bad
+    ∷ asks (line 0x05 (0x78 ∷ 0x56 ∷ 0x34 ∷ 0x12 ∷ 0x00 ∷ 0x20 ∷ [])) (request.Call (kind.DispatchCommand 0x12345678) 10 8192)
+    ∷ asks (line 0x05 (0x78 ∷ 0x56 ∷ 0x34 ∷ 0x12 ∷ 0x01 ∷ 0x20 ∷ [])) bad
+    ∷ asks (line 0x15 (replicate 8192 0xAA)) (request.Call kind.WriteWithRetries 4 0)
+    ∷ asks (line 0x15 (replicate 8193 0xAA)) bad
+    ∷ asks (line 0x05 (0x78 ∷ 0x56 ∷ 0x34 ∷ 0x12 ∷ 0x00 ∷ 0x00 ∷ replicate 8192 0xAA)) (request.Call (kind.DispatchCommand 0x12345678) 10 0)
+    ∷ asks (line 0x05 (0x78 ∷ 0x56 ∷ 0x34 ∷ 0x12 ∷ 0x00 ∷ 0x00 ∷ replicate 8193 0xAA)) bad
+    ∷ asks (line 0x06 (0x12 ∷ 0x00 ∷ 0x20 ∷ [])) (request.Call (kind.ReadBuffer 0x12) 7 8192)
+    ∷ asks (line 0x06 (0x12 ∷ 0x01 ∷ 0x20 ∷ [])) bad
     -- outcomes
     ∷ says (0x00 ∷ []) (told.Outcome outcome.Acknowledged)
     ∷ says (0x00 ∷ replicate 8192 0xAA) (told.Outcome outcome.Acknowledged)
@@ -116,5 +115,5 @@ Hold (says s t ∷ more) = (outcomeLine s ≡ t) × Hold more
 Hold (sets s c ∷ more) = (configOf s ≡ c) × Hold more
 
 pub figures-hold : Hold figures
-unfolding pairAt quadAt configOf writesOf wholeOf readsOf commandOf readLine writeLine requestLine acknowledgedLine errorLine timeoutLine outcomeLine if_then_else_
+unfolding pairAt quadAt configOf callOf exactOf askedOf requestLine acknowledgedLine errorLine timeoutLine outcomeLine if_then_else_
 figures-hold = (refl, (refl, (refl, (refl, (refl, (refl, (refl, (refl, (refl, (refl, (refl, (refl, (refl, (refl, (refl, (refl, (refl, (refl, (refl, (refl, (refl, (refl, (refl, (refl, (refl, (refl, (refl, (refl, (refl, (refl, (refl, (refl, (refl, (refl, (refl, (refl, (refl, (refl, (refl, (refl, (refl, (refl, (refl, (refl, (refl, (refl, (refl, (refl, (refl, (refl, (refl, (refl, (refl, (refl, (refl, (refl, (refl, (refl, (refl, (refl, (refl, (refl, (refl, (refl, (refl, (refl, (refl, (refl, (refl, tt)))))))))))))))))))))))))))))))))))))))))))))))))))))))))))))))))))))

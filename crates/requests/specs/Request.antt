@@ -1,16 +1,15 @@
 -- What a request line asks for: the kinds of docs/BENCH.md, one to a line. (01, The bench program)
 -- Assumes nothing.
-use Prim.Native.Nat.{ℕ, _-_, _/_, _%_}
+use Prim.Native.Nat.{ℕ, _+_, _-_, _/_, _%_}
 use mathlib.Core.List.{List}
-use lib.ListN.{length, getD}
+use lib.ListN.{length, drop, getD}
 use lib.Dec.{ltb, eqb}
 use Rattle.protocol.specs.Pick.{if_then_else_}
 use Rattle.protocol.specs.declared.common.Config.{Config}
+use Rattle.protocol.specs.declared.error.Answer.the-variants as answer
+use Rattle.requests.specs.declared.kind.Kind.{Kind}
+use Rattle.requests.specs.declared.kind.Kind.the-variants as kind
 use Rattle.requests.specs.Fields.{pairAt, quadAt}
-use Rattle.requests.specs.declared.request.WriteKind.{WriteKind}
-use Rattle.requests.specs.declared.request.WriteKind.the-variants as writes
-use Rattle.requests.specs.declared.request.ReadKind.{ReadKind}
-use Rattle.requests.specs.declared.request.ReadKind.the-variants as reads
 use Rattle.requests.specs.declared.request.Request.{Request}
 use Rattle.requests.specs.declared.request.Request.the-variants as request
 
@@ -22,54 +21,43 @@ configOf line = record {
   «pec_read» = eqb (getD line 1 0 / 2 % 2) 1;
 }
 
--- a payload that is the rest of a line of n bytes, at most 8,192
-unfoldable pub writesOf : WriteKind → ℕ → ℕ → Request
-writesOf call at n = if ltb n at then request.Bad else if ltb 8192 (n - at) then request.Bad else request.Write call at
+-- what asks for nothing
+abbrev pub bad : Request
+bad = request.Refused answer.BadLine
 
--- a line of exactly so many bytes
-unfoldable pub wholeOf : WriteKind → ℕ → ℕ → ℕ → Request
-wholeOf call at whole n = if eqb n whole then request.Write call at else request.Bad
+-- a buffer of so many bytes, and a payload that is what follows `at` of n bytes of arguments: each at most 8,192
+unfoldable pub callOf : Kind → ℕ → ℕ → ℕ → Request
+callOf k at size n = if ltb 8192 size then bad else if ltb n at then bad else if ltb 8192 (n - at) then bad else request.Call k (4 + at) size
 
--- a read length of at most 8,192, in a line of exactly so many bytes
-unfoldable pub readsOf : ReadKind → ℕ → ℕ → ℕ → Request
-readsOf call size whole n = if ltb 8192 size then request.Bad else if eqb n whole then request.Read call size else request.Bad
+-- the same with a payload of exactly so many bytes
+unfoldable pub exactOf : Kind → ℕ → ℕ → ℕ → ℕ → Request
+exactOf k at payload size n = if ltb n at then bad else if eqb (n - at) payload then callOf k at size n else bad
 
--- an output's length, and an input that is the rest of the line
-unfoldable pub commandOf : ℕ → ℕ → ℕ → Request
-commandOf address size n =
-    if ltb 8192 size then request.Bad else
-    if ltb n 10 then request.Bad else
-    if ltb 8192 (n - 10) then request.Bad else request.Read (reads.Command address) size
-
--- the kinds that read
-unfoldable pub readLine : List ℕ → Request
-readLine line =
-    if eqb (getD line 0 0) 0x02 then readsOf (reads.DataFlash (pairAt 4 line)) (pairAt 6 line) 8 (length line) else
-    if eqb (getD line 0 0) 0x04 then readsOf (reads.Register (getD line 4 0)) (pairAt 5 line) 7 (length line) else
-    if eqb (getD line 0 0) 0x05 then commandOf (quadAt 4 line) (pairAt 8 line) (length line) else
-    if eqb (getD line 0 0) 0x06 then readsOf (reads.Buffer (getD line 4 0)) (pairAt 5 line) 7 (length line) else
-    if eqb (getD line 0 0) 0x08 then readsOf reads.SecurityKeys 28 4 (length line) else
-    if eqb (getD line 0 0) 0x0A then readsOf reads.AuthenticationKey 16 4 (length line) else
-    if eqb (getD line 0 0) 0x0C then readsOf (reads.RegisterUnchecked (getD line 4 0)) (pairAt 5 line) 7 (length line) else
-    if eqb (getD line 0 0) 0x0F then readsOf reads.MfgInfoC (pairAt 4 line) 6 (length line) else
-    if eqb (getD line 0 0) 0x11 then readsOf reads.MfgInfo (pairAt 4 line) 6 (length line) else
-    if eqb (getD line 0 0) 0x13 then readsOf reads.ChargingVoltageOverride 10 4 (length line) else request.Bad
-
--- the kinds that write, and then those that read
-unfoldable pub writeLine : List ℕ → Request
-writeLine line =
-    if eqb (getD line 0 0) 0x01 then writesOf (writes.DataFlash (pairAt 4 line)) 6 (length line) else
-    if eqb (getD line 0 0) 0x03 then writesOf (writes.Register (getD line 4 0)) 5 (length line) else
-    if eqb (getD line 0 0) 0x07 then writesOf (writes.Buffer (getD line 4 0)) 5 (length line) else
-    if eqb (getD line 0 0) 0x09 then writesOf writes.SecurityKeys 4 (length line) else
-    if eqb (getD line 0 0) 0x0B then writesOf writes.AuthenticationKey 4 (length line) else
-    if eqb (getD line 0 0) 0x0D then writesOf (writes.RegisterUnchecked (getD line 4 0)) 5 (length line) else
-    if eqb (getD line 0 0) 0x0E then wholeOf (writes.AccessKey (pairAt 4 line) (pairAt 6 line)) 8 8 (length line) else
-    if eqb (getD line 0 0) 0x10 then writesOf (writes.MfgInfoC (pairAt 4 line) (pairAt 6 line)) 8 (length line) else
-    if eqb (getD line 0 0) 0x12 then writesOf writes.MfgInfo 4 (length line) else
-    if eqb (getD line 0 0) 0x14 then wholeOf writes.ChargingVoltageOverride 4 14 (length line) else
-    if eqb (getD line 0 0) 0x15 then writesOf writes.Plain 4 (length line) else readLine line
+-- the kinds by their numbers: the arguments before the payload, the payload where its length is fixed, and the buffer
+unfoldable pub askedOf : ℕ → List ℕ → Request
+askedOf k args =
+    if eqb k 0x01 then callOf (kind.WriteDataflash (pairAt 0 args)) 2 0 (length args) else
+    if eqb k 0x02 then exactOf (kind.ReadDataflash (pairAt 0 args)) 4 0 (pairAt 2 args) (length args) else
+    if eqb k 0x03 then callOf (kind.WriteRegister (getD args 0 0)) 1 0 (length args) else
+    if eqb k 0x04 then exactOf (kind.ReadRegister (getD args 0 0)) 3 0 (pairAt 1 args) (length args) else
+    if eqb k 0x05 then callOf (kind.DispatchCommand (quadAt 0 args)) 6 (pairAt 4 args) (length args) else
+    if eqb k 0x06 then exactOf (kind.ReadBuffer (getD args 0 0)) 3 0 (pairAt 1 args) (length args) else
+    if eqb k 0x07 then callOf (kind.WriteBuffer (getD args 0 0)) 1 0 (length args) else
+    if eqb k 0x08 then exactOf kind.ReadSecurityKeys 0 0 28 (length args) else
+    if eqb k 0x09 then callOf kind.WriteSecurityKeys 0 0 (length args) else
+    if eqb k 0x0A then exactOf kind.ReadAuthenticationKey 0 0 16 (length args) else
+    if eqb k 0x0B then callOf kind.WriteAuthenticationKey 0 0 (length args) else
+    if eqb k 0x0C then exactOf (kind.ReadRegisterUnchecked (getD args 0 0)) 3 0 (pairAt 1 args) (length args) else
+    if eqb k 0x0D then callOf (kind.WriteRegisterUnchecked (getD args 0 0)) 1 0 (length args) else
+    if eqb k 0x0E then exactOf (kind.SendAccessKey (pairAt 0 args) (pairAt 2 args)) 4 0 0 (length args) else
+    if eqb k 0x0F then exactOf kind.ReadMfgInfoC 2 0 (pairAt 0 args) (length args) else
+    if eqb k 0x10 then callOf (kind.WriteMfgInfoC (pairAt 0 args) (pairAt 2 args)) 4 0 (length args) else
+    if eqb k 0x11 then exactOf kind.ReadMfgInfo 2 0 (pairAt 0 args) (length args) else
+    if eqb k 0x12 then callOf kind.WriteMfgInfo 0 0 (length args) else
+    if eqb k 0x13 then exactOf kind.ReadChargingVoltageOverride 0 0 10 (length args) else
+    if eqb k 0x14 then exactOf kind.WriteChargingVoltageOverride 0 10 0 (length args) else
+    if eqb k 0x15 then callOf kind.WriteWithRetries 0 0 (length args) else bad
 
 -- kind, flags of bits 0 and 1 only, retries, arguments
 unfoldable pub requestLine : List ℕ → Request
-requestLine line = if ltb (length line) 4 then request.Bad else if ltb 3 (getD line 1 0) then request.Bad else writeLine line
+requestLine line = if ltb (length line) 4 then bad else if ltb 3 (getD line 1 0) then bad else askedOf (getD line 0 0) (drop 4 line)

@@ -2,60 +2,35 @@
 use crate::fields::byte;
 use crate::fields::pair;
 use crate::fields::quad;
+use crate::fields::rest;
+use crate::kind::Kind;
 use protocol::common::Config;
 use protocol::consts::AUTH_KEY_DATA_LEN_BYTES;
 use protocol::consts::CHRG_VOLTAGE_OVERRIDE_SIZE_BYTES;
 use protocol::consts::SECURITY_KEYS_R5_DATA_LEN_BYTES;
+use protocol::error::Answer;
 ghost use mathlib.Core.Path.{_≡_};
 ghost use lib.ListN.{length};
-ghost use Rattle.requests.specs.Request.{configOf, writesOf, wholeOf, readsOf, commandOf, writeLine, readLine, requestLine};
+ghost use Rattle.requests.specs.Request.{configOf, callOf, exactOf, askedOf, requestLine};
 
 // A payload, an input, a buffer and a reply have at most so many bytes.
 pub const MOST_BYTES: usize = 8192;
 
-// Where a command's input starts in its line.
-pub const INPUT_AT: usize = 10;
+// The header: kind, flags, retries. The arguments follow it.
+const HEADER_BYTES: usize = 4;
+
+// Where a command's input starts in its arguments, the most that stand before a payload.
+const INPUT_AT: usize = 6;
 
 // The longest request line is a command's.
-pub const LONGEST_REQUEST: usize = INPUT_AT + MOST_BYTES;
-
-// A writing call of the bench program, with its arguments but for the payload.
-pub enum WriteKind {
-    DataFlash(u16),
-    Register(u8),
-    Buffer(u8),
-    SecurityKeys,
-    AuthenticationKey,
-    RegisterUnchecked(u8),
-    AccessKey { lower: u16, upper: u16 },
-    MfgInfoC { lower: u16, upper: u16 },
-    MfgInfo,
-    ChargingVoltageOverride,
-    Plain,
-}
-
-// A reading call of the bench program, with its arguments but for the length.
-pub enum ReadKind {
-    DataFlash(u16),
-    Register(u8),
-    Command(u32),
-    Buffer(u8),
-    SecurityKeys,
-    AuthenticationKey,
-    RegisterUnchecked(u8),
-    MfgInfoC,
-    MfgInfo,
-    ChargingVoltageOverride,
-}
+pub const LONGEST_REQUEST: usize = HEADER_BYTES + INPUT_AT + MOST_BYTES;
 
 // What a request line asks for.
 pub enum Request {
-    // A writing call, whose payload is the line from this byte on.
-    Write(WriteKind, usize),
-    // A reading call with a buffer of so many bytes. A command's input is the line from `INPUT_AT` on.
-    Read(ReadKind, usize),
-    // Nothing: a bad line.
-    Bad,
+    // A call: its payload, or a command's input, is the line from byte `at` on, and its buffer has `len` bytes, none where it reads nothing.
+    Call { kind: Kind, at: usize, len: usize },
+    // Nothing: the answer is why.
+    Refused(Answer),
 }
 
 // The settings that a request line gives.
@@ -70,138 +45,137 @@ pub fn config(line: &[u8]) -> Config
     }
 }
 
-// A writing call whose payload is the rest of a line of `len` bytes, at most `MOST_BYTES`.
-fn writes(call: WriteKind, at: usize, len: usize) -> Request
-    ensures { λ r. ⌜ r ≡ writesOf call at len ⌝ }
+// A call with a buffer of `len` bytes, whose payload is what follows `at` bytes of its arguments; each has at most `MOST_BYTES`.
+fn call(kind: Kind, at: usize, len: usize, args: &[u8]) -> Request
+    ensures { λ r. ⌜ r ≡ callOf kind at len (length (now (args .entry))) ⌝ }
 {
-    if len < at {
-        return Request::Bad;
+    if MOST_BYTES < len {
+        return Request::Refused(Answer::BadLine);
     }
-    if MOST_BYTES < len - at {
-        return Request::Bad;
+    if args.len() < at {
+        return Request::Refused(Answer::BadLine);
     }
-    Request::Write(call, at)
+    if MOST_BYTES < args.len() - at {
+        return Request::Refused(Answer::BadLine);
+    }
+    Request::Call {
+        kind,
+        at: HEADER_BYTES + at,
+        len,
+    }
 }
 
-// A writing call in a line of exactly `whole` bytes.
-fn whole(call: WriteKind, at: usize, whole: usize, len: usize) -> Request
-    ensures { λ r. ⌜ r ≡ wholeOf call at whole len ⌝ }
+// A call whose payload has exactly so many bytes.
+fn exact(kind: Kind, at: usize, payload: usize, len: usize, args: &[u8]) -> Request
+    ensures { λ r. ⌜ r ≡ exactOf kind at payload len (length (now (args .entry))) ⌝ }
 {
-    if len == whole {
-        Request::Write(call, at)
+    if args.len() < at {
+        return Request::Refused(Answer::BadLine);
+    }
+    if args.len() - at == payload {
+        call(kind, at, len, args)
     } else {
-        Request::Bad
+        Request::Refused(Answer::BadLine)
     }
 }
 
-// A reading call of at most `MOST_BYTES`, in a line of exactly `whole` bytes.
-fn reads(call: ReadKind, length: u16, whole: usize, len: usize) -> Request
-    ensures { λ r. ⌜ r ≡ readsOf call length whole len ⌝ }
+// What a kind asks for, by its number and its arguments.
+fn asked(kind: u8, args: &[u8]) -> Request
+    ensures { λ r. ⌜ r ≡ askedOf kind (now (args .entry)) ⌝ }
 {
-    if MOST_BYTES < length as usize {
-        return Request::Bad;
-    }
-    if len == whole {
-        Request::Read(call, length as usize)
-    } else {
-        Request::Bad
-    }
-}
-
-// A command with its output's length, whose input is the rest of the line, each at most `MOST_BYTES`.
-fn command(address: u32, length: u16, len: usize) -> Request
-    ensures { λ r. ⌜ r ≡ commandOf address length len ⌝ }
-{
-    if MOST_BYTES < length as usize {
-        return Request::Bad;
-    }
-    if len < INPUT_AT {
-        return Request::Bad;
-    }
-    if MOST_BYTES < len - INPUT_AT {
-        return Request::Bad;
-    }
-    Request::Read(ReadKind::Command(address), length as usize)
-}
-
-// The kinds that read.
-fn read_line(line: &[u8]) -> Request
-    ensures { λ r. ⌜ r ≡ readLine (now (line .entry)) ⌝ }
-{
-    let len = line.len();
-    match byte(line, 0) {
-        0x02 => reads(ReadKind::DataFlash(pair(line, 4)), pair(line, 6), 8, len),
-        0x04 => reads(ReadKind::Register(byte(line, 4)), pair(line, 5), 7, len),
-        0x05 => command(quad(line, 4), pair(line, 8), len),
-        0x06 => reads(ReadKind::Buffer(byte(line, 4)), pair(line, 5), 7, len),
-        0x08 => reads(
-            ReadKind::SecurityKeys,
-            SECURITY_KEYS_R5_DATA_LEN_BYTES as u16,
+    match kind {
+        0x01 => call(Kind::WriteDataflash(pair(args, 0)), 2, 0, args),
+        0x02 => exact(
+            Kind::ReadDataflash(pair(args, 0)),
             4,
-            len,
+            0,
+            pair(args, 2) as usize,
+            args,
         ),
-        0x0A => reads(
-            ReadKind::AuthenticationKey,
-            AUTH_KEY_DATA_LEN_BYTES as u16,
-            4,
-            len,
+        0x03 => call(Kind::WriteRegister(byte(args, 0)), 1, 0, args),
+        0x04 => exact(
+            Kind::ReadRegister(byte(args, 0)),
+            3,
+            0,
+            pair(args, 1) as usize,
+            args,
         ),
-        0x0C => reads(
-            ReadKind::RegisterUnchecked(byte(line, 4)),
-            pair(line, 5),
-            7,
-            len,
+        0x05 => call(
+            Kind::DispatchCommand(quad(args, 0)),
+            INPUT_AT,
+            pair(args, 4) as usize,
+            args,
         ),
-        0x0F => reads(ReadKind::MfgInfoC, pair(line, 4), 6, len),
-        0x11 => reads(ReadKind::MfgInfo, pair(line, 4), 6, len),
-        0x13 => reads(
-            ReadKind::ChargingVoltageOverride,
-            CHRG_VOLTAGE_OVERRIDE_SIZE_BYTES as u16,
-            4,
-            len,
+        0x06 => exact(
+            Kind::ReadBuffer(byte(args, 0)),
+            3,
+            0,
+            pair(args, 1) as usize,
+            args,
         ),
-        _ => Request::Bad,
-    }
-}
-
-// The kinds that write, and then those that read.
-fn write_line(line: &[u8]) -> Request
-    ensures { λ r. ⌜ r ≡ writeLine (now (line .entry)) ⌝ }
-{
-    let len = line.len();
-    match byte(line, 0) {
-        0x01 => writes(WriteKind::DataFlash(pair(line, 4)), 6, len),
-        0x03 => writes(WriteKind::Register(byte(line, 4)), 5, len),
-        0x07 => writes(WriteKind::Buffer(byte(line, 4)), 5, len),
-        0x09 => writes(WriteKind::SecurityKeys, 4, len),
-        0x0B => writes(WriteKind::AuthenticationKey, 4, len),
-        0x0D => writes(WriteKind::RegisterUnchecked(byte(line, 4)), 5, len),
-        0x0E => whole(
-            WriteKind::AccessKey {
-                lower: pair(line, 4),
-                upper: pair(line, 6),
+        0x07 => call(Kind::WriteBuffer(byte(args, 0)), 1, 0, args),
+        0x08 => exact(
+            Kind::ReadSecurityKeys,
+            0,
+            0,
+            SECURITY_KEYS_R5_DATA_LEN_BYTES,
+            args,
+        ),
+        0x09 => call(Kind::WriteSecurityKeys, 0, 0, args),
+        0x0A => exact(
+            Kind::ReadAuthenticationKey,
+            0,
+            0,
+            AUTH_KEY_DATA_LEN_BYTES,
+            args,
+        ),
+        0x0B => call(Kind::WriteAuthenticationKey, 0, 0, args),
+        0x0C => exact(
+            Kind::ReadRegisterUnchecked(byte(args, 0)),
+            3,
+            0,
+            pair(args, 1) as usize,
+            args,
+        ),
+        0x0D => call(Kind::WriteRegisterUnchecked(byte(args, 0)), 1, 0, args),
+        0x0E => exact(
+            Kind::SendAccessKey {
+                lower: pair(args, 0),
+                upper: pair(args, 2),
             },
-            8,
-            8,
-            len,
-        ),
-        0x10 => writes(
-            WriteKind::MfgInfoC {
-                lower: pair(line, 4),
-                upper: pair(line, 6),
-            },
-            8,
-            len,
-        ),
-        0x12 => writes(WriteKind::MfgInfo, 4, len),
-        0x14 => whole(
-            WriteKind::ChargingVoltageOverride,
             4,
-            4 + CHRG_VOLTAGE_OVERRIDE_SIZE_BYTES,
-            len,
+            0,
+            0,
+            args,
         ),
-        0x15 => writes(WriteKind::Plain, 4, len),
-        _ => read_line(line),
+        0x0F => exact(Kind::ReadMfgInfoC, 2, 0, pair(args, 0) as usize, args),
+        0x10 => call(
+            Kind::WriteMfgInfoC {
+                lower: pair(args, 0),
+                upper: pair(args, 2),
+            },
+            4,
+            0,
+            args,
+        ),
+        0x11 => exact(Kind::ReadMfgInfo, 2, 0, pair(args, 0) as usize, args),
+        0x12 => call(Kind::WriteMfgInfo, 0, 0, args),
+        0x13 => exact(
+            Kind::ReadChargingVoltageOverride,
+            0,
+            0,
+            CHRG_VOLTAGE_OVERRIDE_SIZE_BYTES,
+            args,
+        ),
+        0x14 => exact(
+            Kind::WriteChargingVoltageOverride,
+            0,
+            CHRG_VOLTAGE_OVERRIDE_SIZE_BYTES,
+            0,
+            args,
+        ),
+        0x15 => call(Kind::WriteWithRetries, 0, 0, args),
+        _ => Request::Refused(Answer::BadLine),
     }
 }
 
@@ -209,11 +183,11 @@ fn write_line(line: &[u8]) -> Request
 pub fn read(line: &[u8]) -> Request
     ensures { λ r. ⌜ r ≡ requestLine (now (line .entry)) ⌝ }
 {
-    if line.len() < 4 {
-        return Request::Bad;
+    if line.len() < HEADER_BYTES {
+        return Request::Refused(Answer::BadLine);
     }
     if 3 < byte(line, 1) {
-        return Request::Bad;
+        return Request::Refused(Answer::BadLine);
     }
-    write_line(line)
+    asked(byte(line, 0), rest(line, HEADER_BYTES))
 }

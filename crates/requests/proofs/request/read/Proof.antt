@@ -1,29 +1,49 @@
--- `requests::request::read` meets its contract: each arm is a case of `requestLine`.
+-- `requests::request::read` meets its contract: each test is a case of `requestLine`.
 -- Assumes nothing.
+use mathlib.Core.Path.{_≡_, _∙_}
+use lib.ListN.{drop, getD}
 use borrow.Author.Needs.{needs}
 use Rattle.protocol.proofs.Cases.{cases}
+use Rattle.requests.specs.Request.{askedOf, requestLine}
 use Rattle.requests.proofs.Laws.{yes-lt-of, not-lt-of}
-use Rattle.requests.specs.Request.{requestLine}
 use Rattle.requests.proofs.request.read.Statement.{statement}
 use Rattle.requests.proofs.request.read.Tie as tie
 
 returns : tie.Need-returns
 unfolding requestLine
-returns c = search (cases, yes-lt-of, not-lt-of)
+returns c = search cases
 
 byte-requires : tie.Need-byte-requires
 byte-requires c κs = search needs
 
 returns-2 : tie.Need-returns-2
 unfolding requestLine
-returns-2 c = search (cases, yes-lt-of, not-lt-of)
+returns-2 c = search (cases, yes-lt-of)
 
-write-line-requires : tie.Need-write-line-requires
-write-line-requires c κs = search needs
+byte-requires-2 : tie.Need-byte-requires-2
+byte-requires-2 c κs = search needs
+
+rest-requires : tie.Need-rest-requires
+rest-requires c κs = search needs
+
+asked-requires : tie.Need-asked-requires
+asked-requires c κs = search needs
 
 returns-3 : tie.Need-returns-3
 unfolding requestLine
-returns-3 c = search (cases, yes-lt-of, not-lt-of)
+returns-3 c =
+    let line = c .before .before .before .before .before .before .before .args .line .now in
+    let same : c .asked .result ≡ askedOf (getD line 0 0) (drop 4 line) = c .asked .ensures ∙ rw (c .before .rest .ensures, c .before .before .byte2 .ensures) in
+    search (cases, not-lt-of)
 
 pub read-spec : {M : Type 1} → statement M
-read-spec = tie.close (tie.spec returns byte-requires returns-2 write-line-requires returns-3)
+read-spec =
+    tie.close
+    (tie.spec
+    returns
+    byte-requires
+    returns-2
+    byte-requires-2
+    rest-requires
+    asked-requires
+    returns-3)
