@@ -6,7 +6,7 @@ use mathlib.Core.List.{List}
 use native.Mathlib.Omega.{arith}
 use lib.ListN.{length, drop, getD}
 use Rattle.protocol.specs.Pick.{if_then_else_}
-use Rattle.requests.specs.declared.kind.Kind.{Kind}
+use Rattle.calls.specs.declared.kind.Kind.{Kind}
 use Rattle.requests.specs.Request.{bad, callOf, exactOf, askedOf, requestLine}
 use Rattle.requests.specs.declared.request.Request.{Request}
 

@@ -9,7 +9,7 @@ use lib.ListN.{length, drop, getD, length-drop}
 use lib.Dec.{ltb}
 use Rattle.protocol.specs.Pick.{if_then_else_}
 use Rattle.protocol.proofs.Cases.{cases}
-use Rattle.requests.specs.declared.kind.Kind.{Kind}
+use Rattle.calls.specs.declared.kind.Kind.{Kind}
 use Rattle.requests.specs.Outcome.{acknowledgedLine, errorLine, timeoutLine, outcomeLine}
 use Rattle.requests.specs.Request.{bad, callOf, requestLine}
 use Rattle.requests.specs.declared.outcome.Told.the-variants as told

@@ -9,7 +9,7 @@ use lib.ListN.{length, drop, length-drop}
 use lib.Dec.{ltb}
 use borrow.Author.Tests.{ltb-false}
 use Rattle.protocol.specs.Pick.{if_then_else_}
-use Rattle.requests.specs.declared.kind.Kind.{Kind}
+use Rattle.calls.specs.declared.kind.Kind.{Kind}
 use Rattle.requests.specs.Request.{bad, callOf, requestLine}
 use Rattle.requests.specs.declared.request.Request.{Request}
 use Rattle.requests.specs.declared.request.Request.the-variants as request

@@ -8,7 +8,7 @@ use lib.ListN.{replicate}
 use Rattle.protocol.specs.Pick.{if_then_else_}
 use Rattle.protocol.specs.declared.common.Config.{Config}
 use Rattle.engine.specs.declared.bus.Outcome.the-variants as outcome
-use Rattle.requests.specs.declared.kind.Kind.the-variants as kind
+use Rattle.calls.specs.declared.kind.Kind.the-variants as kind
 use Rattle.requests.specs.Fields.{pairAt, quadAt}
 use Rattle.requests.specs.Request.{configOf, bad, callOf, exactOf, askedOf, requestLine}
 use Rattle.requests.specs.Outcome.{acknowledgedLine, errorLine, timeoutLine, outcomeLine}

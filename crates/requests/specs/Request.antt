@@ -7,8 +7,8 @@ use lib.Dec.{ltb, eqb}
 use Rattle.protocol.specs.Pick.{if_then_else_}
 use Rattle.protocol.specs.declared.common.Config.{Config}
 use Rattle.protocol.specs.declared.error.Answer.the-variants as answer
-use Rattle.requests.specs.declared.kind.Kind.{Kind}
-use Rattle.requests.specs.declared.kind.Kind.the-variants as kind
+use Rattle.calls.specs.declared.kind.Kind.{Kind}
+use Rattle.calls.specs.declared.kind.Kind.the-variants as kind
 use Rattle.requests.specs.Fields.{pairAt, quadAt}
 use Rattle.requests.specs.declared.request.Request.{Request}
 use Rattle.requests.specs.declared.request.Request.the-variants as request

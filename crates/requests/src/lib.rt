@@ -1,5 +1,4 @@
 // What the lines of the bench program say: a request line, and an outcome line. Both are read as bytes, from their digits.
 pub mod fields;
-pub mod kind;
 pub mod outcome;
 pub mod request;

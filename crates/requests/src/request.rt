@@ -3,7 +3,7 @@ use crate::fields::byte;
 use crate::fields::pair;
 use crate::fields::quad;
 use crate::fields::rest;
-use crate::kind::Kind;
+use calls::kind::Kind;
 use protocol::common::Config;
 use protocol::consts::AUTH_KEY_DATA_LEN_BYTES;
 use protocol::consts::CHRG_VOLTAGE_OVERRIDE_SIZE_BYTES;

@@ -1,5 +1,0 @@
-pub mod Lines
-pub mod Kept
-pub mod Machine
-pub mod Whole
-pub mod Room

@@ -1,2 +1,0 @@
-pub mod Saying
-pub mod Bench
