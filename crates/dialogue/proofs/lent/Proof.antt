@@ -1,0 +1,17 @@
+-- `dialogue::lent` meets its contract: each arm is a case of `lentOf`.
+-- Assumes nothing.
+use Rattle.protocol.proofs.Cases.{cases}
+use Rattle.dialogue.specs.Dialogue.{lentOf}
+use Rattle.dialogue.proofs.lent.Statement.{statement}
+use Rattle.dialogue.proofs.lent.Tie as tie
+
+returns : tie.Need-returns
+unfolding lentOf
+returns c = search cases
+
+returns-2 : tie.Need-returns-2
+unfolding lentOf
+returns-2 c = search cases
+
+pub lent-spec : {M : Type 1} → statement M
+lent-spec = tie.close (tie.spec returns returns-2)
