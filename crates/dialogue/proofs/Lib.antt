@@ -1,2 +1,6 @@
 pub mod Kept
 pub mod Laws
+pub mod Lines
+pub mod Machine
+pub mod Room
+pub mod Whole

@@ -1,0 +1,16 @@
+-- The proved functions one after the other, over lists of lines: what `Whole` shows to be the bench.
+-- Assumes nothing.
+use Prim.Native.Nat.{ℕ}
+use mathlib.Core.List.{List, [], _∷_}
+use lib.ListN.{length}
+use Rattle.dialogue.specs.Dialogue.{answerOf, requestAfter, replyAfter, bufferAfter, closeOf}
+use Rattle.dialogue.specs.declared.Run.{Run}
+use Rattle.dialogue.specs.Bench.{thenSay}
+
+-- `answer` for each line, `close` at the end
+unfoldable pub machineOf : Run → List ℕ → List ℕ → List ℕ → List (List ℕ) → List ℕ → List (List ℕ)
+machineOf r request reply buffer [] rest = closeOf r (length rest) buffer ∷ []
+machineOf r request reply buffer (line ∷ lines) rest =
+    thenSay (answerOf r line request reply buffer .saying)
+    (machineOf (answerOf r line request reply buffer .run) (requestAfter r line request) (replyAfter r line reply)
+    (bufferAfter r line request reply buffer) lines rest)

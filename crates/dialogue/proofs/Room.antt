@@ -1,0 +1,138 @@
+-- Every line of the bench has room in 16,401 bytes, so that it is printed whole.
+-- Assumes nothing.
+use Prim.Native.Nat.{ℕ, _+_, _*_, _≤_}
+use mathlib.Core.Path.{_≡_, refl, sym, subst}
+use mathlib.Core.Bool.{Bool, true, false}
+use mathlib.Core.List.{List, [], _∷_}
+use native.Mathlib.Omega.{arith}
+use lib.ListN.{length, take, drop, replicate, length-take, length-drop, length-replicate}
+use lib.Dec.{eqb}
+use borrow.Author.Tests.{le-leb}
+use Rattle.protocol.specs.Pick.{if_then_else_}
+use Rattle.protocol.specs.Bytes.{sendOf}
+use Rattle.protocol.specs.Frame.{pairOf}
+use Rattle.protocol.proofs.Laws.{take-over}
+use Rattle.protocol.specs.declared.error.Answer.{Answer}
+use Rattle.protocol.specs.declared.error.Answer.the-variants as answer
+use Rattle.engine.specs.Budget.{nothing}
+use Rattle.engine.specs.declared.budget.Tally.{Tally}
+use Rattle.engine.specs.declared.bus.Transfer.{Transfer}
+use Rattle.engine.specs.declared.bus.Transfer.the-variants as transfer
+use Rattle.writing.specs.Writing as writing
+use Rattle.writing.proofs.Shown.{write-work}
+use Rattle.reading.proofs.Shown.{read-work}
+use Rattle.calls.specs.Call.{nextOf, workAfter, partOf, reportOf, bufferAfter, tallyOf}
+use Rattle.calls.specs.declared.call.Call.{Call}
+use Rattle.calls.specs.declared.call.Call.the-variants as call
+use Rattle.calls.specs.declared.call.Reported.{Reported}
+use Rattle.calls.specs.declared.call.Reported.the-variants as reported
+use Rattle.requests.specs.Outcome.{outcomeLine}
+use Rattle.requests.specs.Request.{requestLine}
+use Rattle.requests.specs.declared.outcome.Told.{Told}
+use Rattle.requests.specs.declared.outcome.Told.the-variants as told
+use Rattle.requests.specs.declared.request.Request.{Request}
+use Rattle.requests.specs.declared.request.Request.the-variants as request
+use Rattle.requests.proofs.Small.{Small, small-request}
+use Rattle.printing.specs.Printing.{feedBytes, printedOf, outPrinted, quadOf, writeSaid, readSaid, endSaid, cutSaid}
+use Rattle.dialogue.specs.Dialogue.{Saying, asked, last, bytesSaid, sizeOf, tellOf, zeros, lineOf, lastOf}
+use Rattle.dialogue.specs.Bench.{lineBytes, thenSay, reportThen, toldThen, callLines, callRun, requestThen, benchOf}
+use Rattle.dialogue.proofs.Kept.{length-after}
+
+-- at most 8,200 bytes, which are 16,401 with their digits and the line feed
+abbrev pub Short : List ℕ → Type 0
+Short s = length s ≤ 8200
+
+abbrev pub AllShort : List (List ℕ) → Type 0
+AllShort [] = Unit {0}
+AllShort (s ∷ more) = Short s × AllShort more
+
+-- a short line is printed whole
+pub printed-whole : (s out : List ℕ) → Short s → 16401 ≤ length out → (printedOf s (length out) ≡ length (feedBytes s)) × (take (length (feedBytes s)) (outPrinted s out) ≡ feedBytes s)
+unfolding printedOf outPrinted if_then_else_
+printed-whole s out h e =
+    let fits : length s * 2 + 1 ≤ length out = omega arith in
+    rw (le-leb (length s * 2 + 1) (length out) fits) (refl, take-over (feedBytes s) out)
+
+short-end : (a : Answer) (tally : Tally) (buffer : List ℕ) → length buffer ≤ 8192 → Short (endSaid a tally buffer)
+unfolding endSaid pairOf quadOf
+short-end a tally buffer h = omega arith
+
+short-last : (tally : Tally) (left : ℕ) (buffer : List ℕ) → length buffer ≤ 8192 → Short (lastOf tally left buffer)
+unfolding lastOf if_then_else_ cutSaid quadOf
+short-last tally left buffer h = by (eqb left 0)
+  where
+    by : (t : Bool) → Short (if t then cutSaid tally buffer else endSaid answer.BadLine tally buffer)
+    by true = omega arith
+    by false = short-end answer.BadLine tally buffer h
+
+short-tell : (t : Transfer) (frame : List ℕ) (tally : Tally) (buffer : List ℕ) → length frame ≤ 8192 → length buffer ≤ 8192 → Short (bytesSaid (tellOf t frame tally buffer))
+unfolding tellOf bytesSaid writeSaid readSaid pairOf
+short-tell (transfer.Write n) frame tally buffer f b = omega arith
+short-tell (transfer.Read command n) frame tally buffer f b = omega arith
+short-tell (transfer.Refused a) frame tally buffer f b = short-end a tally buffer b
+short-tell (transfer.Ended a) frame tally buffer f b = short-end a tally buffer b
+
+length-front : (n : ℕ) (s : List ℕ) → length s ≤ 8192 → length (take n s) ≤ 8192
+length-front n s h = rw length-take (omega arith)
+
+length-part : (c : Call) (payload work : List ℕ) (n : ℕ) → length payload ≤ 8192 → length work ≤ 8192 → length (partOf c payload work n) ≤ 8192
+unfolding partOf writing.partOf sendOf if_then_else_
+length-part (call.Write c) payload work n p w = by (writing.ownBytes c)
+  where
+    by : (o : Bool) → length (if o then take n payload else take n work) ≤ 8192
+    by true = length-front n payload p
+    by false = length-front n work w
+length-part (call.Read c) payload work n p w = length-front n work w
+
+length-work : (c : Call) (payload : List ℕ) (n : ℕ) → length (workAfter c payload n zeros) ≤ 8192
+unfolding workAfter zeros
+length-work (call.Write c) payload n = rw write-work (omega arith)
+length-work (call.Read c) payload n = rw read-work (omega arith)
+
+short-line : (c : Call) (payload buffer : List ℕ) → length payload ≤ 8192 → length buffer ≤ 8192 → Short (bytesSaid (lineOf c payload buffer))
+unfolding lineOf
+short-line c payload buffer p b =
+    short-tell (nextOf c payload (length buffer) 39) _ (tallyOf c) buffer
+    (length-part c payload (workAfter c payload (length buffer) zeros) (sizeOf (nextOf c payload (length buffer) 39)) p (length-work c payload (length buffer))) b
+
+short-then : (s : Saying) (more : List (List ℕ)) → Short (bytesSaid s) → AllShort more → AllShort (thenSay s more)
+unfolding thenSay bytesSaid
+short-then (asked s) more h m = (h, m)
+short-then (last s) more h m = (h, tt)
+
+-- what follows a report or an outcome line, where it is short whatever call and buffer go on
+module _ (next : Call → List ℕ → List (List ℕ)) (all : (c : Call) (after : List ℕ) → length after ≤ 8192 → AllShort (next c after)) where
+  short-report : (u : Reported) (buffer : List ℕ) → length buffer ≤ 8192 → AllShort (reportThen u buffer next)
+  unfolding reportThen
+  short-report (reported.Refused a c) buffer b = (short-end a (tallyOf c) buffer b, tt)
+  short-report (reported.Taken c) buffer b = all c buffer b
+
+  short-told : (t : Told) (c : Call) (payload buffer bytes : List ℕ) → length buffer ≤ 8192 → AllShort (toldThen t c payload buffer bytes next)
+  unfolding toldThen
+  short-told (told.Outcome o) c payload buffer bytes b =
+      let k : length (bufferAfter c o (drop 1 bytes) buffer 39) ≤ 8192 = rw length-after b in
+      short-report (reportOf c o (drop 1 bytes) (length payload) (length buffer) 39) (bufferAfter c o (drop 1 bytes) buffer 39) k
+  short-told told.Bad c payload buffer bytes b = (short-end answer.BadLine (tallyOf c) buffer b, tt)
+
+short-lines : (lines : List (List ℕ)) (c : Call) (payload buffer rest : List ℕ) → length payload ≤ 8192 → length buffer ≤ 8192 → AllShort (callLines c payload buffer lines rest)
+unfolding callLines
+short-lines [] c payload buffer rest p b = (short-last (tallyOf c) (length rest) buffer b, tt)
+short-lines (line ∷ lines) c payload buffer rest p b =
+    short-told _
+    (λ next after k. short-then (lineOf next payload after) (callLines next payload after lines rest) (short-line next payload after p k) (short-lines lines next payload after rest p k))
+    (outcomeLine (lineBytes line)) c payload buffer (lineBytes line) b
+
+short-request : (q : Request) (bytes : List ℕ) (lines : List (List ℕ)) (rest : List ℕ) → Small (length bytes) q → AllShort (requestThen q bytes lines rest)
+unfolding requestThen callRun
+short-request (request.Call kind at n) bytes lines rest h =
+    let p : length (drop at bytes) ≤ 8192 = rw length-drop (h .0) in
+    let fill : List ℕ = replicate n 0xA5 in
+    let b : length fill ≤ 8192 = subst (λ (m : ℕ). m ≤ 8192) (sym (length-replicate n 0xA5)) (h .1) in
+    short-then _ _ (short-line _ (drop at bytes) fill p b) (short-lines lines _ (drop at bytes) fill rest p b)
+short-request (request.Refused a) bytes lines rest h = (short-end a nothing [] (omega arith), tt)
+
+-- every line of the bench
+pub all-short : (lines : List (List ℕ)) (rest : List ℕ) → AllShort (benchOf lines rest)
+unfolding benchOf
+all-short [] rest = (short-end answer.BadLine nothing [] (omega arith), tt)
+all-short (line ∷ lines) rest = short-request (requestLine (lineBytes line)) (lineBytes line) lines rest (small-request (lineBytes line))
