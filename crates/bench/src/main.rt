@@ -1,4 +1,4 @@
-// The bench program: reads standard input in large pieces and writes what the lines of each give before it reads on. The rest is in `session`.
+// The bench program: reads standard input in large chunks and writes what the lines of each give before it reads on. The rest is in `session`.
 use libc::STDIN_FILENO;
 use libc::STDOUT_FILENO;
 use protocol::bytes;
@@ -10,11 +10,11 @@ use session::REQUEST_BYTES;
 use session::Session;
 ghost use mathlib.Core.Path.{_≡_};
 ghost use lib.ListN.{take as front};
-ghost use Rattle.session.specs.Session.{world, takeOf};
+ghost use Rattle.session.specs.Session.{desk, takeOf};
 
 // What a read brought.
 enum Brought {
-    // So many bytes of the next piece.
+    // So many bytes of the next chunk.
     Bytes(usize),
     // The end of the input.
     End,
@@ -22,14 +22,14 @@ enum Brought {
     Failed,
 }
 
-// Reads the next piece.
-fn read(piece: &mut [u8; 65536]) -> Brought {
-    let got = libc::read(STDIN_FILENO, piece);
+// Reads the next chunk.
+fn read(chunk: &mut [u8; 65536]) -> Brought {
+    let got = libc::read(STDIN_FILENO, chunk);
     if got < 0 {
         os::fail(b"bench: standard input");
         return Brought::Failed;
     }
-    let n = io::count(got, piece);
+    let n = io::count(got, chunk);
     if n == 0 {
         Brought::End
     } else {
@@ -46,10 +46,10 @@ fn write(out: &[u8; OUT_BYTES], n: usize) -> bool {
     false
 }
 
-// The lines of a piece of n bytes.
+// The lines of a chunk of n bytes.
 fn take(
     session: Session,
-    piece: &[u8; 65536],
+    chunk: &[u8; 65536],
     n: usize,
     held: &mut [u8; HELD_BYTES],
     request: &mut [u8; REQUEST_BYTES],
@@ -57,11 +57,11 @@ fn take(
     buffer: &mut [u8; BUFFER_BYTES],
     out: &mut [u8; OUT_BYTES],
 ) -> Session
-    ensures { λ r. ⌜ world r (now (held .exit)) (now (request .exit)) (now (reply .exit)) (now (buffer .exit)) (now (out .exit)) ≡ takeOf (front n (now (piece .entry))) (world session (now (held .entry)) (now (request .entry)) (now (reply .entry)) (now (buffer .entry)) (now (out .entry))) ⌝ }
+    ensures { λ r. ⌜ desk r (now (held .exit)) (now (request .exit)) (now (reply .exit)) (now (buffer .exit)) (now (out .exit)) ≡ takeOf (front n (now (chunk .entry))) (desk session (now (held .entry)) (now (request .entry)) (now (reply .entry)) (now (buffer .entry)) (now (out .entry))) ⌝ }
 {
     session::take(
         session,
-        bytes::front(piece, n),
+        bytes::front(chunk, n),
         held,
         request,
         reply,
@@ -72,7 +72,7 @@ fn take(
 
 // The bound on its turns, which no input reaches, is what the prover sees the loop end by.
 fn main() {
-    let mut piece = io::large_buffer();
+    let mut chunk = io::large_buffer();
     let mut held = [0u8; HELD_BYTES];
     let mut request = [0u8; REQUEST_BYTES];
     let mut reply = [0u8; REPLY_BYTES];
@@ -85,7 +85,7 @@ fn main() {
         if session.at < n {
             session = take(
                 session,
-                &piece,
+                &chunk,
                 n,
                 &mut held,
                 &mut request,
@@ -94,13 +94,13 @@ fn main() {
                 &mut out,
             );
         } else {
-            match read(&mut piece) {
+            match read(&mut chunk) {
                 Brought::Bytes(k) => {
                     n = k;
-                    session = session::next_piece(session);
+                    session = session::next_chunk(session);
                 }
                 Brought::End => {
-                    session = session::end(session, &request, &buffer, &mut out);
+                    session = session::end(session, &buffer, &mut out);
                 }
                 Brought::Failed => return,
             }

@@ -34,7 +34,7 @@ use Rattle.requests.specs.declared.request.Request.{Request}
 use Rattle.requests.specs.declared.request.Request.the-variants as request
 use Rattle.requests.proofs.Small.{Small, small-request}
 use Rattle.printing.specs.Printing.{feedBytes, printedOf, outPrinted, quadOf, writeSaid, readSaid, endSaid, cutSaid}
-use Rattle.dialogue.specs.Dialogue.{Saying, asked, last, bytesSaid, sizeOf, tellOf, zeros, lineOf, lastOf}
+use Rattle.dialogue.specs.Dialogue.{Saying, asked, last, bytesSaid, sizeOf, tellOf, zeros, lineShown, lastOf}
 use Rattle.dialogue.specs.Bench.{lineBytes, thenSay, reportThen, toldThen, callLines, callRun, requestThen, benchOf}
 use Rattle.dialogue.proofs.Kept.{length-after}
 
@@ -89,8 +89,8 @@ unfolding workAfter zeros
 length-work (call.Write c) payload n = rw write-work (omega arith)
 length-work (call.Read c) payload n = rw read-work (omega arith)
 
-short-line : (c : Call) (payload buffer : List ℕ) → length payload ≤ 8192 → length buffer ≤ 8192 → Short (bytesSaid (lineOf c payload buffer))
-unfolding lineOf
+short-line : (c : Call) (payload buffer : List ℕ) → length payload ≤ 8192 → length buffer ≤ 8192 → Short (bytesSaid (lineShown c payload buffer))
+unfolding lineShown
 short-line c payload buffer p b =
     short-tell (nextOf c payload (length buffer) 39) _ (tallyOf c) buffer
     (length-part c payload (workAfter c payload (length buffer) zeros) (sizeOf (nextOf c payload (length buffer) 39)) p (length-work c payload (length buffer))) b
@@ -119,7 +119,7 @@ unfolding callLines
 short-lines [] c payload buffer rest p b = (short-last (tallyOf c) (length rest) buffer b, tt)
 short-lines (line ∷ lines) c payload buffer rest p b =
     short-told _
-    (λ next after k. short-then (lineOf next payload after) (callLines next payload after lines rest) (short-line next payload after p k) (short-lines lines next payload after rest p k))
+    (λ next after k. short-then (lineShown next payload after) (callLines next payload after lines rest) (short-line next payload after p k) (short-lines lines next payload after rest p k))
     (outcomeLine (lineBytes line)) c payload buffer (lineBytes line) b
 
 short-request : (q : Request) (bytes : List ℕ) (lines : List (List ℕ)) (rest : List ℕ) → Small (length bytes) q → AllShort (requestThen q bytes lines rest)

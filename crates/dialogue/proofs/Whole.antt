@@ -2,7 +2,6 @@
 -- Assumes nothing.
 use Prim.Native.Nat.{ℕ, _≤_, min}
 use mathlib.Core.Path.{_≡_, refl, sym, ap, _∙_}
-use mathlib.Core.Bool.{Bool, true, false}
 use mathlib.Core.List.{List, [], _∷_, _++_}
 use mathlib.Core.Logic.{_⊎_, inl, inr, ⊎-elim}
 use native.Mathlib.Omega.{arith}
@@ -49,7 +48,7 @@ module _ (R Y B : List ℕ) (place : Place) (lines : List (List ℕ)) (rest : Li
     (more : (after : List ℕ) (call : Call) → length after ≡ length B
     → machineOf (run.Call call place) R Y after lines rest ≡ callLines call (dialogue.payloadIn place R) (take (place .buffer) after) lines rest) where
   abbrev next : Call → List ℕ → List (List ℕ)
-  next call after = thenSay (dialogue.lineOf call (dialogue.payloadIn place R) after) (callLines call (dialogue.payloadIn place R) after lines rest)
+  next call after = thenSay (dialogue.lineShown call (dialogue.payloadIn place R) after) (callLines call (dialogue.payloadIn place R) after lines rest)
 
   reported-on : (u : Reported) (H : List ℕ) → length H ≡ place .buffer
       → onward (dialogue.sayOf u place (dialogue.payloadIn place R) H) R Y (H ++ drop (place .buffer) B) lines rest ≡ reportThen u H next
@@ -58,7 +57,7 @@ module _ (R Y B : List ℕ) (place : Place) (lines : List (List ℕ)) (rest : Li
   reported-on (reported.Taken call) H k =
       let w : length (H ++ drop (place .buffer) B) ≡ length B = rw (length-append, k, length-drop) (omega arith) in
       let m = more (H ++ drop (place .buffer) B) call w in
-      ap (thenSay (dialogue.lineOf call (dialogue.payloadIn place R) H)) (m ∙ rw (take-at H (drop (place .buffer) B) (place .buffer) k))
+      ap (thenSay (dialogue.lineShown call (dialogue.payloadIn place R) H)) (m ∙ rw (take-at H (drop (place .buffer) B) (place .buffer) k))
 
   told-on : (t : Told) (call : Call) (l : List ℕ)
       → onward (dialogue.sayOf (dialogue.hearBy t call l (length (dialogue.payloadIn place R)) (place .buffer)) place (dialogue.payloadIn place R) (dialogue.hearBufferBy t call l (take (place .buffer) B)))

@@ -19,7 +19,7 @@ use Rattle.requests.specs.declared.outcome.Told.the-variants as told
 use Rattle.requests.specs.declared.request.Request.{Request}
 use Rattle.requests.specs.declared.request.Request.the-variants as request
 use Rattle.printing.specs.Printing.{endSaid}
-use Rattle.dialogue.specs.Dialogue.{Saying, asked, last, lineOf, lastOf}
+use Rattle.dialogue.specs.Dialogue.{Saying, asked, last, lineShown, lastOf}
 
 -- the bytes of a line; one that is no hexadecimal has none, and is as bad as an empty one
 unfoldable pub lineBytes : List ℕ → List ℕ
@@ -46,11 +46,11 @@ unfoldable pub callLines : Call → List ℕ → List ℕ → List (List ℕ) �
 callLines call payload buffer [] rest = lastOf (tallyOf call) (length rest) buffer ∷ []
 callLines call payload buffer (line ∷ lines) rest =
     toldThen (outcomeLine (lineBytes line)) call payload buffer (lineBytes line)
-    (λ next after. thenSay (lineOf next payload after) (callLines next payload after lines rest))
+    (λ next after. thenSay (lineShown next payload after) (callLines next payload after lines rest))
 
 -- a call and its transfers
 unfoldable pub callRun : Call → List ℕ → List ℕ → List (List ℕ) → List ℕ → List (List ℕ)
-callRun call payload buffer lines rest = thenSay (lineOf call payload buffer) (callLines call payload buffer lines rest)
+callRun call payload buffer lines rest = thenSay (lineShown call payload buffer) (callLines call payload buffer lines rest)
 
 -- the call that a request line asks for, with its payload and a buffer of A5; the answer where it is refused
 unfoldable pub requestThen : Request → List ℕ → List (List ℕ) → List ℕ → List (List ℕ)

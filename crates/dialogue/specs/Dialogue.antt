@@ -91,14 +91,14 @@ unfoldable pub zeros : List ℕ
 zeros = replicate 39 0
 
 -- the line of what a call shows
-unfoldable pub lineOf : Call → List ℕ → List ℕ → Saying
-lineOf call payload buffer =
+unfoldable pub lineShown : Call → List ℕ → List ℕ → Saying
+lineShown call payload buffer =
     tellOf (calls.nextOf call payload (length buffer) 39)
     (calls.partOf call payload (calls.workAfter call payload (length buffer) zeros) (sizeOf (calls.nextOf call payload (length buffer) 39)))
     (calls.tallyOf call) buffer
 
 unfoldable pub showOf : Call → Place → List ℕ → List ℕ → Spoken
-showOf call place payload buffer = record { run = run.Call call place; saying = lineOf call payload buffer }
+showOf call place payload buffer = record { run = run.Call call place; saying = lineShown call payload buffer }
 
 -- what came of a start or a report: the next transfer or the end of the call, or why the run is stopped
 unfoldable pub sayOf : Reported → Place → List ℕ → List ℕ → Spoken

@@ -4,9 +4,9 @@
 mod reader;
 
 use crate::reader::Reader;
-use bench_lines::Said;
-use bench_stage::Run;
-use bench_stage::Stage;
+use dialogue::Run;
+use dialogue::Said;
+use dialogue::Turned;
 use libc::STDOUT_FILENO;
 use protocol::bytes;
 use requests::fields;
@@ -45,33 +45,30 @@ struct Session {
     on: bool,
 }
 
-// A case with no line read yet.
-fn fresh() -> Case {
-    let stage = bench_stage::start();
-    let run = stage.run;
-    Case {
-        run,
-        over: false,
-        same: true,
-    }
+// How many bytes of a line lack their line feed, where a case has no more lines.
+fn left(input: Reader, text: &[u8]) -> usize {
+    if input.tag == b'U' { text.len() } else { 0 }
 }
 
-// Where a line of a case leads: an input line, one that lacks its line feed, or the end of the case.
-fn stage_of(
+// What a line of a case leads to: an input line, one that lacks its line feed, or the end of the case.
+fn turned(
     run: Run,
     input: Reader,
     line: &[u8],
     request: &mut [u8],
     reply: &mut [u8],
     buffer: &mut [u8],
-) -> Stage {
+    out: &mut [u8],
+) -> Turned {
     let text = fields::rest(bytes::front(line, input.len), 2);
     if input.tag == b'I' {
-        bench_stage::feed(run, text, request, reply, buffer)
-    } else if input.tag == b'U' {
-        bench_stage::close(run, text.len())
+        dialogue::answer(run, text, request, reply, buffer, out)
     } else {
-        bench_stage::close(run, 0)
+        let n = dialogue::close(run, left(input, text), buffer, out);
+        Turned {
+            run,
+            said: Said::Last(n),
+        }
     }
 }
 
@@ -119,9 +116,9 @@ fn step(
     out: &mut [u8],
 ) -> Case {
     let before = case.run;
-    let stage = stage_of(before, input, put, request, reply, buffer);
-    let run = stage.run;
-    let said = bench_lines::say(stage, request, buffer, out);
+    let turned = turned(before, input, put, request, reply, buffer, out);
+    let run = turned.run;
+    let said = turned.said;
     judged(
         run,
         is_last(said),
@@ -150,9 +147,9 @@ fn judged(run: Run, last: bool, same: bool) -> Case {
 fn run_case(
     input: Reader,
     expected: Reader,
-    put_piece: &mut [u8; 65536],
+    put_chunk: &mut [u8; 65536],
     put: &mut [u8; 65536],
-    wanted_piece: &mut [u8; 65536],
+    wanted_chunk: &mut [u8; 65536],
     wanted: &mut [u8; 65536],
     request: &mut [u8; REQUEST_BYTES],
     reply: &mut [u8; REPLY_BYTES],
@@ -161,11 +158,15 @@ fn run_case(
 ) -> Ran {
     let mut a = input;
     let mut b = expected;
-    let mut case = fresh();
+    let mut case = Case {
+        run: Run::Fresh,
+        over: false,
+        same: true,
+    };
     let mut turns = u64::MAX;
     while turns > 0 && !case.over {
-        a = reader::seek(a, b'I', put_piece, put);
-        b = reader::seek(b, b'O', wanted_piece, wanted);
+        a = reader::seek(a, b'I', put_chunk, put);
+        b = reader::seek(b, b'O', wanted_chunk, wanted);
         case = step(case, a, put, b, wanted, request, reply, buffer, out);
         turns -= 1;
     }
@@ -177,10 +178,10 @@ fn run_case(
 }
 
 // A case that was run, and nothing more was to come out.
-fn ended(ran: Ran, wanted_piece: &mut [u8; 65536], wanted: &mut [u8; 65536]) -> Ran {
+fn ended(ran: Ran, wanted_chunk: &mut [u8; 65536], wanted: &mut [u8; 65536]) -> Ran {
     if ran.same {
         let input = ran.input;
-        let expected = reader::seek(ran.expected, b'O', wanted_piece, wanted);
+        let expected = reader::seek(ran.expected, b'O', wanted_chunk, wanted);
         Ran {
             input,
             expected,
@@ -226,9 +227,9 @@ fn counted(tally: Tally, same: bool, words: usize) -> Tally {
 // The next case, or the end of the list. The words of each case are kept until one differs.
 fn next_case(
     session: Session,
-    put_piece: &mut [u8; 65536],
+    put_chunk: &mut [u8; 65536],
     put: &mut [u8; 65536],
-    wanted_piece: &mut [u8; 65536],
+    wanted_chunk: &mut [u8; 65536],
     wanted: &mut [u8; 65536],
     request: &mut [u8; REQUEST_BYTES],
     reply: &mut [u8; REPLY_BYTES],
@@ -237,8 +238,8 @@ fn next_case(
     words: &mut [u8; 4096],
 ) -> Session {
     let tally = session.tally;
-    let input = reader::seek(session.input, b'#', put_piece, put);
-    let expected = reader::seek(session.expected, b'#', wanted_piece, wanted);
+    let input = reader::seek(session.input, b'#', put_chunk, put);
+    let expected = reader::seek(session.expected, b'#', wanted_chunk, wanted);
     let len = input.len;
     if input.tag == reader::END {
         return Session {
@@ -255,16 +256,16 @@ fn next_case(
         run_case(
             input,
             expected,
-            put_piece,
+            put_chunk,
             put,
-            wanted_piece,
+            wanted_chunk,
             wanted,
             request,
             reply,
             buffer,
             out,
         ),
-        wanted_piece,
+        wanted_chunk,
         wanted,
     );
     let a = ran.input;
@@ -294,9 +295,9 @@ fn print(tally: Tally, words: &[u8; 4096]) {
 
 // Replays the list that two descriptors are open on.
 fn replay(first: i32, second: i32) {
-    let mut put_piece = io::large_buffer();
+    let mut put_chunk = io::large_buffer();
     let mut put = io::large_buffer();
-    let mut wanted_piece = io::large_buffer();
+    let mut wanted_chunk = io::large_buffer();
     let mut wanted = io::large_buffer();
     let mut request = [0u8; REQUEST_BYTES];
     let mut reply = [0u8; REPLY_BYTES];
@@ -318,9 +319,9 @@ fn replay(first: i32, second: i32) {
     while turns > 0 && session.on {
         session = next_case(
             session,
-            &mut put_piece,
+            &mut put_chunk,
             &mut put,
-            &mut wanted_piece,
+            &mut wanted_chunk,
             &mut wanted,
             &mut request,
             &mut reply,

@@ -1,5 +1,5 @@
-// A file that is read line by line, in pieces.
-use pieces::Took;
+// A file that is read line by line, in chunks.
+use lines::Took;
 use protocol::bytes;
 use requests::fields;
 
@@ -10,7 +10,7 @@ pub const END: u8 = 1;
 
 pub const EMPTY: u8 = 2;
 
-// What is left of the piece that was read, how much of a line is held, and the length and the tag of the last line.
+// What is left of the chunk that was read, how much of a line is held, and the length and the tag of the last line.
 pub struct Reader {
     pub fd: i32,
     pub at: usize,
@@ -77,7 +77,7 @@ fn forget(r: Reader, first: u8) -> Reader {
     }
 }
 
-// The piece is used up, with so many bytes of a line held.
+// The chunk is used up, with so many bytes of a line held.
 fn more(r: Reader, have: usize) -> Reader {
     if 0 < r.long {
         part(r.fd, r.end, r.end, 0, r.long)
@@ -86,19 +86,23 @@ fn more(r: Reader, have: usize) -> Reader {
     }
 }
 
-// What is left of a piece, up to the end of a line.
-fn take(r: Reader, piece: &[u8], held: &mut [u8]) -> Reader {
-    match pieces::take(piece, r.at, held, r.have) {
-        Took::Line { len, next } => whole(r, next, len, fields::byte(held, 0)),
+// What is left of a chunk, up to the end of a line.
+fn take(r: Reader, chunk: &[u8], held: &mut [u8]) -> Reader {
+    match lines::take(chunk, r.at, held, r.have) {
+        Took::Here { len, next } => {
+            bytes::copy_block(held, bytes::block(chunk, r.at, len), len);
+            whole(r, next, len, fields::byte(held, 0))
+        }
+        Took::Held { len, next } => whole(r, next, len, fields::byte(held, 0)),
         Took::More(have) => more(r, have),
         Took::Long => forget(r, fields::byte(held, 0)),
     }
 }
 
-// The next piece; at the end of the file, what is held is the last line.
-fn refill(r: Reader, piece: &mut [u8], held: &[u8]) -> Reader {
-    let got = libc::read(r.fd, piece);
-    let n = io::count(got, piece);
+// The next chunk; at the end of the file, what is held is the last line.
+fn refill(r: Reader, chunk: &mut [u8], held: &[u8]) -> Reader {
+    let got = libc::read(r.fd, chunk);
+    let n = io::count(got, chunk);
     if 0 < n {
         part(r.fd, 0, n, r.have, r.long)
     } else if 0 < r.have {
@@ -108,22 +112,22 @@ fn refill(r: Reader, piece: &mut [u8], held: &[u8]) -> Reader {
     }
 }
 
-// One turn: a line of the piece, or a new piece.
-fn turn(r: Reader, piece: &mut [u8; 65536], held: &mut [u8; 65536]) -> Reader {
+// One turn: a line of the chunk, or a new chunk.
+fn turn(r: Reader, chunk: &mut [u8; 65536], held: &mut [u8; 65536]) -> Reader {
     if r.at < r.end {
         let end = r.end;
-        take(r, bytes::front(piece, end), held)
+        take(r, bytes::front(chunk, end), held)
     } else {
-        refill(r, piece, held)
+        refill(r, chunk, held)
     }
 }
 
 // The next line.
-fn next(r: Reader, piece: &mut [u8; 65536], held: &mut [u8; 65536]) -> Reader {
+fn next(r: Reader, chunk: &mut [u8; 65536], held: &mut [u8; 65536]) -> Reader {
     let mut now = part(r.fd, r.at, r.end, 0, 0);
     let mut turns = u64::MAX;
     while turns > 0 && now.tag == PART {
-        now = turn(now, piece, held);
+        now = turn(now, chunk, held);
         turns -= 1;
     }
     now
@@ -148,13 +152,13 @@ fn stops(tag: u8, wanted: u8) -> bool {
 pub(crate) fn seek(
     r: Reader,
     wanted: u8,
-    piece: &mut [u8; 65536],
+    chunk: &mut [u8; 65536],
     held: &mut [u8; 65536],
 ) -> Reader {
-    let mut now = next(r, piece, held);
+    let mut now = next(r, chunk, held);
     let mut turns = u64::MAX;
     while turns > 0 && !stops(now.tag, wanted) {
-        now = next(now, piece, held);
+        now = next(now, chunk, held);
         turns -= 1;
     }
     now

@@ -8,44 +8,46 @@ use mathlib.Core.Logic.{⊎-elim}
 use native.Mathlib.Omega.{arith}
 use lib.ListN.{length, take, drop, length-drop}
 use lib.Seq.{length-take-le, take-all, take-append-add, drop-length, drop-drop}
-use lib.Dec.{ltb, leb}
-use borrow.Author.Tests.{lt-ltb, le-leb, ltb-true, ltb-false, leb-true, leb-false}
+use lib.Dec.{ltb, leb, eqb}
+use borrow.Author.Tests.{lt-ltb, le-leb, ltb-true, ltb-false, leb-true, leb-false, eqb-true}
 use Rattle.protocol.specs.Pick.{if_then_else_}
+use Rattle.protocol.specs.Bytes.{storedAt}
 use Rattle.printing.specs.Printing.{feedBytes, printedOf, outPrinted}
-use Rattle.pieces.specs.Pieces.{beforeFeed, judgeOf, tookOf, lineTook, linesFrom, restFrom}
-use Rattle.pieces.specs.declared.Took.the-variants as took
-use Rattle.pieces.proofs.Laws.{take-before}
-use Rattle.pieces.proofs.Any.{lines-append, rest-append, lines-more, lines-whole, held-after}
-use Rattle.bench_stage.specs.Stage as stage
-use Rattle.bench_stage.specs.declared.Run.{Run}
-use Rattle.bench_lines.specs.Saying.{Saying, asked, last, bytesSaid, saidOf}
-use Rattle.bench_lines.specs.Bench.{thenSay}
-use Rattle.bench_lines.proofs.Machine.{machineOf}
-use Rattle.bench_lines.proofs.Room.{Short, AllShort, printed-whole}
-use Rattle.session.specs.Session.{World, world, heldBytes, longestLine, Sized, moreOf, saidSession, printOf, printOut, laidOf, lineOf, turnBy, turnOf, goesOn, turnsOf, atByte, takeOf}
+use Rattle.lines.specs.Lines.{beforeFeed, judgeOf, tookOf, keptOf, heldAfter, linesFrom, restFrom}
+use Rattle.lines.specs.declared.Took.{Took}
+use Rattle.lines.specs.declared.Took.the-variants as took
+use Rattle.lines.proofs.Laws.{take-before}
+use Rattle.lines.proofs.Any.{lines-append, rest-append, lines-more, lines-whole, held-more}
+use Rattle.dialogue.specs.Dialogue as dialogue
+use Rattle.dialogue.specs.Dialogue.{Saying, asked, last, bytesSaid, saidOf}
+use Rattle.dialogue.specs.Bench.{thenSay}
+use Rattle.dialogue.specs.declared.Run.{Run}
+use Rattle.dialogue.proofs.Kept.{length-stored}
+use Rattle.dialogue.proofs.Machine.{machineOf}
+use Rattle.dialogue.proofs.Room.{Short, AllShort, printed-whole}
+use Rattle.session.specs.Session.{Desk, desk, heldBytes, longestLine, Sized, moreOf, saidSession, spokenSession, laidOut, closing, laidOf, lineOf, turnBy, turnOf, goesOn, turnsOf, atByte, takeOf}
 use Rattle.session.specs.Output.{written}
 use Rattle.session.proofs.Laws.{goes-on-inside}
-use Rattle.session.proofs.Kept.{Fits, fits-feed, length-request, length-reply, length-buffer, length-laid, length-held}
-use Rattle.session.proofs.Long.{saying, long-says, close-last, close-some, long-input}
+use Rattle.session.proofs.Kept.{length-request, length-reply, length-buffer, length-laid}
+use Rattle.session.proofs.Long.{long-says, close-some, long-input}
 
--- the sizes, a reading call's buffer and what is held of a line are as they should be, and the run goes on
-pub record Good (w : World) : Type 0 where
+-- the sizes and what is held of a line are as they should be, and the run goes on
+pub record Good (w : Desk) : Type 0 where
   pub sized : Sized w
-  pub fits : Fits (w .session .run) (length (w .buffer))
   pub room : w .session .have ≤ heldBytes
   pub on : w .session .on ≡ true
 
--- what the machine gives from a world on, for the lines that are left
-abbrev pub shown : World → List (List ℕ) → List ℕ → List (List ℕ)
+-- what the machine gives from a desk on, for the lines that are left
+abbrev pub shown : Desk → List (List ℕ) → List ℕ → List (List ℕ)
 shown w lines rest = machineOf (w .session .run) (w .request) (w .reply) (w .buffer) lines rest
 
 -- what came of a line before
-abbrev pub before : World → List ℕ
+abbrev pub before : Desk → List ℕ
 before w = take (w .session .have) (w .held)
 
 -- a line that has no room is answered
-abbrev tooLong : ℕ → List ℕ → World → World
-tooLong n H w = laidOf (stage.closeOf (w .session .run) 1) n (w .session .laid) H (w .request) (w .reply) (w .buffer) (w .out)
+abbrev tooLong : ℕ → List ℕ → Desk → Desk
+tooLong n H w = laidOf (closing (w .session .run) 1 (w .buffer)) n (w .session .laid) H (w .request) (w .reply) (w .buffer) (w .out)
 
 said-size : (say : Saying) (room : ℕ) (r : Run) (at laid : ℕ) → saidSession (saidOf say room) r at laid .laid ≡ laid + printedOf (bytesSaid say) room
 unfolding saidSession saidOf bytesSaid
@@ -54,7 +56,7 @@ said-size (last s) room r at laid = refl
 
 -- a short line is laid whole after what is laid
 pub written-said : (say : Saying) (r : Run) (at laid : ℕ) (H R Y B O : List ℕ) → Short (bytesSaid say) → laid + longestLine ≤ length O
-    → written (world (saidSession (saidOf say (length O - laid)) r at laid) H R Y B (take laid O ++ outPrinted (bytesSaid say) (drop laid O))) ≡ take laid O ++ feedBytes (bytesSaid say)
+    → written (desk (saidSession (saidOf say (length O - laid)) r at laid) H R Y B (take laid O ++ outPrinted (bytesSaid say) (drop laid O))) ≡ take laid O ++ feedBytes (bytesSaid say)
 unfolding written
 written-said say r at laid H R Y B O h room = ap (λ (n : ℕ). take n (take laid O ++ outPrinted x (drop laid O))) size ∙ take-append-add (take laid O) _ (length (feedBytes x)) ∙ ap (λ (l : List ℕ). take laid O ++ l) (whole .1)
   where
@@ -75,22 +77,22 @@ module _ (view : List (List ℕ) → List (List ℕ) → List ℕ) (Ends : List 
     (step : (line x : List ℕ) (lines more : List (List ℕ)) → view (line ∷ lines) (x ∷ more) ≡ feedBytes x ++ view lines more)
     (none : (lines : List (List ℕ)) → view lines [] ≡ [])
     (early : (rest x : List ℕ) → Ends rest → heldBytes < length rest → view [] (x ∷ []) ≡ feedBytes x) where
-  -- what is written from a world on, once what is laid is written, is what the lines that are left give
-  abbrev pub Gives : (World → List ℕ) → World → List ℕ → Type 0
+  -- what is written from a desk on, once what is laid is written, is what the lines that are left give
+  abbrev pub Gives : (Desk → List ℕ) → Desk → List ℕ → Type 0
   Gives G w input = (lines : List (List ℕ)) (rest : List ℕ) → lines ≡ linesFrom (before w) input → rest ≡ restFrom (before w) input
       → AllShort (shown w lines rest) → Ends rest → G w ≡ view lines (shown w lines rest)
 
   -- the same with what is laid
-  abbrev pub Lays : (World → List ℕ) → World → List ℕ → Type 0
+  abbrev pub Lays : (Desk → List ℕ) → Desk → List ℕ → Type 0
   Lays G w input = (lines : List (List ℕ)) (rest : List ℕ) → lines ≡ linesFrom (before w) input → rest ≡ restFrom (before w) input
       → AllShort (shown w lines rest) → Ends rest → G w ≡ written w ++ view lines (shown w lines rest)
 
-  module _ (G : World → List ℕ) (off : (v : World) → v .session .on ≡ false → G v ≡ written v) where
+  module _ (G : Desk → List ℕ) (off : (v : Desk) → v .session .on ≡ false → G v ≡ written v) where
     said-lays : (say : Saying) (r : Run) (at laid : ℕ) (H R Y B O line : List ℕ) (lines more : List (List ℕ)) → laid + longestLine ≤ length O → AllShort (thenSay say more)
         → ((p : ℕ) → AllShort more
-        → G (world (record { run = r; have = 0; at = at; laid = p; on = true }) H R Y B (take laid O ++ outPrinted (bytesSaid say) (drop laid O)))
-        ≡ written (world (record { run = r; have = 0; at = at; laid = p; on = true }) H R Y B (take laid O ++ outPrinted (bytesSaid say) (drop laid O))) ++ view lines more)
-        → G (world (saidSession (saidOf say (length O - laid)) r at laid) H R Y B (take laid O ++ outPrinted (bytesSaid say) (drop laid O))) ≡ take laid O ++ view (line ∷ lines) (thenSay say more)
+        → G (desk (record { run = r; have = 0; at = at; laid = p; on = true }) H R Y B (take laid O ++ outPrinted (bytesSaid say) (drop laid O)))
+        ≡ written (desk (record { run = r; have = 0; at = at; laid = p; on = true }) H R Y B (take laid O ++ outPrinted (bytesSaid say) (drop laid O))) ++ view lines more)
+        → G (desk (saidSession (saidOf say (length O - laid)) r at laid) H R Y B (take laid O ++ outPrinted (bytesSaid say) (drop laid O))) ≡ take laid O ++ view (line ∷ lines) (thenSay say more)
     unfolding thenSay saidSession saidOf bytesSaid
     said-lays (asked s) r at laid H R Y B O line lines more e a go =
         go _ (a .1) ∙ rw (written-said (asked s) r at laid H R Y B O (a .0) e, append-assoc) (ap (λ (l : List ℕ). take laid O ++ l) (sym (step line s lines more)))
@@ -98,27 +100,19 @@ module _ (view : List (List ℕ) → List (List ℕ) → List ℕ) (Ends : List 
         off _ refl ∙ written-said (last s) r at laid H R Y B O (a .0) e
         ∙ ap (λ (l : List ℕ). take laid O ++ l) (sym (step line s lines [] ∙ rw (none lines) (append-nil (feedBytes s))))
 
-    last-lays : (say : Saying) (r : Run) (at laid : ℕ) (H R Y B O : List ℕ) → laid + longestLine ≤ length O → say ≡ last (bytesSaid say) → Short (bytesSaid say)
-        → G (world (saidSession (saidOf say (length O - laid)) r at laid) H R Y B (take laid O ++ outPrinted (bytesSaid say) (drop laid O))) ≡ take laid O ++ feedBytes (bytesSaid say)
-    unfolding saidSession saidOf bytesSaid
-    last-lays (asked s) r at laid H R Y B O e l h = absurd (let z : _≡_ {A = ℕ} 0 1 = cc in omega arith)
-    last-lays (last s) r at laid H R Y B O e l h = off _ refl ∙ written-said (last s) r at laid H R Y B O h e
-
-    module _ (piece t : List ℕ) (w : World) (good : Good w) (inside : w .session .at < length piece) (fits : w .session .laid + longestLine ≤ length (w .out))
-        (go : (v : World) → Good v → w .session .at < v .session .at → v .session .at ≤ length piece → Lays G v (drop (v .session .at) piece ++ t)) where
+    module _ (chunk t : List ℕ) (w : Desk) (good : Good w) (inside : w .session .at < length chunk) (fits : w .session .laid + longestLine ≤ length (w .out))
+        (go : (v : Desk) → Good v → w .session .at < v .session .at → v .session .at ≤ length chunk → Lays G v (drop (v .session .at) chunk ++ t)) where
       -- a line is whole
-      turn-line : (line H : List ℕ) (next : ℕ) (lines : List (List ℕ)) (rest : List ℕ) → length H ≡ heldBytes → w .session .at < next → next ≤ length piece
-          → lines ≡ linesFrom [] (drop next piece ++ t) → rest ≡ restFrom [] (drop next piece ++ t) → AllShort (shown w (line ∷ lines) rest) → Ends rest
+      turn-line : (line H : List ℕ) (next : ℕ) (lines : List (List ℕ)) (rest : List ℕ) → length H ≡ heldBytes → w .session .at < next → next ≤ length chunk
+          → lines ≡ linesFrom [] (drop next chunk ++ t) → rest ≡ restFrom [] (drop next chunk ++ t) → AllShort (shown w (line ∷ lines) rest) → Ends rest
           → G (lineOf line next H w) ≡ written w ++ view (line ∷ lines) (shown w (line ∷ lines) rest)
-      unfolding lineOf laidOf printOf printOut machineOf written
+      unfolding lineOf laidOf spokenSession laidOut machineOf written
       turn-line line H next lines rest h lt le p q a z =
-          let s = stage.feedOf (w .session .run) line (w .request) (w .reply) (length (w .buffer)) in
-          let R = stage.requestAfter (w .session .run) line (w .request) in
-          let Y = stage.replyAfter (w .session .run) line (w .reply) in
-          let B = stage.bufferAfter (w .session .run) line (w .request) (w .reply) (w .buffer) in
-          let b : length B ≡ length (w .buffer) = length-buffer (w .session .run) line (w .request) (w .reply) (w .buffer) in
-          let f : Fits (s .run) (length (w .buffer)) = fits-feed (w .session .run) line (w .request) (w .reply) (length (w .buffer)) (omega (arith, good .sized .buffer)) (good .fits) in
-          said-lays (saying s R B) (s .run) next (w .session .laid) H R Y B (w .out) line lines _ fits a
+          let s = dialogue.answerOf (w .session .run) line (w .request) (w .reply) (w .buffer) in
+          let R = dialogue.requestAfter (w .session .run) line (w .request) in
+          let Y = dialogue.replyAfter (w .session .run) line (w .reply) in
+          let B = dialogue.bufferAfter (w .session .run) line (w .request) (w .reply) (w .buffer) in
+          said-lays (s .saying) (s .run) next (w .session .laid) H R Y B (w .out) line lines _ fits a
           (λ k m.
           go _
           (record {
@@ -126,51 +120,47 @@ module _ (view : List (List ℕ) → List (List ℕ) → List ℕ) (Ends : List 
               held = h;
               request = length-request (w .session .run) line (w .request) ∙ good .sized .request;
               reply = length-reply (w .session .run) line (w .reply) ∙ good .sized .reply;
-              buffer = b ∙ good .sized .buffer;
-              out = length-laid (w .session .laid) (bytesSaid (saying s R B)) (w .out) (omega arith) ∙ good .sized .out;
+              buffer = length-buffer (w .session .run) line (w .request) (w .reply) (w .buffer) ∙ good .sized .buffer;
+              out = length-laid (w .session .laid) (bytesSaid (s .saying)) (w .out) (omega arith) ∙ good .sized .out;
             };
-            fits = subst (λ (n : ℕ). Fits (s .run) n) (sym b) f;
             room = omega arith;
             on = refl;
           })
           lt le lines rest p q m z)
 
-      -- the piece is used up
-      turn-more : (H : List ℕ) (k : ℕ) → length H ≡ heldBytes → k ≤ heldBytes → take k H ≡ before w ++ drop (w .session .at) piece
-          → length (drop (w .session .at) piece) ≤ length (beforeFeed (drop (w .session .at) piece))
-          → Lays (λ v. G (world (moreOf (v .session .run) k (length piece) (v .session .laid)) H (v .request) (v .reply) (v .buffer) (v .out))) w (drop (w .session .at) piece ++ t)
+      -- the chunk is used up
+      turn-more : (H : List ℕ) (k : ℕ) → length H ≡ heldBytes → k ≤ heldBytes → take k H ≡ before w ++ drop (w .session .at) chunk
+          → length (drop (w .session .at) chunk) ≤ length (beforeFeed (drop (w .session .at) chunk))
+          → Lays (λ v. G (desk (moreOf (v .session .run) k (length chunk) (v .session .laid)) H (v .request) (v .reply) (v .buffer) (v .out))) w (drop (w .session .at) chunk ++ t)
       unfolding moreOf written
       turn-more H k h le e none-left lines rest p q a z =
-          let s = drop (w .session .at) piece in
+          let s = drop (w .session .at) chunk in
           let m = lines-more s (before w) none-left in
-          let d : drop (length piece) piece ++ t ≡ t = rw drop-length in
-          let x : linesFrom (before w) (s ++ t) ≡ linesFrom (take k H) (drop (length piece) piece ++ t) = rw (lines-append s t (before w), m .0, m .1, e, d) in
-          let y : restFrom (before w) (s ++ t) ≡ restFrom (take k H) (drop (length piece) piece ++ t) = rw (rest-append s t (before w), m .1, e, d) in
-          go (world (record { run = w .session .run; have = k; at = length piece; laid = w .session .laid; on = true }) H (w .request) (w .reply) (w .buffer) (w .out))
+          let d : drop (length chunk) chunk ++ t ≡ t = rw drop-length in
+          let x : linesFrom (before w) (s ++ t) ≡ linesFrom (take k H) (drop (length chunk) chunk ++ t) = rw (lines-append s t (before w), m .0, m .1, e, d) in
+          let y : restFrom (before w) (s ++ t) ≡ restFrom (take k H) (drop (length chunk) chunk ++ t) = rw (rest-append s t (before w), m .1, e, d) in
+          go (desk (record { run = w .session .run; have = k; at = length chunk; laid = w .session .laid; on = true }) H (w .request) (w .reply) (w .buffer) (w .out))
           (record {
             sized = record { held = h; request = good .sized .request; reply = good .sized .reply; buffer = good .sized .buffer; out = good .sized .out };
-            fits = good .fits;
             room = le;
             on = refl;
           })
           inside (omega arith) lines rest (p ∙ x) (q ∙ y) a z
 
       -- a line has no room
-      closed : (H : List ℕ) (n : ℕ) → Short (bytesSaid (saying (stage.closeOf (w .session .run) 1) (w .request) (w .buffer)))
-          → G (tooLong n H w)
-          ≡ written w ++ feedBytes (bytesSaid (saying (stage.closeOf (w .session .run) 1) (w .request) (w .buffer)))
-      unfolding laidOf printOf printOut written
+      closed : (H : List ℕ) (n : ℕ) → Short (dialogue.closeOf (w .session .run) 1 (w .buffer))
+          → G (tooLong n H w) ≡ written w ++ feedBytes (dialogue.closeOf (w .session .run) 1 (w .buffer))
+      unfolding laidOf spokenSession laidOut closing written saidSession saidOf bytesSaid
       closed H n short =
-          last-lays (saying (stage.closeOf (w .session .run) 1) (w .request) (w .buffer)) (stage.closeOf (w .session .run) 1 .run) n (w .session .laid) H (w .request) (w .reply) (w .buffer) (w .out)
-          fits (close-last (w .session .run) 1 (w .request) (w .buffer)) short
+          off _ refl ∙ written-said (last (dialogue.closeOf (w .session .run) 1 (w .buffer))) (w .session .run) n (w .session .laid) H (w .request) (w .reply) (w .buffer) (w .out) short fits
 
       -- its line feed never comes
       long-rest : (H : List ℕ) (n : ℕ) (rest : List ℕ) → heldBytes < length rest → AllShort (shown w [] rest) → Ends rest
           → G (tooLong n H w) ≡ written w ++ view [] (shown w [] rest)
       unfolding machineOf
       long-rest H n rest m a z =
-          let c : stage.closeOf (w .session .run) (length rest) ≡ stage.closeOf (w .session .run) 1 = close-some (w .session .run) (length rest) (omega arith) in
-          let short : Short (bytesSaid (saying (stage.closeOf (w .session .run) 1) (w .request) (w .buffer))) = rw c at (a .0) in
+          let c : dialogue.closeOf (w .session .run) (length rest) (w .buffer) ≡ dialogue.closeOf (w .session .run) 1 (w .buffer) = close-some (w .session .run) (length rest) (w .buffer) (omega arith) in
+          let short : Short (dialogue.closeOf (w .session .run) 1 (w .buffer)) = rw c at (a .0) in
           rw c (closed H n short ∙ ap (λ (l : List ℕ). written w ++ l) (sym (early rest _ z m)))
 
       -- its line feed comes later
@@ -178,16 +168,15 @@ module _ (view : List (List ℕ) → List (List ℕ) → List ℕ) (Ends : List 
           → G (tooLong n H w) ≡ written w ++ view (line ∷ lines) (shown w (line ∷ lines) rest)
       unfolding machineOf thenSay
       long-line H n line lines rest m a =
-          let x : List ℕ = bytesSaid (saying (stage.closeOf (w .session .run) 1) (w .request) (w .buffer)) in
+          let x : List ℕ = dialogue.closeOf (w .session .run) 1 (w .buffer) in
           let r : length (w .request) * 2 < length line = omega (arith, good .sized .request) in
           let y : length (w .reply) * 2 < length line = omega (arith, good .sized .reply) in
-          let e = long-says (w .session .run) line (w .request) (w .reply) (w .buffer) r y (good .fits) ∙ close-last (w .session .run) 1 (w .request) (w .buffer) in
-          let k : shown w (line ∷ lines) rest ≡ x ∷ [] = rw e in
+          let k : shown w (line ∷ lines) rest ≡ x ∷ [] = rw (long-says (w .session .run) line (w .request) (w .reply) (w .buffer) r y) in
           let short : AllShort (x ∷ []) = subst AllShort k a in
           closed H n (short .0) ∙ ap (λ (l : List ℕ). written w ++ l) (sym (ap (view (line ∷ lines)) k ∙ step line x lines [] ∙ rw (none lines) (append-nil (feedBytes x))))
 
-      turn-long : (H : List ℕ) (n : ℕ) → heldBytes < length (before w) + length (beforeFeed (drop (w .session .at) piece))
-          → Lays (λ v. G (tooLong n H v)) w (drop (w .session .at) piece ++ t)
+      turn-long : (H : List ℕ) (n : ℕ) → heldBytes < length (before w) + length (beforeFeed (drop (w .session .at) chunk))
+          → Lays (λ v. G (tooLong n H v)) w (drop (w .session .at) chunk ++ t)
       turn-long H n long lines rest p q a z =
           ⊎-elim
           (λ c.
@@ -196,95 +185,112 @@ module _ (view : List (List ℕ) → List (List ℕ) → List ℕ) (Ends : List 
           subst (λ (ls : List (List ℕ)). AllShort (shown w ls rest) → G (tooLong n H w) ≡ written w ++ view ls (shown w ls rest)) e (λ b. long-rest H n rest m b z) a)
           (λ c.
           subst (λ (ls : List (List ℕ)). AllShort (shown w ls rest) → G (tooLong n H w) ≡ written w ++ view ls (shown w ls rest)) (sym (p ∙ c .0)) (λ b. long-line H n _ _ rest (c .1) b) a)
-          (long-input (before w) (drop (w .session .at) piece) t heldBytes long)
+          (long-input (before w) (drop (w .session .at) chunk) t heldBytes long)
+
+      -- a line feed comes: the line that is whole, where it stands
+      turn-whole : (line H : List ℕ) → length H ≡ heldBytes → line ≡ before w ++ beforeFeed (drop (w .session .at) chunk)
+          → length (beforeFeed (drop (w .session .at) chunk)) < length (drop (w .session .at) chunk)
+          → Lays (λ v. G (lineOf line (v .session .at + length (beforeFeed (drop (v .session .at) chunk)) + 1) H v)) w (drop (w .session .at) chunk ++ t)
+      turn-whole line H size h n lines rest p q a z =
+          let s = drop (w .session .at) chunk in
+          let k = length (beforeFeed s) in
+          let m = lines-whole s (before w) n in
+          let next : ℕ = w .session .at + k + 1 in
+          let c : w .session .at + suc k ≡ next = omega arith in
+          let i : drop (suc k) s ≡ drop next chunk = drop-drop (suc k) (w .session .at) chunk ∙ ap (λ (j : ℕ). drop j chunk) c in
+          let x : linesFrom (before w) (s ++ t) ≡ line ∷ linesFrom [] (drop next chunk ++ t) =
+          lines-append s t (before w) ∙ rw (m .0, m .1, h, ← i) (ap (λ (l : List (List ℕ)). (before w ++ beforeFeed s) ∷ l) (sym (lines-append (drop (suc k) s) t []))) in
+          let y : restFrom (before w) (s ++ t) ≡ restFrom [] (drop next chunk ++ t) =
+          rest-append s t (before w) ∙ rw (m .1, ← i) (sym (rest-append (drop (suc k) s) t [])) in
+          subst (λ (ls : List (List ℕ)). AllShort (shown w ls rest) → G (lineOf line next H w) ≡ written w ++ view ls (shown w ls rest)) (sym (p ∙ x))
+          (λ b. turn-line line H next (linesFrom [] (drop next chunk ++ t)) rest size (omega arith) (omega (arith, length-drop (w .session .at) chunk)) refl (q ∙ y) b z)
+          a
 
       -- one turn
-      turn : Lays (λ v. G (turnOf piece v)) w (drop (w .session .at) piece ++ t)
-      unfolding turnOf turnBy tookOf judgeOf if_then_else_
-      turn lines rest p q a z = by (ltb (length (w .held)) (w .session .have + length (beforeFeed (drop (w .session .at) piece)))) refl (leb (length piece - w .session .at) (length (beforeFeed (drop (w .session .at) piece)))) refl
+      turn : Lays (λ v. G (turnOf chunk v)) w (drop (w .session .at) chunk ++ t)
+      unfolding turnOf turnBy heldAfter keptOf tookOf judgeOf if_then_else_
+      turn lines rest p q a z =
+          by (ltb (length (w .held)) (w .session .have + k)) refl (leb (length chunk - w .session .at) k) refl (eqb (w .session .have) 0) refl
         where
           s : List ℕ
-          s = drop (w .session .at) piece
+          s = drop (w .session .at) chunk
 
           k : ℕ
           k = length (beforeFeed s)
 
-          H : List ℕ
-          H = lineTook piece (w .session .at) (w .held) (w .session .have)
+          stored : List ℕ
+          stored = storedAt (w .session .have) k (beforeFeed s) (w .held)
 
-          size : length H ≡ heldBytes
-          size = length-held piece (w .held) (w .session .at) (w .session .have) ∙ good .sized .held
+          size : length stored ≡ heldBytes
+          size = length-stored (w .session .have) k (beforeFeed s) (w .held) ∙ good .sized .held
 
-          by : (f : Bool) → ltb (length (w .held)) (w .session .have + k) ≡ f → (g : Bool) → leb (length piece - w .session .at) k ≡ g
-              → G (turnBy (if f then took.Long else if g then took.More (w .session .have + k) else took.Line (w .session .have + k) (w .session .at + k + 1)) (length piece) H w)
-              ≡ written w ++ view lines (shown w lines rest)
-          by true e g d =
+          brought : Bool → Bool → Bool → Took
+          brought f g i =
+              if f then took.Long else if g then took.More (w .session .have + k) else
+              if i then took.Here k (w .session .at + k + 1) else took.Held (w .session .have + k) (w .session .at + k + 1)
+
+          by : (f : Bool) → ltb (length (w .held)) (w .session .have + k) ≡ f → (g : Bool) → leb (length chunk - w .session .at) k ≡ g → (i : Bool) → eqb (w .session .have) 0 ≡ i
+              → G (turnBy (brought f g i) chunk (keptOf (brought f g i) (beforeFeed s) (w .held) (w .session .have)) w) ≡ written w ++ view lines (shown w lines rest)
+          by true e g d i o =
               let l : length (before w) ≡ w .session .have = length-take-le (w .session .have) (w .held) (omega (arith, good .sized .held, good .room)) in
-              turn-long H (length piece) (omega (arith, ltb-true (length (w .held)) (w .session .have + k) e, good .sized .held)) lines rest p q a z
-          by false e true d =
+              turn-long stored (length chunk) (omega (arith, ltb-true (length (w .held)) (w .session .have + k) e, good .sized .held)) lines rest p q a z
+          by false e true d i o =
               let f : w .session .have + k ≤ length (w .held) = ltb-false (length (w .held)) (w .session .have + k) e in
-              let n : length s ≤ k = omega (arith, leb-true (length piece - w .session .at) k d, length-drop (w .session .at) piece) in
+              let n : length s ≤ k = omega (arith, leb-true (length chunk - w .session .at) k d, length-drop (w .session .at) chunk) in
               let b : beforeFeed s ≡ s = sym (take-before s) ∙ take-all k s n in
-              let h : take (w .session .have + k) H ≡ before w ++ s = held-after piece (w .held) (w .session .at) (w .session .have) f ∙ ap (λ (l : List ℕ). before w ++ l) b in
-              turn-more H (w .session .have + k) size (omega (arith, good .sized .held)) h n lines rest p q a z
-          by false e false d =
+              let h : take (w .session .have + k) stored ≡ before w ++ s = held-more (beforeFeed s) (w .held) (w .session .have) f ∙ ap (λ (l : List ℕ). before w ++ l) b in
+              turn-more stored (w .session .have + k) size (omega (arith, good .sized .held)) h n lines rest p q a z
+          by false e false d true o =
+              let n : k < length s = omega (arith, leb-false (length chunk - w .session .at) k d, length-drop (w .session .at) chunk) in
+              let none-held : w .session .have ≡ 0 = eqb-true (w .session .have) 0 o in
+              let h : take k s ≡ before w ++ beforeFeed s = rw none-held (take-before s) in
+              turn-whole (take k s) (w .held) (good .sized .held) h n lines rest p q a z
+          by false e false d false o =
               let f : w .session .have + k ≤ length (w .held) = ltb-false (length (w .held)) (w .session .have + k) e in
-              let n : k < length s = omega (arith, leb-false (length piece - w .session .at) k d, length-drop (w .session .at) piece) in
-              let h : take (w .session .have + k) H ≡ before w ++ beforeFeed s = held-after piece (w .held) (w .session .at) (w .session .have) f in
-              let m = lines-whole s (before w) n in
-              let next : ℕ = w .session .at + k + 1 in
-              let c : w .session .at + suc k ≡ next = omega arith in
-              let i : drop (suc k) s ≡ drop next piece = drop-drop (suc k) (w .session .at) piece ∙ ap (λ (j : ℕ). drop j piece) c in
-              let x : linesFrom (before w) (s ++ t) ≡ take (w .session .have + k) H ∷ linesFrom [] (drop next piece ++ t) =
-              lines-append s t (before w) ∙ rw (m .0, m .1, h, ← i) (ap (λ (l : List (List ℕ)). (before w ++ beforeFeed s) ∷ l) (sym (lines-append (drop (suc k) s) t []))) in
-              let y : restFrom (before w) (s ++ t) ≡ restFrom [] (drop next piece ++ t) =
-              rest-append s t (before w) ∙ rw (m .1, ← i) (sym (rest-append (drop (suc k) s) t [])) in
-              subst (λ (ls : List (List ℕ)). AllShort (shown w ls rest) → G (lineOf (take (w .session .have + k) H) next H w) ≡ written w ++ view ls (shown w ls rest)) (sym (p ∙ x))
-              (λ b. turn-line (take (w .session .have + k) H) H next (linesFrom [] (drop next piece ++ t)) rest size (omega arith) (omega (arith, length-drop (w .session .at) piece)) refl (q ∙ y) b z)
-              a
+              let n : k < length s = omega (arith, leb-false (length chunk - w .session .at) k d, length-drop (w .session .at) chunk) in
+              turn-whole (take (w .session .have + k) stored) stored size (held-more (beforeFeed s) (w .held) (w .session .have) f) n lines rest p q a z
 
-  module _ (M : World → List ℕ) (off : (v : World) → v .session .on ≡ false → M v ≡ []) (piece t : List ℕ) (m : ℕ)
-      (go : (v : World) → Good v → m < v .session .at → v .session .at ≤ length piece → Gives M v (drop (v .session .at) piece ++ t)) where
+  module _ (M : Desk → List ℕ) (off : (v : Desk) → v .session .on ≡ false → M v ≡ []) (chunk t : List ℕ) (m : ℕ)
+      (go : (v : Desk) → Good v → m < v .session .at → v .session .at ≤ length chunk → Gives M v (drop (v .session .at) chunk ++ t)) where
     -- the bytes that are laid, and those that come after them
-    abbrev both : World → List ℕ
+    abbrev both : Desk → List ℕ
     both v = written v ++ M v
 
-    off-turns : (turns : ℕ) (v : World) → v .session .on ≡ false → both (turnsOf turns piece v) ≡ written v
+    off-turns : (turns : ℕ) (v : Desk) → v .session .on ≡ false → both (turnsOf turns chunk v) ≡ written v
     unfolding turnsOf goesOn if_then_else_
     off-turns zero v o = rw (off v o) (append-nil (written v))
     off-turns (suc turns) v o =
-        let e : goesOn (v .session .on) (v .session .at) (length piece) (v .session .laid) (length (v .out)) ≡ false =
-        ap (λ (b : Bool). goesOn b (v .session .at) (length piece) (v .session .laid) (length (v .out))) o in
+        let e : goesOn (v .session .on) (v .session .at) (length chunk) (v .session .laid) (length (v .out)) ≡ false =
+        ap (λ (b : Bool). goesOn b (v .session .at) (length chunk) (v .session .laid) (length (v .out))) o in
         rw (e, off v o) (append-nil (written v))
 
     -- turn after turn
-    turns-lay : (turns : ℕ) (w : World) → Good w → m < w .session .at → w .session .at ≤ length piece
-        → Lays (λ v. both (turnsOf turns piece v)) w (drop (w .session .at) piece ++ t)
+    turns-lay : (turns : ℕ) (w : Desk) → Good w → m < w .session .at → w .session .at ≤ length chunk
+        → Lays (λ v. both (turnsOf turns chunk v)) w (drop (w .session .at) chunk ++ t)
     unfolding turnsOf if_then_else_
     turns-lay zero w good lt le lines rest p q a z = ap (λ (l : List ℕ). written w ++ l) (go w good lt le lines rest p q a z)
     turns-lay (suc turns) w good lt le lines rest p q a z =
-        by (λ v g l k. turns-lay turns v g l k) (goesOn (w .session .on) (w .session .at) (length piece) (w .session .laid) (length (w .out))) refl
+        by (λ v g l k. turns-lay turns v g l k) (goesOn (w .session .on) (w .session .at) (length chunk) (w .session .laid) (length (w .out))) refl
       where
-        by : ((v : World) → Good v → m < v .session .at → v .session .at ≤ length piece → Lays (λ u. both (turnsOf turns piece u)) v (drop (v .session .at) piece ++ t))
-            → (f : Bool) → goesOn (w .session .on) (w .session .at) (length piece) (w .session .laid) (length (w .out)) ≡ f
-            → both (if f then turnsOf turns piece (turnOf piece w) else w) ≡ written w ++ view lines (shown w lines rest)
+        by : ((v : Desk) → Good v → m < v .session .at → v .session .at ≤ length chunk → Lays (λ u. both (turnsOf turns chunk u)) v (drop (v .session .at) chunk ++ t))
+            → (f : Bool) → goesOn (w .session .on) (w .session .at) (length chunk) (w .session .laid) (length (w .out)) ≡ f
+            → both (if f then turnsOf turns chunk (turnOf chunk w) else w) ≡ written w ++ view lines (shown w lines rest)
         by next true e =
-            let g = goes-on-inside (w .session .on) (w .session .at) (length piece) (w .session .laid) (length (w .out)) e in
-            turn (λ v. both (turnsOf turns piece v)) (off-turns turns) piece t w good (g .1) (g .2) (λ v k l n. next v k (omega arith) n) lines rest p q a z
+            let g = goes-on-inside (w .session .on) (w .session .at) (length chunk) (w .session .laid) (length (w .out)) e in
+            turn (λ v. both (turnsOf turns chunk v)) (off-turns turns) chunk t w good (g .1) (g .2) (λ v k l n. next v k (omega arith) n) lines rest p q a z
         by next false e = ap (λ (l : List ℕ). written w ++ l) (go w good lt le lines rest p q a z)
 
     -- one `take`: it makes a turn at least
-    pub take-gives : (w : World) → Good w → m ≡ w .session .at → w .session .at < length piece → Gives (λ v. both (takeOf piece v)) w (drop (w .session .at) piece ++ t)
+    pub take-gives : (w : Desk) → Good w → m ≡ w .session .at → w .session .at < length chunk → Gives (λ v. both (takeOf chunk v)) w (drop (w .session .at) chunk ++ t)
     unfolding takeOf turnsOf atByte written goesOn if_then_else_
-    take-gives w good start inside lines rest p q a z = by (length piece) refl
+    take-gives w good start inside lines rest p q a z = by (length chunk) refl
       where
-        fresh : World
-        fresh = world (atByte (w .session) (w .session .at)) (w .held) (w .request) (w .reply) (w .buffer) (w .out)
+        fresh : Desk
+        fresh = desk (atByte (w .session) (w .session .at)) (w .held) (w .request) (w .reply) (w .buffer) (w .out)
 
         ready : Good fresh
         ready = record {
           sized = record { held = good .sized .held; request = good .sized .request; reply = good .sized .reply; buffer = good .sized .buffer; out = good .sized .out };
-          fits = good .fits;
           room = good .room;
           on = good .on;
         }
@@ -292,11 +298,11 @@ module _ (view : List (List ℕ) → List (List ℕ) → List ℕ) (Ends : List 
         room : 0 + longestLine ≤ length (w .out)
         room = omega (arith, good .sized .out)
 
-        goes : goesOn (w .session .on) (w .session .at) (length piece) 0 (length (w .out)) ≡ true
-        goes = rw (good .on, lt-ltb (w .session .at) (length piece) inside) (le-leb (0 + longestLine) (length (w .out)) room)
+        goes : goesOn (w .session .on) (w .session .at) (length chunk) 0 (length (w .out)) ≡ true
+        goes = rw (good .on, lt-ltb (w .session .at) (length chunk) inside) (le-leb (0 + longestLine) (length (w .out)) room)
 
-        by : (n : ℕ) → length piece ≡ n → both (turnsOf n piece fresh) ≡ view lines (shown w lines rest)
+        by : (n : ℕ) → length chunk ≡ n → both (turnsOf n chunk fresh) ≡ view lines (shown w lines rest)
         by zero e = absurd (omega arith)
         by (suc turns) e =
             rw goes
-            (turn (λ v. both (turnsOf turns piece v)) (off-turns turns) piece t fresh ready inside room (λ v g l k. turns-lay turns v g (omega arith) k) lines rest p q a z)
+            (turn (λ v. both (turnsOf turns chunk v)) (off-turns turns) chunk t fresh ready inside room (λ v g l k. turns-lay turns v g (omega arith) k) lines rest p q a z)

@@ -7,33 +7,39 @@ use mathlib.Core.List.{List}
 use native.Mathlib.Omega.{arith}
 use lib.ListN.{length, take, drop, length-drop}
 use lib.Seq.{take-all}
-use lib.Dec.{ltb, leb}
+use lib.Dec.{ltb, leb, eqb}
 use borrow.Author.Tests.{ltb-true, leb-true, leb-false, le-leb, lt-leb}
 use Rattle.protocol.specs.Pick.{if_then_else_}
 use Rattle.printing.specs.Printing.{feedBytes, printedOf}
 use Rattle.printing.proofs.Laws.{length-feed}
-use Rattle.pieces.specs.Pieces.{beforeFeed, judgeOf, tookOf, lineTook}
-use Rattle.pieces.specs.declared.Took.{Took}
-use Rattle.pieces.specs.declared.Took.the-variants as took
-use Rattle.bench_stage.specs.Stage.{feedOf, requestAfter, replyAfter, bufferAfter, closeOf}
-use Rattle.bench_stage.specs.declared.Run.{Run}
-use Rattle.bench_stage.specs.declared.Stage.{Stage}
-use Rattle.bench_lines.specs.Saying.{Saying, asked, last, saidOf}
-use Rattle.bench_lines.specs.declared.Said.{Said}
-use Rattle.bench_lines.specs.declared.Said.the-variants as said
+use Rattle.lines.specs.Lines.{beforeFeed, judgeOf, tookOf, heldAfter}
+use Rattle.lines.specs.declared.Took.{Took}
+use Rattle.lines.specs.declared.Took.the-variants as took
+use Rattle.dialogue.specs.Dialogue.{Saying, asked, last, Spoken, saidOf, turnedOf, answerOf, requestAfter, replyAfter, bufferAfter}
+use Rattle.dialogue.specs.declared.Run.{Run}
+use Rattle.dialogue.specs.declared.Said.the-variants as said
+use Rattle.dialogue.specs.declared.Turned.{Turned}
 use Rattle.session.specs.declared.Session.{Session}
-use Rattle.session.specs.Session.{World, world, longestLine, moreOf, saidSession, printOf, printOut, laidOf, lineOf, turnBy, turnOf, goesOn, turnsOf}
+use Rattle.session.specs.Session.{Desk, desk, longestLine, moreOf, saidSession, spokenSession, laidOut, closing, laidOf, lineOf, turnBy, turnOf, goesOn, turnsOf}
 
 -- what is after the laid bytes is all that is lent
-pub all-after : (out : List ℕ) (laid : ℕ) → take (length out - laid) (drop laid out) ≡ drop laid out
+all-after : (out : List ℕ) (laid : ℕ) → take (length out - laid) (drop laid out) ≡ drop laid out
 all-after out laid = take-all (length out - laid) (drop laid out) (omega (arith, length-drop laid out))
 
 -- a line in the part after the laid bytes
-pub part-said : (s : Saying) (u : Said) (out : List ℕ) (laid : ℕ) → u ≡ saidOf s (length (take (length out - laid) (drop laid out))) → u ≡ saidOf s (length out - laid)
-part-said s u out laid e = e ∙ ap (saidOf s) (ap length (all-after out laid) ∙ length-drop laid out)
+part-room : (out : List ℕ) (laid : ℕ) → length (take (length out - laid) (drop laid out)) ≡ length out - laid
+part-room out laid = ap length (all-after out laid) ∙ length-drop laid out
+
+pub part-turned : (s : Spoken) (t : Turned) (out : List ℕ) (laid : ℕ) → t ≡ turnedOf s (length (take (length out - laid) (drop laid out)))
+    → t ≡ record { run = s .run; said = saidOf (s .saying) (length out - laid) }
+unfolding turnedOf
+part-turned s t out laid e = e ∙ rw (part-room out laid)
+
+pub part-printed : (s : List ℕ) (n : ℕ) (out : List ℕ) (laid : ℕ) → n ≡ printedOf s (length (take (length out - laid) (drop laid out))) → n ≡ printedOf s (length out - laid)
+part-printed s n out laid e = e ∙ rw (part-room out laid)
 
 -- no more is printed than there is room for
-printed-room : (s : List ℕ) (room : ℕ) → printedOf s room ≤ room
+pub printed-room : (s : List ℕ) (room : ℕ) → printedOf s room ≤ room
 unfolding printedOf if_then_else_
 printed-room s room = by (leb (length s * 2 + 1) room) refl
   where
@@ -51,50 +57,72 @@ unfolding saidOf
 last-room (asked s) room n e = absurd (let z : _≡_ {A = ℕ} 0 1 = cc in omega arith)
 last-room (last s) room n e = let q : n ≡ printedOf s room = cc in omega (arith, printed-room s room)
 
-module _ (piece : List ℕ) (w : World) (u : Took) (held : List ℕ)
-    (took-as : u ≡ tookOf piece (w .session .at) (length (w .held)) (w .session .have)) (held-as : held ≡ lineTook piece (w .session .at) (w .held) (w .session .have)) where
-  -- a line was whole, and was fed to the run
-  pub took-line : (r : Session) (s : Stage) (line request reply buffer out : List ℕ) (len next : ℕ) → u ≡ took.Line len next → line ≡ take len held
-      → s ≡ feedOf (w .session .run) line (w .request) (w .reply) (length (w .buffer)) → request ≡ requestAfter (w .session .run) line (w .request)
-      → reply ≡ replyAfter (w .session .run) line (w .reply) → buffer ≡ bufferAfter (w .session .run) line (w .request) (w .reply) (w .buffer)
-      → r ≡ printOf s next (w .session .laid) request buffer (length (w .out)) → out ≡ printOut s (w .session .laid) request buffer (w .out)
-      → world r held request reply buffer out ≡ turnOf piece w
-  unfolding turnOf turnBy lineOf laidOf
-  took-line r s line request reply buffer out len next e l f a b c p q = rw (← took-as, e, ← held-as, ← l, ← f, ← a, ← b, ← c, p, q)
+-- what a line that is answered gives
+abbrev Answered : Desk → List ℕ → ℕ → Session → List ℕ → List ℕ → List ℕ → List ℕ → Type 0
+Answered w line next r request reply buffer out =
+    (r ≡ spokenSession (answerOf (w .session .run) line (w .request) (w .reply) (w .buffer)) next (w .session .laid) (length (w .out)))
+    × (request ≡ requestAfter (w .session .run) line (w .request))
+    × (reply ≡ replyAfter (w .session .run) line (w .reply))
+    × (buffer ≡ bufferAfter (w .session .run) line (w .request) (w .reply) (w .buffer))
+    × (out ≡ laidOut (answerOf (w .session .run) line (w .request) (w .reply) (w .buffer)) (w .session .laid) (w .out))
 
-  -- the piece was used up
-  pub took-more : (r : Session) (have : ℕ) → u ≡ took.More have → r ≡ moreOf (w .session .run) have (length piece) (w .session .laid)
-      → world r held (w .request) (w .reply) (w .buffer) (w .out) ≡ turnOf piece w
+line-answered : (w : Desk) (line : List ℕ) (next : ℕ) (r : Session) (held request reply buffer out : List ℕ) → Answered w line next r request reply buffer out
+    → desk r held request reply buffer out ≡ lineOf line next held w
+unfolding lineOf laidOf
+line-answered w line next r held request reply buffer out a = rw (a .0, a .1, a .2, a .3, a .4)
+
+module _ (chunk : List ℕ) (w : Desk) (u : Took) (held : List ℕ)
+    (took-as : u ≡ tookOf chunk (w .session .at) (length (w .held)) (w .session .have)) (held-as : held ≡ heldAfter chunk (w .session .at) (w .held) (w .session .have)) where
+  -- a line lay whole in the chunk
+  pub took-here : (r : Session) (line request reply buffer out : List ℕ) (len next : ℕ) → u ≡ took.Here len next → line ≡ take len (drop (w .session .at) chunk)
+      → Answered w line next r request reply buffer out → desk r held request reply buffer out ≡ turnOf chunk w
+  unfolding turnOf turnBy
+  took-here r line request reply buffer out len next e l a = rw (← took-as, e, ← held-as, ← l) (line-answered w line next r held request reply buffer out a)
+
+  -- a line was whole with what was held
+  pub took-held : (r : Session) (line request reply buffer out : List ℕ) (len next : ℕ) → u ≡ took.Held len next → line ≡ take len held
+      → Answered w line next r request reply buffer out → desk r held request reply buffer out ≡ turnOf chunk w
+  unfolding turnOf turnBy
+  took-held r line request reply buffer out len next e l a = rw (← took-as, e, ← held-as, ← l) (line-answered w line next r held request reply buffer out a)
+
+  -- the chunk was used up
+  pub took-more : (r : Session) (have : ℕ) → u ≡ took.More have → r ≡ moreOf (w .session .run) have (length chunk) (w .session .laid)
+      → desk r held (w .request) (w .reply) (w .buffer) (w .out) ≡ turnOf chunk w
   unfolding turnOf turnBy
   took-more r have e p = rw (← took-as, e, ← held-as, p)
 
   -- a line had no room
-  pub took-long : (r : Session) (s : Stage) (out : List ℕ) → u ≡ took.Long → s ≡ closeOf (w .session .run) 1
-      → r ≡ printOf s (length piece) (w .session .laid) (w .request) (w .buffer) (length (w .out)) → out ≡ printOut s (w .session .laid) (w .request) (w .buffer) (w .out)
-      → world r held (w .request) (w .reply) (w .buffer) out ≡ turnOf piece w
+  pub took-long : (r : Session) (out : List ℕ) → u ≡ took.Long
+      → (r ≡ spokenSession (closing (w .session .run) 1 (w .buffer)) (length chunk) (w .session .laid) (length (w .out))) × (out ≡ laidOut (closing (w .session .run) 1 (w .buffer)) (w .session .laid) (w .out))
+      → desk r held (w .request) (w .reply) (w .buffer) out ≡ turnOf chunk w
   unfolding turnOf turnBy laidOf
-  took-long r s out e f p q = rw (← took-as, e, ← held-as, ← f, p, q)
+  took-long r out e p = rw (← took-as, e, ← held-as, p .0, p .1)
 
 at-said : (s : Saying) (room : ℕ) (r : Run) (at laid : ℕ) → saidSession (saidOf s room) r at laid .at ≡ at
 unfolding saidSession saidOf
 at-said (asked s) room r at laid = refl
 at-said (last s) room r at laid = refl
 
--- a turn goes past a line feed, or to the end of the piece
-pub turn-uses : (piece : List ℕ) (w : World) → w .session .at < length piece → w .session .at < turnOf piece w .session .at
-unfolding turnOf turnBy lineOf laidOf printOf moreOf tookOf judgeOf if_then_else_
-turn-uses piece w h =
-    by (ltb (length (w .held)) (w .session .have + length (beforeFeed (drop (w .session .at) piece))))
-    (leb (length piece - w .session .at) (length (beforeFeed (drop (w .session .at) piece))))
+-- a turn goes past a line feed, or to the end of the chunk
+pub turn-uses : (chunk : List ℕ) (w : Desk) → w .session .at < length chunk → w .session .at < turnOf chunk w .session .at
+unfolding turnOf turnBy lineOf laidOf spokenSession moreOf tookOf judgeOf if_then_else_
+turn-uses chunk w h =
+    by (ltb (length (w .held)) (w .session .have + length (beforeFeed (drop (w .session .at) chunk))))
+    (leb (length chunk - w .session .at) (length (beforeFeed (drop (w .session .at) chunk)))) (eqb (w .session .have) 0)
   where
     k : ℕ
-    k = length (beforeFeed (drop (w .session .at) piece))
+    k = length (beforeFeed (drop (w .session .at) chunk))
 
-    by : (f g : Bool)
-        → w .session .at < turnBy (if f then took.Long else if g then took.More (w .session .have + k) else took.Line (w .session .have + k) (w .session .at + k + 1)) (length piece) (lineTook piece (w .session .at) (w .held) (w .session .have)) w .session .at
-    by true g = rw at-said h
-    by false true = h
-    by false false = rw at-said (omega arith)
+    by : (f g i : Bool)
+        → w .session .at
+        < turnBy
+        (if f then took.Long else if g then took.More (w .session .have + k) else
+        if i then took.Here k (w .session .at + k + 1) else took.Held (w .session .have + k) (w .session .at + k + 1))
+        chunk (heldAfter chunk (w .session .at) (w .held) (w .session .have)) w .session .at
+    by true g i = rw at-said h
+    by false true i = h
+    by false false true = rw at-said (omega arith)
+    by false false false = rw at-said (omega arith)
 
 -- what `goesOn` says
 pub goes-on-inside : (on : Bool) (at end laid room : ℕ) → goesOn on at end laid room ≡ true → (on ≡ true) × (at < end) × (laid + longestLine ≤ room)
@@ -109,33 +137,33 @@ goes-on-inside on at end laid room = by₁ on
     by₁ true q = let h = by₂ (ltb at end) refl q in (refl, h .0, h .1)
     by₁ false q = absurd (let z : _≡_ {A = ℕ} 0 1 = cc in omega arith)
 
--- some turns, one for each byte that is left at least, lead from a world to another
-pub record Leads (piece : List ℕ) (w v : World) : Type 0 where
+-- some turns, one for each byte that is left at least, lead from a desk to another
+pub record Leads (chunk : List ℕ) (w v : Desk) : Type 0 where
   pub turns : ℕ
-  pub enough : length piece ≤ turns + w .session .at
-  pub same : turnsOf turns piece w ≡ v
+  pub enough : length chunk ≤ turns + w .session .at
+  pub same : turnsOf turns chunk w ≡ v
 
-abbrev on-in : List ℕ → World → Bool
-on-in piece w = goesOn (w .session .on) (w .session .at) (length piece) (w .session .laid) (length (w .out))
+abbrev on-in : List ℕ → Desk → Bool
+on-in chunk w = goesOn (w .session .on) (w .session .at) (length chunk) (w .session .laid) (length (w .out))
 
 -- one of them is made
-pub leads-on : (piece : List ℕ) (w u v : World) → on-in piece w ≡ true → u ≡ turnOf piece w → Leads piece w v → Leads piece u v
+pub leads-on : (chunk : List ℕ) (w u v : Desk) → on-in chunk w ≡ true → u ≡ turnOf chunk w → Leads chunk w v → Leads chunk u v
 unfolding turnsOf if_then_else_
-leads-on piece w u v e q l = subst (λ (x : World). Leads piece x v) (sym q) (by (l .turns) (l .enough) (l .same))
+leads-on chunk w u v e q l = subst (λ (x : Desk). Leads chunk x v) (sym q) (by (l .turns) (l .enough) (l .same))
   where
-    inside : w .session .at < length piece
-    inside = goes-on-inside (w .session .on) (w .session .at) (length piece) (w .session .laid) (length (w .out)) e .1
+    inside : w .session .at < length chunk
+    inside = goes-on-inside (w .session .on) (w .session .at) (length chunk) (w .session .laid) (length (w .out)) e .1
 
-    by : (turns : ℕ) → length piece ≤ turns + w .session .at → turnsOf turns piece w ≡ v → Leads piece (turnOf piece w) v
+    by : (turns : ℕ) → length chunk ≤ turns + w .session .at → turnsOf turns chunk w ≡ v → Leads chunk (turnOf chunk w) v
     by zero n q = absurd (omega (arith, n, inside))
-    by (suc turns) n q = record { turns = turns; enough = omega (arith, turn-uses piece w inside, n); same = rw e at q }
+    by (suc turns) n q = record { turns = turns; enough = omega (arith, turn-uses chunk w inside, n); same = rw e at q }
 
 -- none can be made
-pub leads-end : (piece : List ℕ) (w v : World) → on-in piece w ≡ false → Leads piece w v → w ≡ v
+pub leads-end : (chunk : List ℕ) (w v : Desk) → on-in chunk w ≡ false → Leads chunk w v → w ≡ v
 unfolding turnsOf if_then_else_
-leads-end piece w v e l = by (l .turns) (l .same)
+leads-end chunk w v e l = by (l .turns) (l .same)
   where
-    by : (turns : ℕ) → turnsOf turns piece w ≡ v → w ≡ v
+    by : (turns : ℕ) → turnsOf turns chunk w ≡ v → w ≡ v
     by zero q = q
     by (suc turns) q = rw e at q
 

@@ -6,37 +6,28 @@ use mathlib.Core.Bool.{Bool, true, false}
 use mathlib.Core.List.{List, [], _∷_, _++_}
 use mathlib.Core.Logic.{_⊎_, inl, inr}
 use native.Mathlib.Omega.{arith}
-use lib.ListN.{length, take, drop, take-append-drop, length-append}
+use lib.ListN.{length, take, drop, length-append}
 use lib.Dec.{ltb, eqb}
 use borrow.Author.Tests.{lt-ltb, ne-eqb, eqb-false, ltb-true, ltb-false}
 use Rattle.hex.specs.Hex.{decodedOf, bytesOf, outDecoded}
 use Rattle.hex.specs.declared.Decoded.the-variants as decoded
 use Rattle.protocol.specs.Pick.{if_then_else_}
-use Rattle.protocol.specs.declared.error.Answer.the-variants as answer
 use Rattle.requests.specs.Outcome.{outcomeLine}
 use Rattle.requests.specs.Request.{requestLine}
-use Rattle.pieces.specs.Pieces.{beforeFeed, linesFrom, restFrom}
-use Rattle.pieces.proofs.Any.{lines-more, lines-whole}
-use Rattle.bench_stage.specs.Stage as stage
-use Rattle.bench_stage.specs.declared.Run.{Run}
-use Rattle.bench_stage.specs.declared.Run.the-variants as run
-use Rattle.bench_stage.specs.declared.End.the-variants as end
-use Rattle.bench_stage.specs.declared.Stage.{Stage}
-use Rattle.bench_lines.specs.Saying.{Saying, last, bytesSaid, sayWrite, sayRead, sayOf}
-use Rattle.session.proofs.Kept.{Fits}
-
--- what a stage has to say
-abbrev pub saying : Stage → List ℕ → List ℕ → Saying
-saying s R B = sayOf (s .run) (s .end) R B
+use Rattle.lines.specs.Lines.{beforeFeed, linesFrom, restFrom}
+use Rattle.lines.proofs.Any.{lines-more, lines-whole}
+use Rattle.dialogue.specs.Dialogue as dialogue
+use Rattle.dialogue.specs.declared.Run.{Run}
+use Rattle.dialogue.specs.declared.Run.the-variants as run
 
 -- a line with more digits than there is room for has no bytes
-no-bytes : (line out : List ℕ) → length out * 2 < length line → stage.bytesIn line out ≡ []
-unfolding stage.bytesIn stage.byteCount stage.countIn decodedOf if_then_else_
+no-bytes : (line out : List ℕ) → length out * 2 < length line → dialogue.bytesIn line out ≡ []
+unfolding dialogue.bytesIn dialogue.byteCount dialogue.countIn decodedOf if_then_else_
 no-bytes line out h = by (eqb (length line % 2) 1) refl
   where
     by : (t : Bool) → eqb (length line % 2) 1 ≡ t
         → take
-        (stage.countIn
+        (dialogue.countIn
         (if t then decoded.Bad else
         if ltb (length out) (length line / 2) then decoded.TooLong else
         if ltb (length (bytesOf line)) (length line / 2) then decoded.Bad else decoded.Bytes (length line / 2)))
@@ -47,31 +38,17 @@ no-bytes line out h = by (eqb (length line % 2) 1) refl
         rw (lt-ltb (length out) (length line / 2) k)
 
 -- such a line is answered as a line that lacks its line feed
-pub long-says : (r : Run) (line R Y B : List ℕ) → length R * 2 < length line → length Y * 2 < length line → Fits r (length B)
-    → saying (stage.feedOf r line R Y (length B)) (stage.requestAfter r line R) (stage.bufferAfter r line R Y B) ≡ saying (stage.closeOf r 1) R B
-unfolding stage.feedOf stage.requestAfter stage.bufferAfter stage.closeOf stage.beginOf stage.beginBy stage.fresh stage.goWrite stage.goWriteBy stage.goRead stage.goBuffer stage.heardRead stage.heardReadBy stage.heardBuffer stage.heardBufferBy stage.writeStage stage.readStage sayOf sayWrite sayRead requestLine outcomeLine if_then_else_
-long-says run.Nothing line R Y B x y f = rw (no-bytes line R x)
-long-says (run.Write call at len) line R Y B x y f = rw (no-bytes line Y y)
-long-says (run.Read call len) line R Y B x y f = rw (no-bytes line Y y, take-append-drop)
-
--- the end of the input gives a last line
-pub close-last : (r : Run) (k : ℕ) (R B : List ℕ) → saying (stage.closeOf r k) R B ≡ last (bytesSaid (saying (stage.closeOf r k) R B))
-unfolding stage.closeOf if_then_else_ sayOf sayWrite sayRead bytesSaid
-close-last r k R B = by r (eqb k 0)
-  where
-    by : (r : Run) (t : Bool) → saying (if t then record { run = r; end = end.Cut } else record { run = r; end = end.Stopped answer.BadLine }) R B
-        ≡ last (bytesSaid (saying (if t then record { run = r; end = end.Cut } else record { run = r; end = end.Stopped answer.BadLine }) R B))
-    by run.Nothing true = refl
-    by run.Nothing false = refl
-    by (run.Write call at len) true = refl
-    by (run.Write call at len) false = refl
-    by (run.Read call len) true = refl
-    by (run.Read call len) false = refl
+pub long-says : (r : Run) (line R Y B : List ℕ) → length R * 2 < length line → length Y * 2 < length line
+    → dialogue.answerOf r line R Y B .saying ≡ dialogue.last (dialogue.closeOf r 1 B)
+unfolding dialogue.answerOf dialogue.closeOf dialogue.lastOf dialogue.beginOf dialogue.beginBy dialogue.goOn dialogue.hearOf dialogue.hearBy dialogue.hearBuffer dialogue.hearBufferBy dialogue.sayOf requestLine outcomeLine if_then_else_
+long-says run.Fresh line R Y B x y = rw (no-bytes line R x)
+long-says (run.Call call place) line R Y B x y = rw (no-bytes line Y y)
 
 -- any bytes of an unfinished line are as bad as one
-pub close-some : (r : Run) (k : ℕ) → 0 < k → stage.closeOf r k ≡ stage.closeOf r 1
-unfolding stage.closeOf if_then_else_
-close-some r k h = rw (ne-eqb k 0 (λ e. omega arith))
+pub close-some : (r : Run) (k : ℕ) (B : List ℕ) → 0 < k → dialogue.closeOf r k B ≡ dialogue.closeOf r 1 B
+unfolding dialogue.closeOf dialogue.lastOf if_then_else_
+close-some run.Fresh k B h = refl
+close-some (run.Call call place) k B h = rw (ne-eqb k 0 (λ e. omega arith))
 
 length-before : (s : List ℕ) → length (beforeFeed s) ≤ length s
 unfolding beforeFeed if_then_else_

@@ -7,10 +7,10 @@ use mathlib.Core.List.{List, [], _∷_, _++_}
 use lib.ListN.{length, take}
 use lib.Dec.{ltb}
 use Rattle.protocol.specs.Pick.{if_then_else_}
-use Rattle.pieces.specs.Pieces.{linesFrom, restFrom}
+use Rattle.lines.specs.Lines.{linesFrom, restFrom}
 use Rattle.printing.specs.Printing.{feedBytes}
-use Rattle.bench_lines.specs.Bench.{benchOf}
-use Rattle.session.specs.Session.{World, world, heldBytes, Sized, startOf, atByte, takeOf, endOf}
+use Rattle.dialogue.specs.Bench.{benchOf}
+use Rattle.session.specs.Session.{Desk, desk, heldBytes, Sized, startOf, atByte, takeOf, endOf}
 
 -- lines as they are written: each in upper-case hexadecimal, with its line feed
 unfoldable pub feeds : List (List ℕ) → List ℕ
@@ -31,40 +31,40 @@ printedSoFar input =
     feeds (take (length (linesFrom [] input) + early (restFrom [] input)) (benchOf (linesFrom [] input) (restFrom [] input)))
 
 -- what is written: the bytes that are laid
-unfoldable pub written : World → List ℕ
-written w = take (w .session .laid) (w .out)
+unfoldable pub written : Desk → List ℕ
+written d = take (d .session .laid) (d .out)
 
--- a piece, `take` after `take` while the run goes on and the piece lasts, and then what follows it. One for each byte is enough (`advances`).
-unfoldable pub pieceOut : ℕ → List ℕ → World → (World → List ℕ) → List ℕ
-pieceOut zero piece w more = more w
-pieceOut (suc takes) piece w more =
-    if w .session .on then
-    (if ltb (w .session .at) (length piece) then written (takeOf piece w) ++ pieceOut takes piece (takeOf piece w) more else more w)
+-- a chunk, `take` after `take` while the run goes on and the chunk lasts, and then what follows it. One for each byte is enough (`advances`).
+unfoldable pub chunkOut : ℕ → List ℕ → Desk → (Desk → List ℕ) → List ℕ
+chunkOut zero chunk d more = more d
+chunkOut (suc takes) chunk d more =
+    if d .session .on then
+    (if ltb (d .session .at) (length chunk) then written (takeOf chunk d) ++ chunkOut takes chunk (takeOf chunk d) more else more d)
     else []
 
--- piece after piece, and `final` once there is none
-unfoldable pub piecesOut : (World → List ℕ) → List (List ℕ) → World → List ℕ
-piecesOut final [] w = if w .session .on then final w else []
-piecesOut final (piece ∷ pieces) w =
-    pieceOut (length piece) piece (world (atByte (w .session) 0) (w .held) (w .request) (w .reply) (w .buffer) (w .out)) (piecesOut final pieces)
+-- chunk after chunk, and `final` once there is none
+unfoldable pub chunksOut : (Desk → List ℕ) → List (List ℕ) → Desk → List ℕ
+chunksOut final [] d = if d .session .on then final d else []
+chunksOut final (chunk ∷ chunks) d =
+    chunkOut (length chunk) chunk (desk (atByte (d .session) 0) (d .held) (d .request) (d .reply) (d .buffer) (d .out)) (chunksOut final chunks)
 
--- what the program writes for an input that comes in these pieces, each a read of its own. A read that brings nothing is the end; an empty piece changes
+-- what the program writes for an input that comes in these chunks, each a read of its own. A read that brings nothing is the end; an empty chunk changes
 -- nothing
-unfoldable pub bytesOut : List (List ℕ) → World → List ℕ
-bytesOut pieces w = piecesOut (λ v. written (endOf v)) pieces w
+unfoldable pub bytesOut : List (List ℕ) → Desk → List ℕ
+bytesOut chunks d = chunksOut (λ v. written (endOf v)) chunks d
 
--- what it has written once these pieces are read, where more may follow
-unfoldable pub bytesSoFar : List (List ℕ) → World → List ℕ
-bytesSoFar pieces w = piecesOut (λ v. []) pieces w
+-- what it has written once these chunks are read, where more may follow
+unfoldable pub bytesSoFar : List (List ℕ) → Desk → List ℕ
+bytesSoFar chunks d = chunksOut (λ v. []) chunks d
 
 -- the whole input
 unfoldable pub concat : List (List ℕ) → List ℕ
 concat [] = []
-concat (piece ∷ pieces) = piece ++ concat pieces
+concat (chunk ∷ chunks) = chunk ++ concat chunks
 
--- however the input is cut into pieces, and whatever the lent arrays hold at first, the program writes what document 01 says of the whole input; and
--- it holds no line back: what the lines so far give is written before more is read. Each `take` uses a byte at least, so that a piece comes to its end.
+-- however the input is cut into chunks, and whatever the lent arrays hold at first, the program writes what document 01 says of the whole input; and
+-- it holds no line back: what the lines so far give is written before more is read. Each `take` uses a byte at least, so that a chunk comes to its end.
 pub record WholeBench : Type 0 where
-  pub whole : (pieces : List (List ℕ)) (w : World) → Sized w → w .session ≡ startOf → bytesOut pieces w ≡ printed (concat pieces)
-  pub at-once : (pieces : List (List ℕ)) (w : World) → Sized w → w .session ≡ startOf → bytesSoFar pieces w ≡ printedSoFar (concat pieces)
-  pub advances : (piece : List ℕ) (w : World) → Sized w → w .session .on ≡ true → w .session .at < length piece → w .session .at < takeOf piece w .session .at
+  pub whole : (chunks : List (List ℕ)) (d : Desk) → Sized d → d .session ≡ startOf → bytesOut chunks d ≡ printed (concat chunks)
+  pub at-once : (chunks : List (List ℕ)) (d : Desk) → Sized d → d .session ≡ startOf → bytesSoFar chunks d ≡ printedSoFar (concat chunks)
+  pub advances : (chunk : List ℕ) (d : Desk) → Sized d → d .session .on ≡ true → d .session .at < length chunk → d .session .at < takeOf chunk d .session .at

@@ -7,21 +7,19 @@ use mathlib.Core.List.{List, _++_}
 use lib.ListN.{length, take, drop}
 use lib.Dec.{ltb, leb}
 use Rattle.protocol.specs.Pick.{if_then_else_}
-use Rattle.pieces.specs.Pieces.{tookOf, lineTook}
-use Rattle.pieces.specs.declared.Took.{Took}
-use Rattle.pieces.specs.declared.Took.the-variants as took
+use Rattle.lines.specs.Lines.{tookOf, heldAfter}
+use Rattle.lines.specs.declared.Took.{Took}
+use Rattle.lines.specs.declared.Took.the-variants as took
 use Rattle.printing.specs.Printing.{outPrinted}
-use Rattle.bench_stage.specs.Stage.{feedOf, requestAfter, replyAfter, bufferAfter, closeOf}
-use Rattle.bench_stage.specs.declared.Run.{Run}
-use Rattle.bench_stage.specs.declared.Run.the-variants as run
-use Rattle.bench_stage.specs.declared.Stage.{Stage}
-use Rattle.bench_lines.specs.Saying.{saidOf, bytesSaid, sayOf}
-use Rattle.bench_lines.specs.declared.Said.{Said}
-use Rattle.bench_lines.specs.declared.Said.the-variants as said
+use Rattle.dialogue.specs.Dialogue.{last, bytesSaid, saidOf, Spoken, answerOf, requestAfter, replyAfter, bufferAfter, closeOf}
+use Rattle.dialogue.specs.declared.Run.{Run}
+use Rattle.dialogue.specs.declared.Run.the-variants as run
+use Rattle.dialogue.specs.declared.Said.{Said}
+use Rattle.dialogue.specs.declared.Said.the-variants as said
 use Rattle.session.specs.declared.Session.{Session}
 
 -- a session and the bytes that are lent to it
-pub record World : Type 0 where
+pub record Desk : Type 0 where
   pub session : Session
   pub held : List ℕ
   pub request : List ℕ
@@ -29,8 +27,8 @@ pub record World : Type 0 where
   pub buffer : List ℕ
   pub out : List ℕ
 
-abbrev pub world : Session → List ℕ → List ℕ → List ℕ → List ℕ → List ℕ → World
-world s held request reply buffer out = record { session = s; held = held; request = request; reply = reply; buffer = buffer; out = out }
+abbrev pub desk : Session → List ℕ → List ℕ → List ℕ → List ℕ → List ℕ → Desk
+desk s held request reply buffer out = record { session = s; held = held; request = request; reply = reply; buffer = buffer; out = out }
 
 -- the digits of the longest line that is valid, a request's of 8,202 bytes
 abbrev pub heldBytes : ℕ
@@ -45,22 +43,22 @@ abbrev pub outBytes : ℕ
 outBytes = 65536
 
 -- the sizes of what is lent, which the types of `take` have
-pub record Sized (w : World) : Type 0 where
-  pub held : length (w .held) ≡ heldBytes
-  pub request : length (w .request) ≡ 8202
-  pub reply : length (w .reply) ≡ 8193
-  pub buffer : length (w .buffer) ≡ 8192
-  pub out : length (w .out) ≡ outBytes
+pub record Sized (d : Desk) : Type 0 where
+  pub held : length (d .held) ≡ heldBytes
+  pub request : length (d .request) ≡ 8202
+  pub reply : length (d .reply) ≡ 8193
+  pub buffer : length (d .buffer) ≡ 8192
+  pub out : length (d .out) ≡ outBytes
 
 -- nothing read yet
 unfoldable pub startOf : Session
-startOf = record { run = run.Nothing; have = 0; at = 0; laid = 0; on = true }
+startOf = record { run = run.Fresh; have = 0; at = 0; laid = 0; on = true }
 
--- at a byte of its piece, with nothing laid
+-- at a byte of its chunk, with nothing laid
 unfoldable pub atByte : Session → ℕ → Session
 atByte s at = record { run = s .run; have = s .have; at = at; laid = 0; on = s .on }
 
--- a piece of n bytes that is used up, with so many bytes laid
+-- a chunk of n bytes that is used up, with so many bytes laid
 unfoldable pub moreOf : Run → ℕ → ℕ → ℕ → Session
 moreOf r have n laid = record { run = r; have = have; at = n; laid = laid; on = true }
 
@@ -69,65 +67,67 @@ unfoldable pub saidSession : Said → Run → ℕ → ℕ → Session
 saidSession (said.Asked n) r at laid = record { run = r; have = 0; at = at; laid = laid + n; on = true }
 saidSession (said.Last n) r at laid = record { run = r; have = 0; at = at; laid = laid + n; on = false }
 
--- the line of a stage, after the bytes that are laid, where there is room for n in all
-unfoldable pub printOf : Stage → ℕ → ℕ → List ℕ → List ℕ → ℕ → Session
-printOf stage at laid request buffer n = saidSession (saidOf (sayOf (stage .run) (stage .end) request buffer) (n - laid)) (stage .run) at laid
+-- the line that is spoken, after the bytes that are laid, where there is room for n in all
+unfoldable pub spokenSession : Spoken → ℕ → ℕ → ℕ → Session
+spokenSession s at laid n = saidSession (saidOf (s .saying) (n - laid)) (s .run) at laid
 
-unfoldable pub printOut : Stage → ℕ → List ℕ → List ℕ → List ℕ → List ℕ
-printOut stage laid request buffer out =
-    take laid out ++ outPrinted (bytesSaid (sayOf (stage .run) (stage .end) request buffer)) (drop laid out)
+unfoldable pub laidOut : Spoken → ℕ → List ℕ → List ℕ
+laidOut s laid out = take laid out ++ outPrinted (bytesSaid (s .saying)) (drop laid out)
 
--- the line of a stage is laid
-unfoldable pub laidOf : Stage → ℕ → ℕ → List ℕ → List ℕ → List ℕ → List ℕ → List ℕ → World
-laidOf stage at laid held request reply buffer out =
-    world (printOf stage at laid request buffer (length out)) held request reply buffer (printOut stage laid request buffer out)
+-- the last line, after so many bytes of a line: the run stays as it was
+unfoldable pub closing : Run → ℕ → List ℕ → Spoken
+closing r left buffer = record { run = r; saying = last (closeOf r left buffer) }
 
--- a whole line is fed to the run
-unfoldable pub lineOf : List ℕ → ℕ → List ℕ → World → World
-lineOf line at held w =
-    laidOf (feedOf (w .session .run) line (w .request) (w .reply) (length (w .buffer))) at (w .session .laid) held
-    (requestAfter (w .session .run) line (w .request))
-    (replyAfter (w .session .run) line (w .reply))
-    (bufferAfter (w .session .run) line (w .request) (w .reply) (w .buffer))
-    (w .out)
+-- the line that is spoken is laid
+unfoldable pub laidOf : Spoken → ℕ → ℕ → List ℕ → List ℕ → List ℕ → List ℕ → List ℕ → Desk
+laidOf s at laid held request reply buffer out = desk (spokenSession s at laid (length out)) held request reply buffer (laidOut s laid out)
 
--- what a turn comes to, by what a piece of n bytes brought
-unfoldable pub turnBy : Took → ℕ → List ℕ → World → World
-turnBy (took.Line len next) n held w = lineOf (take len held) next held w
-turnBy (took.More have) n held w =
-    world (moreOf (w .session .run) have n (w .session .laid)) held (w .request) (w .reply) (w .buffer) (w .out)
-turnBy took.Long n held w =
-    laidOf (closeOf (w .session .run) 1) n (w .session .laid) held (w .request) (w .reply) (w .buffer) (w .out)
+-- a whole line is answered
+unfoldable pub lineOf : List ℕ → ℕ → List ℕ → Desk → Desk
+lineOf line at held d =
+    laidOf (answerOf (d .session .run) line (d .request) (d .reply) (d .buffer)) at (d .session .laid) held
+    (requestAfter (d .session .run) line (d .request))
+    (replyAfter (d .session .run) line (d .reply))
+    (bufferAfter (d .session .run) line (d .request) (d .reply) (d .buffer))
+    (d .out)
 
--- one turn of a piece
-unfoldable pub turnOf : List ℕ → World → World
-turnOf piece w =
-    turnBy (tookOf piece (w .session .at) (length (w .held)) (w .session .have)) (length piece)
-    (lineTook piece (w .session .at) (w .held) (w .session .have)) w
+-- what a turn comes to, by what the chunk brought
+unfoldable pub turnBy : Took → List ℕ → List ℕ → Desk → Desk
+turnBy (took.Here len next) chunk held d = lineOf (take len (drop (d .session .at) chunk)) next held d
+turnBy (took.Held len next) chunk held d = lineOf (take len held) next held d
+turnBy (took.More have) chunk held d =
+    desk (moreOf (d .session .run) have (length chunk) (d .session .laid)) held (d .request) (d .reply) (d .buffer) (d .out)
+turnBy took.Long chunk held d =
+    laidOf (closing (d .session .run) 1 (d .buffer)) (length chunk) (d .session .laid) held (d .request) (d .reply) (d .buffer) (d .out)
 
--- whether another turn can be made: the run goes on, the piece lasts, and the longest line has room after what is laid
+-- one turn of a chunk
+unfoldable pub turnOf : List ℕ → Desk → Desk
+turnOf chunk d =
+    turnBy (tookOf chunk (d .session .at) (length (d .held)) (d .session .have)) chunk (heldAfter chunk (d .session .at) (d .held) (d .session .have)) d
+
+-- whether another turn can be made: the run goes on, the chunk lasts, and the longest line has room after what is laid
 unfoldable pub goesOn : Bool → ℕ → ℕ → ℕ → ℕ → Bool
 goesOn on at end laid room = if on then (if ltb at end then leb (laid + longestLine) room else false) else false
 
 -- turn after turn
-unfoldable pub turnsOf : ℕ → List ℕ → World → World
-turnsOf zero piece w = w
-turnsOf (suc turns) piece w =
-    if goesOn (w .session .on) (w .session .at) (length piece) (w .session .laid) (length (w .out)) then turnsOf turns piece (turnOf piece w) else w
+unfoldable pub turnsOf : ℕ → List ℕ → Desk → Desk
+turnsOf zero chunk d = d
+turnsOf (suc turns) chunk d =
+    if goesOn (d .session .on) (d .session .at) (length chunk) (d .session .laid) (length (d .out)) then turnsOf turns chunk (turnOf chunk d) else d
 
--- the lines of a piece, once what was laid before is written; a turn for each byte is enough
-unfoldable pub takeOf : List ℕ → World → World
-takeOf piece w =
-    turnsOf (length piece) piece (world (atByte (w .session) (w .session .at)) (w .held) (w .request) (w .reply) (w .buffer) (w .out))
+-- the lines of a chunk, once what was laid before is written; a turn for each byte is enough
+unfoldable pub takeOf : List ℕ → Desk → Desk
+takeOf chunk d =
+    turnsOf (length chunk) chunk (desk (atByte (d .session) (d .session .at)) (d .held) (d .request) (d .reply) (d .buffer) (d .out))
 
 -- the input has ended: a last line, unless the run is over
-unfoldable pub endSession : Session → List ℕ → List ℕ → ℕ → Session
-endSession s request buffer n = if s .on then printOf (closeOf (s .run) (s .have)) (s .at) 0 request buffer n else atByte s (s .at)
+unfoldable pub endSession : Session → List ℕ → ℕ → Session
+endSession s buffer n = if s .on then spokenSession (closing (s .run) (s .have) buffer) (s .at) 0 n else atByte s (s .at)
 
-unfoldable pub endOut : Session → List ℕ → List ℕ → List ℕ → List ℕ
-endOut s request buffer out = if s .on then printOut (closeOf (s .run) (s .have)) 0 request buffer out else out
+unfoldable pub endOut : Session → List ℕ → List ℕ → List ℕ
+endOut s buffer out = if s .on then laidOut (closing (s .run) (s .have) buffer) 0 out else out
 
-unfoldable pub endOf : World → World
-endOf w =
-    world (endSession (w .session) (w .request) (w .buffer) (length (w .out))) (w .held) (w .request) (w .reply) (w .buffer)
-    (endOut (w .session) (w .request) (w .buffer) (w .out))
+unfoldable pub endOf : Desk → Desk
+endOf d =
+    desk (endSession (d .session) (d .buffer) (length (d .out))) (d .held) (d .request) (d .reply) (d .buffer)
+    (endOut (d .session) (d .buffer) (d .out))

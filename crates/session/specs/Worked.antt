@@ -22,14 +22,15 @@ use Rattle.reading.specs.Reading as reading
 use Rattle.interface.specs.Plans as interface
 use Rattle.r5.specs.Plans as r5
 use Rattle.hex.specs.Hex as hex
-use Rattle.pieces.specs.Pieces as pieces
+use Rattle.lines.specs.Lines as lines
 use Rattle.requests.specs.Fields as fields
 use Rattle.requests.specs.Request as request
 use Rattle.requests.specs.Outcome as outcome
-use Rattle.bench_calls.specs.Calls as calls
+use Rattle.calls.specs.Kind as kind
+use Rattle.calls.specs.Call as calls
 use Rattle.printing.specs.Printing as printing
-use Rattle.bench_lines.specs.Saying as saying
-use Rattle.bench_lines.specs.Bench as bench
+use Rattle.dialogue.specs.Dialogue as dialogue
+use Rattle.dialogue.specs.Bench as bench
 use Rattle.session.specs.Output.{feeds, printed}
 
 pub data Run : Type 0 where
@@ -146,13 +147,14 @@ Hold (run lines text out ∷ more) = (printed (feeds lines ++ text) ≡ feeds ou
 pub runs-hold : Hold runs
 unfolding bitStep bitSteps byteStep pecOf if_then_else_ bytes.over bytes.blockIn bytes.storedAt bytes.sendOf frame.sealed frame.pairOf frame.macBytes frame.commandBytes frame.registerBytes frame.infoBytes frame.laidOf frame.workLaid
     reply.plainAsk reply.macAsk reply.leadOf reply.aroundOf reply.bytesAsked reply.checkedOf reply.heardOf reply.dataOf inWindow case_waiting_ended_ case_acknowledged_error_timeout_ case_retry_spent_ budget.failed budget.nothing budget.waited
-    bus.writeOf bus.phaseAfter bus.fitsOf limit.windowed limit.commanded limit.measured limit.admitted frames.isPlain frames.isFlash frames.frameCount frames.halfBytes frames.blockBytes frames.infoCBytes frames.bytesAt
+    bus.writeOf bus.phaseAfter bus.fitsOf limit.windowed limit.commanded limit.measured limit.admitted frames.isPlain frames.isFlash frames.firstAddress frames.frameCount frames.halfBytes frames.blockBytes frames.infoCBytes frames.bytesAt
     writing.planOf writing.startOf writing.ownBytes writing.dueBytes writing.shownOf writing.workShown writing.nextOf writing.workAfter writing.partOf writing.advanceOf writing.gaveUp writing.retryOf writing.endOf writing.failOf writing.settleOf writing.repliedOf writing.reportOf
-    case_refused_fault_headed_block_ parts.hasHead parts.headBytes parts.readCount parts.blockAsk parts.askOf parts.mostOf
+    case_refused_fault_headed_block_ parts.hasHead parts.headBytes parts.firstAddress parts.readCount parts.blockAsk parts.askOf parts.mostOf
     reading.plainPlan reading.macPlan reading.startOf reading.dueAsk reading.shownHead reading.workHead reading.shownOf reading.workShown reading.nextOf reading.workAfter reading.headedOf reading.advanceOf reading.retryOf reading.endOf reading.failOf reading.heardHead reading.verdictOf reading.heardBlock reading.acknowledgedOf reading.weighOf reading.judgeOf reading.storedOf reading.reportOf reading.bufferAfter
     interface.plainLimit interface.writeWithRetries interface.writeRegister interface.readRegister interface.commandPec interface.commandReads interface.dispatchCommand interface.readBuffer interface.writeBuffer
-    r5.macRead r5.macWrite r5.sendAccessKey r5.writeMfgInfoC r5.wholeAsk r5.readMfgInfoC r5.writeMfgInfo r5.readMfgInfo r5.readDataflash r5.writeDataflash hex.valueOf hex.pairOf hex.bytesOf hex.digitOf hex.hexOf pieces.linesFrom pieces.restFrom
-    fields.pairAt fields.quadAt request.configOf request.writesOf request.wholeOf request.readsOf request.commandOf request.readLine request.writeLine request.requestLine outcome.acknowledgedLine outcome.errorLine outcome.timeoutLine outcome.outcomeLine
-    calls.writeStart calls.readStart printing.feedBytes printing.quadOf printing.writeSaid printing.readSaid printing.endSaid printing.openSaid saying.sizeOf saying.tellOf saying.zeros saying.showWrite saying.showRead
-    bench.lineBytes bench.thenSay bench.closing bench.wroteThen bench.writeThen bench.writeLines bench.gotThen bench.readThen bench.readLines bench.writeRun bench.readRun bench.requestThen bench.benchOf feeds printed
+    r5.macRead r5.macWrite r5.sendAccessKey r5.writeMfgInfoC r5.wholeAsk r5.readMfgInfoC r5.writeMfgInfo r5.readMfgInfo r5.readDataflash r5.writeDataflash hex.valueOf hex.pairOf hex.bytesOf hex.digitOf hex.hexOf lines.linesFrom lines.restFrom
+    fields.pairAt fields.quadAt request.configOf request.callOf request.exactOf request.askedOf request.requestLine outcome.acknowledgedLine outcome.errorLine outcome.timeoutLine outcome.outcomeLine
+    kind.planOf calls.startWith calls.startOf calls.nextOf calls.workAfter calls.partOf calls.wroteOf calls.gotOf calls.reportOf calls.bufferAfter calls.tallyOf
+    printing.feedBytes printing.quadOf printing.writeSaid printing.readSaid printing.endSaid printing.cutSaid dialogue.sizeOf dialogue.tellOf dialogue.zeros dialogue.lineShown dialogue.lastOf
+    bench.lineBytes bench.thenSay bench.reportThen bench.toldThen bench.callLines bench.callRun bench.requestThen bench.benchOf feeds printed
 runs-hold = (refl, (refl, (refl, (refl, (refl, (refl, (refl, (refl, (refl, (refl, (refl, (refl, (refl, (refl, (refl, (refl, (refl, (refl, (refl, (refl, (refl, (refl, (refl, (refl, (refl, (refl, (refl, (refl, (refl, (refl, (refl, (refl, (refl, (refl, (refl, (refl, (refl, (refl, (refl, (refl, (refl, (refl, (refl, (refl, (refl, (refl, tt))))))))))))))))))))))))))))))))))))))))))))))

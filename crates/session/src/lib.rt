@@ -1,9 +1,9 @@
-// The bench program without its reads and writes: pieces of input in, bytes to write out. Pieces become lines in `pieces`, lines stages in
-// `bench_stage`, and a stage a printed line in `bench_lines`.
-use bench_lines::Said;
-use bench_stage::Run;
-use bench_stage::Stage;
-use pieces::Took;
+// The bench program without its reads and writes: chunks of input in, bytes to write out. Chunks become lines in `lines`, and each line is answered in
+// `dialogue`.
+use dialogue::Run;
+use dialogue::Said;
+use lines::Took;
+use printing::LONGEST_LINE;
 use protocol::bytes;
 use requests::outcome::LONGEST_OUTCOME;
 use requests::request::LONGEST_REQUEST;
@@ -12,10 +12,11 @@ ghost use mathlib.Core.Path.{_≡_};
 ghost use Prim.Native.Nat.{_+_, _≤_};
 ghost use lib.ListN.{length};
 ghost use lib.Dec.{leb};
-ghost use Rattle.session.specs.Session.{world, longestLine, Sized, startOf, atByte, goesOn, printOf, printOut, turnOf, turnsOf, takeOf, endSession, endOut};
+ghost use Rattle.dialogue.specs.Dialogue.{answerOf, requestAfter, replyAfter, bufferAfter};
+ghost use Rattle.session.specs.Session.{desk, longestLine, Sized, startOf, atByte, goesOn, spokenSession, laidOut, closing, turnOf, turnsOf, takeOf, endSession, endOut};
 
-// The sizes of what is lent. Each has room for the longest that it may hold: a line's digits, the bytes of a request and of an outcome, and a reading
-// call's buffer.
+// The sizes of what is lent. Each has room for the longest that it may hold: a line's digits, the bytes of a request and of an outcome, a call's buffer,
+// and a line that is printed.
 pub const HELD_BYTES: usize = LONGEST_REQUEST * 2;
 
 pub const REQUEST_BYTES: usize = LONGEST_REQUEST;
@@ -24,8 +25,7 @@ pub const REPLY_BYTES: usize = LONGEST_OUTCOME;
 
 pub const BUFFER_BYTES: usize = MOST_BYTES;
 
-// The longest line that is printed is an end: eight bytes and a buffer, as digits, and a line feed.
-pub const LINE_BYTES: usize = (8 + MOST_BYTES) * 2 + 1;
+pub const LINE_BYTES: usize = LONGEST_LINE;
 
 // Lines are gathered up to this size, and written together.
 pub const OUT_BYTES: usize = 65536;
@@ -35,7 +35,7 @@ pub struct Session {
     pub run: Run,
     // How many bytes of a line are held.
     pub have: usize,
-    // Where the piece goes on.
+    // Where the chunk goes on.
     pub at: usize,
     // How many bytes are laid at the front of `out`, to be written now.
     pub laid: usize,
@@ -48,7 +48,7 @@ pub fn start() -> Session
     ensures { λ r. ⌜ r ≡ startOf ⌝ }
 {
     Session {
-        run: Run::Nothing,
+        run: Run::Fresh,
         have: 0,
         at: 0,
         laid: 0,
@@ -56,7 +56,7 @@ pub fn start() -> Session
     }
 }
 
-// The session at a byte of its piece, with nothing laid.
+// The session at a byte of its chunk, with nothing laid.
 fn at_byte(session: Session, at: usize) -> Session
     ensures { λ r. ⌜ r ≡ atByte session at ⌝ }
 {
@@ -70,8 +70,8 @@ fn at_byte(session: Session, at: usize) -> Session
     }
 }
 
-// A new piece, which is read from its first byte on. What was laid is written.
-pub fn next_piece(session: Session) -> Session
+// A new chunk, which is read from its first byte on. What was laid is written.
+pub fn next_chunk(session: Session) -> Session
     ensures { λ r. ⌜ r ≡ atByte session 0 ⌝ }
 {
     at_byte(session, 0)
@@ -87,7 +87,7 @@ fn has_room(laid: usize, room: usize) -> bool
     laid <= room - LINE_BYTES
 }
 
-// Whether another turn can be made: the run goes on, its piece ends after `at`, and the longest line has room.
+// Whether another turn can be made: the run goes on, its chunk ends after `at`, and the longest line has room.
 fn goes_on(on: bool, at: usize, end: usize, laid: usize, room: usize) -> bool
     ensures { λ r. ⌜ r ≡ goesOn on at end laid room ⌝ }
 {
@@ -99,29 +99,33 @@ fn goes_on(on: bool, at: usize, end: usize, laid: usize, room: usize) -> bool
     false
 }
 
-// The line of a stage is laid after the `laid` bytes that stand in `out`, and the piece goes on at `at`.
-fn print(
-    stage: Stage,
+// A line is answered after the `laid` bytes that stand in `out`, and the chunk goes on at `at`.
+fn answer(
+    run: Run,
+    line: &[u8],
     at: usize,
     laid: usize,
-    request: &[u8],
-    buffer: &[u8],
+    request: &mut [u8],
+    reply: &mut [u8],
+    buffer: &mut [u8],
     out: &mut [u8],
 ) -> Session
     requires { ⌜ laid ≤ length (now out) ⌝ }
-    ensures { λ r. ⌜ (r ≡ printOf stage at laid (now (request .entry)) (now (buffer .entry)) (length (now (out .entry)))) × (now (out .exit) ≡ printOut stage laid (now (request .entry)) (now (buffer .entry)) (now (out .entry))) ⌝ }
+    ensures { λ r. ⌜ (r ≡ spokenSession (answerOf run (now (line .entry)) (now (request .entry)) (now (reply .entry)) (now (buffer .entry))) at laid (length (now (out .entry)))) × (now (request .exit) ≡ requestAfter run (now (line .entry)) (now (request .entry))) × (now (reply .exit) ≡ replyAfter run (now (line .entry)) (now (reply .entry))) × (now (buffer .exit) ≡ bufferAfter run (now (line .entry)) (now (request .entry)) (now (reply .entry)) (now (buffer .entry))) × (now (out .exit) ≡ laidOut (answerOf run (now (line .entry)) (now (request .entry)) (now (reply .entry)) (now (buffer .entry))) laid (now (out .entry))) ⌝ }
 {
-    let run = stage.run;
-    match bench_lines::say(stage, request, buffer, &mut out[laid..]) {
+    let turned = dialogue::answer(run, line, request, reply, buffer, &mut out[laid..]);
+    let after = turned.run;
+    let said = turned.said;
+    match said {
         Said::Asked(n) => Session {
-            run,
+            run: after,
             have: 0,
             at,
             laid: laid + n,
             on: true,
         },
         Said::Last(n) => Session {
-            run,
+            run: after,
             have: 0,
             at,
             laid: laid + n,
@@ -130,10 +134,25 @@ fn print(
     }
 }
 
-// One turn: the bytes of a piece from where it goes on, up to the end of a line. A line that has no room in `held` is bad.
+// The last line of a run, after the `laid` bytes that stand in `out`: the input has ended with `left` bytes of a line, or a line is too long.
+fn close(run: Run, left: usize, at: usize, laid: usize, buffer: &[u8], out: &mut [u8]) -> Session
+    requires { ⌜ laid ≤ length (now out) ⌝ }
+    ensures { λ r. ⌜ (r ≡ spokenSession (closing run left (now (buffer .entry))) at laid (length (now (out .entry)))) × (now (out .exit) ≡ laidOut (closing run left (now (buffer .entry))) laid (now (out .entry))) ⌝ }
+{
+    let n = dialogue::close(run, left, buffer, &mut out[laid..]);
+    Session {
+        run,
+        have: 0,
+        at,
+        laid: laid + n,
+        on: false,
+    }
+}
+
+// One turn: the bytes of a chunk from where it goes on, up to the end of a line. A line that has no room in `held` is bad.
 fn turn(
     session: Session,
-    piece: &[u8],
+    chunk: &[u8],
     held: &mut [u8],
     request: &mut [u8],
     reply: &mut [u8],
@@ -141,68 +160,66 @@ fn turn(
     out: &mut [u8],
 ) -> Session
     requires { ⌜ session .laid ≤ length (now out) ⌝ }
-    ensures { λ r. ⌜ world r (now (held .exit)) (now (request .exit)) (now (reply .exit)) (now (buffer .exit)) (now (out .exit)) ≡ turnOf (now (piece .entry)) (world session (now (held .entry)) (now (request .entry)) (now (reply .entry)) (now (buffer .entry)) (now (out .entry))) ⌝ }
+    ensures { λ r. ⌜ desk r (now (held .exit)) (now (request .exit)) (now (reply .exit)) (now (buffer .exit)) (now (out .exit)) ≡ turnOf (now (chunk .entry)) (desk session (now (held .entry)) (now (request .entry)) (now (reply .entry)) (now (buffer .entry)) (now (out .entry))) ⌝ }
 {
     let run = session.run;
+    let at = session.at;
     let laid = session.laid;
-    match pieces::take(piece, session.at, held, session.have) {
-        Took::Line { len, next } => {
-            let stage = bench_stage::feed(run, bytes::front(held, len), request, reply, buffer);
-            print(stage, next, laid, request, buffer, out)
+    match lines::take(chunk, at, held, session.have) {
+        Took::Here { len, next } => {
+            let line = bytes::block(chunk, at, len);
+            answer(run, line, next, laid, request, reply, buffer, out)
+        }
+        Took::Held { len, next } => {
+            let line = bytes::front(held, len);
+            answer(run, line, next, laid, request, reply, buffer, out)
         }
         Took::More(have) => Session {
             run,
             have,
-            at: piece.len(),
+            at: chunk.len(),
             laid,
             on: true,
         },
-        Took::Long => print(
-            bench_stage::close(run, 1),
-            piece.len(),
-            laid,
-            request,
-            buffer,
-            out,
-        ),
+        Took::Long => close(run, 1, chunk.len(), laid, buffer, out),
     }
 }
 
 // Turn after turn over what is lent, of any sizes.
 fn turns(
     session: Session,
-    piece: &[u8],
+    chunk: &[u8],
     held: &mut [u8],
     request: &mut [u8],
     reply: &mut [u8],
     buffer: &mut [u8],
     out: &mut [u8],
 ) -> Session
-    ensures { λ r. ⌜ world r (now (held .exit)) (now (request .exit)) (now (reply .exit)) (now (buffer .exit)) (now (out .exit)) ≡ turnsOf (length (now (piece .entry))) (now (piece .entry)) (world session (now (held .entry)) (now (request .entry)) (now (reply .entry)) (now (buffer .entry)) (now (out .entry))) ⌝ }
+    ensures { λ r. ⌜ desk r (now (held .exit)) (now (request .exit)) (now (reply .exit)) (now (buffer .exit)) (now (out .exit)) ≡ turnsOf (length (now (chunk .entry))) (now (chunk .entry)) (desk session (now (held .entry)) (now (request .entry)) (now (reply .entry)) (now (buffer .entry)) (now (out .entry))) ⌝ }
 {
     let mut here = session;
-    while goes_on(here.on, here.at, piece.len(), here.laid, out.len()) {
-        here = turn(here, piece, held, request, reply, buffer, out);
+    while goes_on(here.on, here.at, chunk.len(), here.laid, out.len()) {
+        here = turn(here, chunk, held, request, reply, buffer, out);
     }
     here
 }
 
-// The lines of a piece from where it goes on, up to the end of the run, while the longest line has room in `out` after what is laid. What was laid before
+// The lines of a chunk from where it goes on, up to the end of the run, while the longest line has room in `out` after what is laid. What was laid before
 // is written.
 pub fn take(
     session: Session,
-    piece: &[u8],
+    chunk: &[u8],
     held: &mut [u8; HELD_BYTES],
     request: &mut [u8; REQUEST_BYTES],
     reply: &mut [u8; REPLY_BYTES],
     buffer: &mut [u8; BUFFER_BYTES],
     out: &mut [u8; OUT_BYTES],
 ) -> Session
-    ensures { λ r. ⌜ (world r (now (held .exit)) (now (request .exit)) (now (reply .exit)) (now (buffer .exit)) (now (out .exit)) ≡ takeOf (now (piece .entry)) (world session (now (held .entry)) (now (request .entry)) (now (reply .entry)) (now (buffer .entry)) (now (out .entry)))) × Sized (world session (now (held .entry)) (now (request .entry)) (now (reply .entry)) (now (buffer .entry)) (now (out .entry))) ⌝ }
+    ensures { λ r. ⌜ (desk r (now (held .exit)) (now (request .exit)) (now (reply .exit)) (now (buffer .exit)) (now (out .exit)) ≡ takeOf (now (chunk .entry)) (desk session (now (held .entry)) (now (request .entry)) (now (reply .entry)) (now (buffer .entry)) (now (out .entry)))) × Sized (desk session (now (held .entry)) (now (request .entry)) (now (reply .entry)) (now (buffer .entry)) (now (out .entry))) ⌝ }
 {
     turns(
         at_byte(session, session.at),
-        piece,
+        chunk,
         held,
         request,
         reply,
@@ -212,24 +229,12 @@ pub fn take(
 }
 
 // The input has ended.
-pub fn end(
-    session: Session,
-    request: &[u8; REQUEST_BYTES],
-    buffer: &[u8; BUFFER_BYTES],
-    out: &mut [u8; OUT_BYTES],
-) -> Session
-    ensures { λ r. ⌜ (r ≡ endSession session (now (request .entry)) (now (buffer .entry)) (length (now (out .entry)))) × (now (out .exit) ≡ endOut session (now (request .entry)) (now (buffer .entry)) (now (out .entry))) ⌝ }
+pub fn end(session: Session, buffer: &[u8; BUFFER_BYTES], out: &mut [u8; OUT_BYTES]) -> Session
+    ensures { λ r. ⌜ (r ≡ endSession session (now (buffer .entry)) (length (now (out .entry)))) × (now (out .exit) ≡ endOut session (now (buffer .entry)) (now (out .entry))) ⌝ }
 {
     let run = session.run;
     if session.on {
-        print(
-            bench_stage::close(run, session.have),
-            session.at,
-            0,
-            request,
-            buffer,
-            out,
-        )
+        close(run, session.have, session.at, 0, buffer, out)
     } else {
         at_byte(session, session.at)
     }

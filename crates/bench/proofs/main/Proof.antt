@@ -6,11 +6,11 @@ use Rattle.bench.proofs.main.Statement.{statement}
 use Rattle.bench.proofs.main.Tie as tie
 
 abbrev Inv-loop : tie.InvT-loop
-Inv-loop piece₀ held₀ request₀ reply₀ buffer₀ out₀ session₀ n₀ turns₀ piece held request reply buffer out session n turns =
+Inv-loop chunk₀ held₀ request₀ reply₀ buffer₀ out₀ session₀ n₀ turns₀ chunk held request reply buffer out session n turns =
     Unit {0}
 
 abbrev μ-loop : tie.MeasureT-loop
-μ-loop piece₀ held₀ request₀ reply₀ buffer₀ out₀ session₀ n₀ turns₀ piece held request reply buffer out session n turns = turns
+μ-loop chunk₀ held₀ request₀ reply₀ buffer₀ out₀ session₀ n₀ turns₀ chunk held request reply buffer out session n turns = turns
 
 large-buffer-requires : tie.Need-large-buffer-requires Inv-loop μ-loop
 large-buffer-requires c κs = tt
@@ -30,8 +30,8 @@ read-requires c κs = tt
 enum-known-k : tie.Need-enum-known-k Inv-loop μ-loop
 enum-known-k c = search needs
 
-next-piece-requires : tie.Need-next-piece-requires Inv-loop μ-loop
-next-piece-requires c κs = tt
+next-chunk-requires : tie.Need-next-chunk-requires Inv-loop μ-loop
+next-chunk-requires c κs = tt
 
 enum-told : tie.Need-enum-told Inv-loop μ-loop
 enum-told c = search needs
@@ -78,7 +78,7 @@ main-spec =
     take-requires
     read-requires
     enum-known-k
-    next-piece-requires
+    next-chunk-requires
     enum-told
     end-requires
     enum-told-2

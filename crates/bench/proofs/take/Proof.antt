@@ -1,4 +1,4 @@
--- `bench::take` meets its contract: the piece is the first n bytes of what was read.
+-- `bench::take` meets its contract: the chunk is the first n bytes of what was read.
 -- Assumes nothing.
 use mathlib.Core.Path.{_∙_}
 use borrow.Author.Needs.{needs}

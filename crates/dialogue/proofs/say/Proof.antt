@@ -2,7 +2,6 @@
 -- Assumes nothing.
 use borrow.Author.Needs.{needs}
 use Rattle.dialogue.specs.Dialogue.{bytesSaid, saidOf, turnedOf, sayOf}
-use Rattle.dialogue.specs.declared.Said.the-variants as said
 use Rattle.dialogue.proofs.say.Statement.{statement}
 use Rattle.dialogue.proofs.say.Tie as tie
 

@@ -1,7 +1,7 @@
 -- `dialogue::show` meets its contract: it is the line of what the call shows.
 -- Assumes nothing.
 use borrow.Author.Needs.{needs}
-use Rattle.dialogue.specs.Dialogue.{turnedOf, zeros, lineOf, showOf}
+use Rattle.dialogue.specs.Dialogue.{turnedOf, zeros, lineShown, showOf}
 use Rattle.dialogue.proofs.show.Statement.{statement}
 use Rattle.dialogue.proofs.show.Tie as tie
 
@@ -30,7 +30,7 @@ same-length : tie.Need-same-length
 same-length c = search needs
 
 returns : tie.Need-returns
-unfolding turnedOf showOf lineOf zeros
+unfolding turnedOf showOf lineShown zeros
 returns c =
     let e = c .before .before .before .before .before .before .before .before .before .next .ensures in
     let t = c .before .before .tell .ensures in

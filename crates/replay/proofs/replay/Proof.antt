@@ -5,10 +5,10 @@ use Rattle.replay.proofs.replay.Statement.{statement}
 use Rattle.replay.proofs.replay.Tie as tie
 
 abbrev Inv-loop : tie.InvT-loop
-Inv-loop first second put-piece₀ put₀ wanted-piece₀ wanted₀ request₀ reply₀ buffer₀ out₀ words₀ session₀ turns₀ put-piece put wanted-piece wanted request reply buffer out words session turns = Unit {0}
+Inv-loop first second put-chunk₀ put₀ wanted-chunk₀ wanted₀ request₀ reply₀ buffer₀ out₀ words₀ session₀ turns₀ put-chunk put wanted-chunk wanted request reply buffer out words session turns = Unit {0}
 
 abbrev μ-loop : tie.MeasureT-loop
-μ-loop first second put-piece₀ put₀ wanted-piece₀ wanted₀ request₀ reply₀ buffer₀ out₀ words₀ session₀ turns₀ put-piece put wanted-piece wanted request reply buffer out words session turns = turns
+μ-loop first second put-chunk₀ put₀ wanted-chunk₀ wanted₀ request₀ reply₀ buffer₀ out₀ words₀ session₀ turns₀ put-chunk put wanted-chunk wanted request reply buffer out words session turns = turns
 
 large-buffer-requires : tie.Need-large-buffer-requires Inv-loop μ-loop
 large-buffer-requires c κs = tt

@@ -5,13 +5,10 @@ use Rattle.replay.proofs.run_case.Statement.{statement}
 use Rattle.replay.proofs.run_case.Tie as tie
 
 abbrev Inv-loop : tie.InvT-loop
-Inv-loop put-piece₀ put₀ wanted-piece₀ wanted₀ request₀ reply₀ buffer₀ out₀ a₀ b₀ case₀ turns₀ put-piece put wanted-piece wanted request reply buffer out a b case turns = Unit {0}
+Inv-loop put-chunk₀ put₀ wanted-chunk₀ wanted₀ request₀ reply₀ buffer₀ out₀ a₀ b₀ case₀ turns₀ put-chunk put wanted-chunk wanted request reply buffer out a b case turns = Unit {0}
 
 abbrev μ-loop : tie.MeasureT-loop
-μ-loop put-piece₀ put₀ wanted-piece₀ wanted₀ request₀ reply₀ buffer₀ out₀ a₀ b₀ case₀ turns₀ put-piece put wanted-piece wanted request reply buffer out a b case turns = turns
-
-fresh-requires : tie.Need-fresh-requires Inv-loop μ-loop
-fresh-requires c κs = tt
+μ-loop put-chunk₀ put₀ wanted-chunk₀ wanted₀ request₀ reply₀ buffer₀ out₀ a₀ b₀ case₀ turns₀ put-chunk put wanted-chunk wanted request reply buffer out a b case turns = turns
 
 loop-holds : tie.Need-loop-holds Inv-loop μ-loop
 loop-holds c = tt
@@ -46,7 +43,6 @@ run-case-spec =
     (tie.spec
     Inv-loop
     μ-loop
-    fresh-requires
     loop-holds
     seek-requires
     seek-requires-2

@@ -1,4 +1,4 @@
--- `session::end` meets its contract: it prints the stage that the end of the input leads to, unless the run is over.
+-- `session::end` meets its contract: it lays the line that the end of the input leads to, unless the run is over.
 -- Assumes nothing.
 use borrow.Author.Needs.{needs}
 use Rattle.protocol.specs.Pick.{if_then_else_}
@@ -10,23 +10,16 @@ use Rattle.session.proofs.end.Tie as tie
 close-requires : tie.Need-close-requires
 close-requires c κs = search needs
 
-print-requires : tie.Need-print-requires
-print-requires c κs = search needs
-
 at-byte-requires : tie.Need-at-byte-requires
 at-byte-requires c κs = search needs
 
 returns : tie.Need-returns
 unfolding endSession endOut if_then_else_
-returns c =
-    let on = c .before .before .before .before .before .if1 .taken in
-    let e = c .print .ensures in
-    let s = c .before .before .before .before .close .ensures in
-    rw (on, ← s) e
+returns c = rw (c .before .before .before .if1 .taken) (c .close .ensures)
 
 returns-2 : tie.Need-returns-2
 unfolding endSession endOut
 returns-2 c = search cases
 
 pub end-spec : {M : Type 1} → statement M
-end-spec = tie.close (tie.spec close-requires print-requires at-byte-requires returns returns-2)
+end-spec = tie.close (tie.spec close-requires at-byte-requires returns returns-2)

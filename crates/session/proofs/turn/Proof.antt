@@ -2,8 +2,8 @@
 -- Assumes nothing.
 use mathlib.Core.Path.{refl}
 use borrow.Author.Needs.{needs}
-use Rattle.session.specs.Session.{world, moreOf}
-use Rattle.session.proofs.Laws.{took-line, took-more, took-long}
+use Rattle.session.specs.Session.{desk, moreOf}
+use Rattle.session.proofs.Laws.{took-here, took-held, took-more, took-long}
 use Rattle.session.proofs.turn.Statement.{statement}
 use Rattle.session.proofs.turn.Tie as tie
 
@@ -13,14 +13,20 @@ take-requires c κs = search needs
 enum-known-len : tie.Need-enum-known-len
 enum-known-len c = search needs
 
+block-requires : tie.Need-block-requires
+block-requires c κs = search needs
+
+answer-requires : tie.Need-answer-requires
+answer-requires c κs = search needs
+
+enum-known-len-2 : tie.Need-enum-known-len-2
+enum-known-len-2 c = search needs
+
 front-requires : tie.Need-front-requires
 front-requires c κs = search needs
 
-feed-requires : tie.Need-feed-requires
-feed-requires c κs = search needs
-
-print-requires : tie.Need-print-requires
-print-requires c κs = search needs
+answer-requires-2 : tie.Need-answer-requires-2
+answer-requires-2 c κs = search needs
 
 enum-known-have : tie.Need-enum-known-have
 enum-known-have c = search needs
@@ -30,9 +36,6 @@ enum-told c = search needs
 
 close-requires : tie.Need-close-requires
 close-requires c κs = search needs
-
-print-requires-2 : tie.Need-print-requires-2
-print-requires-2 c κs = search needs
 
 same-length : tie.Need-same-length
 same-length c = search needs
@@ -51,19 +54,11 @@ same-length-5 c = search needs
 
 returns : tie.Need-returns
 returns c =
-    let t = c .before .before .before .before .before .before .before .before .before .before .before .before .before .before .before .before .before .before .before .before .before .before .before .take .ensures in
-    let f = c .before .before .before .before .before .before .before .before .before .before .before .before .feed .ensures in
-    let p = c .before .before .print .ensures in
-    took-line _ (world _ _ _ _ _ _) _ _ (t .0) (t .1) _ _ _ _ _ _ _ _ _ (c .before .before .before .before .before .before .before .before .before .before .before .before .before .before .before .before .before .before .before .len .given .1) (c .before .before .before .before .before .before .before .before .before .before .before .before .before .before .before .before .front .ensures) (f .0) (f .1) (f .2) (f .3) (p .0) (p .1)
+    let t = c .before .before .before .before .before .before .before .before .before .before .before .before .before .before .before .before .before .before .before .take .ensures in
+    took-here _ (desk _ _ _ _ _ _) _ _ (t .0) (t .1) _ _ _ _ _ _ _ _ (c .before .before .before .before .before .before .before .before .before .before .before .before .before .before .before .len .given .1) (c .before .before .before .before .before .before .before .before .before .before .before .before .before .block .ensures) (c .before .before .before .before .before .before .before .before .answer .ensures)
 
 same-length-6 : tie.Need-same-length-6
 same-length-6 c = search needs
-
-returns-2 : tie.Need-returns-2
-unfolding moreOf
-returns-2 c =
-    let t = c .before .before .before .before .before .take .ensures in
-    took-more _ (world _ _ _ _ _ _) _ _ (t .0) (t .1) _ _ (c .before .have .given .1) refl
 
 same-length-7 : tie.Need-same-length-7
 same-length-7 c = search needs
@@ -77,11 +72,33 @@ same-length-9 c = search needs
 same-length-10 : tie.Need-same-length-10
 same-length-10 c = search needs
 
+returns-2 : tie.Need-returns-2
+returns-2 c =
+    let t = c .before .before .before .before .before .before .before .before .before .before .before .before .before .before .before .before .before .before .before .before .take .ensures in
+    took-held _ (desk _ _ _ _ _ _) _ _ (t .0) (t .1) _ _ _ _ _ _ _ _ (c .before .before .before .before .before .before .before .before .before .before .before .before .before .before .before .before .len2 .given .1) (c .before .before .before .before .before .before .before .before .before .before .before .before .before .front .ensures) (c .before .before .before .before .before .before .before .before .answer2 .ensures)
+
+same-length-11 : tie.Need-same-length-11
+same-length-11 c = search needs
+
 returns-3 : tie.Need-returns-3
+unfolding moreOf
 returns-3 c =
-    let t = c .before .before .before .before .before .before .before .before .before .before .before .take .ensures in
-    let p = c .before .before .print2 .ensures in
-    took-long _ (world _ _ _ _ _ _) _ _ (t .0) (t .1) _ _ _ (c .before .before .before .before .before .before .before .enum-told .given .1) (c .before .before .before .before .before .before .close .ensures) (p .0) (p .1)
+    let t = c .before .before .before .before .before .take .ensures in
+    took-more _ (desk _ _ _ _ _ _) _ _ (t .0) (t .1) _ _ (c .before .have .given .1) refl
+
+same-length-12 : tie.Need-same-length-12
+same-length-12 c = search needs
+
+same-length-13 : tie.Need-same-length-13
+same-length-13 c = search needs
+
+same-length-14 : tie.Need-same-length-14
+same-length-14 c = search needs
+
+returns-4 : tie.Need-returns-4
+returns-4 c =
+    let t = c .before .before .before .before .before .before .before .before .before .take .ensures in
+    took-long _ (desk _ _ _ _ _ _) _ _ (t .0) (t .1) _ _ (c .before .before .before .before .before .enum-told .given .1) (c .before .before .close .ensures)
 
 pub turn-spec : {M : Type 1} → statement M
 turn-spec =
@@ -89,13 +106,14 @@ turn-spec =
     (tie.spec
     take-requires
     enum-known-len
+    block-requires
+    answer-requires
+    enum-known-len-2
     front-requires
-    feed-requires
-    print-requires
+    answer-requires-2
     enum-known-have
     enum-told
     close-requires
-    print-requires-2
     same-length
     same-length-2
     same-length-3
@@ -103,9 +121,14 @@ turn-spec =
     same-length-5
     returns
     same-length-6
-    returns-2
     same-length-7
     same-length-8
     same-length-9
     same-length-10
-    returns-3)
+    returns-2
+    same-length-11
+    returns-3
+    same-length-12
+    same-length-13
+    same-length-14
+    returns-4)

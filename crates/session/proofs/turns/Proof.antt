@@ -5,14 +5,14 @@ use mathlib.Core.Path.{_≡_, refl, sym, ap, _∙_}
 use native.Mathlib.Omega.{arith}
 use lib.ListN.{length}
 use borrow.Author.Needs.{needs}
-use Rattle.session.specs.Session.{World, world, turnOf, turnsOf}
+use Rattle.session.specs.Session.{Desk, desk, turnOf, turnsOf}
 use Rattle.session.proofs.Laws.{turn-uses, goes-on-inside, Leads, leads-on, leads-end}
 use Rattle.session.proofs.turns.Statement.{statement}
 use Rattle.session.proofs.turns.Tie as tie
 
 abbrev Inv-loop : tie.InvT-loop
-Inv-loop piece held₀ request₀ reply₀ buffer₀ out₀ here₀ held request reply buffer out here =
-    Leads piece (world here held request reply buffer out) (turnsOf (length piece) piece (world here₀ held₀ request₀ reply₀ buffer₀ out₀))
+Inv-loop chunk held₀ request₀ reply₀ buffer₀ out₀ here₀ held request reply buffer out here =
+    Leads chunk (desk here held request reply buffer out) (turnsOf (length chunk) chunk (desk here₀ held₀ request₀ reply₀ buffer₀ out₀))
     × (length held ≡ length held₀)
     × (length request ≡ length request₀)
     × (length reply ≡ length reply₀)
@@ -20,12 +20,12 @@ Inv-loop piece held₀ request₀ reply₀ buffer₀ out₀ here₀ held request
     × (length out ≡ length out₀)
 
 abbrev μ-loop : tie.MeasureT-loop
-μ-loop piece held₀ request₀ reply₀ buffer₀ out₀ here₀ held request reply buffer out here = length piece - here .at
+μ-loop chunk held₀ request₀ reply₀ buffer₀ out₀ here₀ held request reply buffer out here = length chunk - here .at
 
 loop-holds : tie.Need-loop-holds Inv-loop μ-loop
 loop-holds c =
     let a = c .before .before .before .before .before .before .args in
-    (record { turns = length (a .piece .now); enough = omega arith; same = refl }, refl, refl, refl, refl, refl)
+    (record { turns = length (a .chunk .now); enough = omega arith; same = refl }, refl, refl, refl, refl, refl)
 
 goes-on-requires : tie.Need-goes-on-requires Inv-loop μ-loop
 goes-on-requires c κs = search needs
@@ -40,9 +40,9 @@ loop-less c =
     let a = c .before .before .before .before .before .before .before .before .before .before .before .before .before .before .before .before .before .before .before .before .before .before .before .before .before .args in
     let l = c .before .before .before .before .before .before .before .before .before .before .before .before .before .before .before .before .before .before .loop in
     let g = goes-on-inside _ _ _ _ _ (sym (c .before .before .before .before .before .before .before .before .before .before .before .before .before .before .before .before .before .goes-on .ensures) ∙ c .before .before .before .before .before .before .before .before .before .before .before .before .before .before .before .before .if1 .taken) in
-    let w = world (l .here) (l .held) (l .request) (l .reply) (l .buffer) (l .out) in
-    let e : c .before .before .before .before .before .before .before .before .before .before .turn .result .at ≡ turnOf (a .piece .now) w .session .at = ap (λ (v : World). v .session .at) (c .before .before .before .before .before .before .before .before .before .before .turn .ensures) in
-    omega (arith, g .1, turn-uses (a .piece .now) w (g .1), e)
+    let w = desk (l .here) (l .held) (l .request) (l .reply) (l .buffer) (l .out) in
+    let e : c .before .before .before .before .before .before .before .before .before .before .turn .result .at ≡ turnOf (a .chunk .now) w .session .at = ap (λ (v : Desk). v .session .at) (c .before .before .before .before .before .before .before .before .before .before .turn .ensures) in
+    omega (arith, g .1, turn-uses (a .chunk .now) w (g .1), e)
 
 loop-again : tie.Need-loop-again Inv-loop μ-loop
 loop-again c =

@@ -5,10 +5,10 @@ use Rattle.replay.proofs.reader.next.Statement.{statement}
 use Rattle.replay.proofs.reader.next.Tie as tie
 
 abbrev Inv-loop : tie.InvT-loop
-Inv-loop piece₀ held₀ now₀ turns₀ piece held now turns = Unit {0}
+Inv-loop chunk₀ held₀ now₀ turns₀ chunk held now turns = Unit {0}
 
 abbrev μ-loop : tie.MeasureT-loop
-μ-loop piece₀ held₀ now₀ turns₀ piece held now turns = turns
+μ-loop chunk₀ held₀ now₀ turns₀ chunk held now turns = turns
 
 part-requires : tie.Need-part-requires Inv-loop μ-loop
 part-requires c κs = tt

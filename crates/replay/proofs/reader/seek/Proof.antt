@@ -5,10 +5,10 @@ use Rattle.replay.proofs.reader.seek.Statement.{statement}
 use Rattle.replay.proofs.reader.seek.Tie as tie
 
 abbrev Inv-loop : tie.InvT-loop
-Inv-loop wanted piece₀ held₀ now₀ turns₀ piece held now turns = Unit {0}
+Inv-loop wanted chunk₀ held₀ now₀ turns₀ chunk held now turns = Unit {0}
 
 abbrev μ-loop : tie.MeasureT-loop
-μ-loop wanted piece₀ held₀ now₀ turns₀ piece held now turns = turns
+μ-loop wanted chunk₀ held₀ now₀ turns₀ chunk held now turns = turns
 
 next-requires : tie.Need-next-requires Inv-loop μ-loop
 next-requires c κs = tt
