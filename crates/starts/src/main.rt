@@ -1,12 +1,10 @@
 // Starts each call on each side of its limits, with nothing to move, and with a work buffer of 38 bytes, and says which answer it has at once, or that it waits. Of a call that waits the
 // first transfers follow: frames in square brackets and hexadecimal, as each is acknowledged, and the first read as command?count. Beside them, the figures of the charging voltage override, the settings of `Config::new`, the gauge's address and a wait.
 mod figures;
-mod reads;
+mod rows;
 mod say;
-mod writes;
 
 fn main() {
-    writes::all();
-    reads::all();
+    rows::all();
     figures::all();
 }
