@@ -3,30 +3,7 @@ use crate::say;
 use calls::call::Call;
 use calls::call::Reported;
 use calls::kind::Kind;
-use engine::bus::Outcome;
-use engine::bus::Transfer;
 use protocol::bytes;
-
-// Shows the transfer that is due, and says what becomes of it: a frame is acknowledged, a read times out, which ends a call that has no retries.
-fn show(call: Call, payload: &[u8], buffer: &[u8], work: &mut [u8]) -> Outcome {
-    let shown = call.next(payload, buffer, work);
-    let transfer = shown.transfer;
-    match transfer {
-        Transfer::Write(n) => {
-            say::frame(call.to_send(payload, work, n));
-            Outcome::Acknowledged
-        }
-        Transfer::Read(command, count) => {
-            say::read(command, count);
-            Outcome::Timeout
-        }
-        Transfer::Refused(_) => {
-            say::words(b" !");
-            Outcome::Timeout
-        }
-        Transfer::Ended(_) => Outcome::Timeout,
-    }
-}
 
 // The call that a report hands back.
 fn taken(reported: Reported) -> Call {
@@ -39,16 +16,20 @@ fn taken(reported: Reported) -> Call {
 // The call after its transfer; one that has ended stays as it is.
 fn step(call: Call, payload: &[u8], buffer: &mut [u8]) -> Call {
     let mut work = [0u8; 39];
-    let outcome = show(call, payload, buffer, &mut work);
+    let shown = call.next(payload, buffer, &mut work);
+    let transfer = shown.transfer;
+    let frame = call.to_send(payload, &work, say::length(transfer));
+    let outcome = say::transfer(transfer, frame);
     taken(call.report(outcome, b"", payload, buffer, &work))
 }
 
 // How a call stands, and its first transfers, of which three are frames at most.
 fn transfers(first: Call, payload: &[u8], buffer: &mut [u8]) {
+    let mut call = first;
     say::stand(first.phase());
-    let second = step(first, payload, buffer);
-    let third = step(second, payload, buffer);
-    step(third, payload, buffer);
+    for _ in 0..3u8 {
+        call = step(call, payload, buffer);
+    }
     say::words(b"\n");
 }
 

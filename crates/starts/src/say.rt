@@ -1,5 +1,7 @@
 // What is printed, and the settings that the rows share.
+use engine::bus::Outcome;
 use engine::bus::Phase;
+use engine::bus::Transfer;
 use libc::STDOUT_FILENO;
 use protocol::common::Config;
 
@@ -51,18 +53,35 @@ fn bytes(s: &[u8]) {
     }
 }
 
-// A frame.
-pub(crate) fn frame(sent: &[u8]) {
-    words(b" [");
-    bytes(sent);
-    words(b"]");
+// How many bytes a transfer sends: a read none.
+pub(crate) fn length(transfer: Transfer) -> usize {
+    match transfer {
+        Transfer::Write(n) => n,
+        _ => 0,
+    }
 }
 
-// A read: its command and the number of bytes asked.
-pub(crate) fn read(command: u8, count: usize) {
-    words(b" ");
-    byte(command);
-    number(b"?", count);
+// A transfer and the frame that it sends, and what becomes of it: a frame is acknowledged, a read times out, which ends a call that has no retries.
+pub(crate) fn transfer(transfer: Transfer, frame: &[u8]) -> Outcome {
+    match transfer {
+        Transfer::Write(_) => {
+            words(b" [");
+            bytes(frame);
+            words(b"]");
+            Outcome::Acknowledged
+        }
+        Transfer::Read(command, count) => {
+            words(b" ");
+            byte(command);
+            number(b"?", count);
+            Outcome::Timeout
+        }
+        Transfer::Refused(_) => {
+            words(b" !");
+            Outcome::Timeout
+        }
+        Transfer::Ended(_) => Outcome::Timeout,
+    }
 }
 
 // No retries, with and without PEC both ways.
