@@ -1,5 +1,6 @@
 // What is printed.
 use engine::bus::Phase;
+use engine::bus::Transfer;
 use libc::STDOUT_FILENO;
 use protocol::error::Answer;
 
@@ -26,14 +27,6 @@ pub(crate) fn write(frame: &[u8]) {
     bytes(frame);
 }
 
-// A read: its command and the number of bytes asked.
-pub(crate) fn read(command: u8, count: usize) {
-    words(b" ");
-    byte(command);
-    words(b"?");
-    io::print_decimal(STDOUT_FILENO, count as u64);
-}
-
 // A refused report.
 pub(crate) fn refusal(a: Answer) {
     words(b" (");
@@ -42,9 +35,32 @@ pub(crate) fn refusal(a: Answer) {
 }
 
 // An answer in place of a transfer: after a dash that of an ended call, after ! why the showing is refused.
-pub(crate) fn instead(sign: &[u8], a: Answer) {
+fn instead(sign: &[u8], a: Answer) {
     words(sign);
     io::print_decimal(STDOUT_FILENO, a.number() as u64);
+}
+
+// How many bytes a transfer sends: a read none.
+pub(crate) fn length(transfer: Transfer) -> usize {
+    match transfer {
+        Transfer::Write(n) => n,
+        _ => 0,
+    }
+}
+
+// A transfer: the frame that it sends, a read's command and the number of bytes asked, or an answer.
+pub(crate) fn transfer(transfer: Transfer, frame: &[u8]) {
+    match transfer {
+        Transfer::Write(_) => write(frame),
+        Transfer::Read(command, count) => {
+            words(b" ");
+            byte(command);
+            words(b"?");
+            io::print_decimal(STDOUT_FILENO, count as u64);
+        }
+        Transfer::Refused(a) => instead(b" !", a),
+        Transfer::Ended(a) => instead(b" -", a),
+    }
 }
 
 // How a call stands: its answer with the detail, or that it waits; and its waits.
@@ -60,4 +76,12 @@ pub(crate) fn end(phase: Phase, waits: u32) {
     }
     words(b" ");
     io::print_decimal(STDOUT_FILENO, waits as u64);
+}
+
+// The end of a line: of a call that reads its buffer.
+pub(crate) fn filled(reads: bool, buffer: &[u8]) {
+    if reads {
+        write(buffer);
+    }
+    words(b"\n");
 }

@@ -1,15 +1,26 @@
--- `drive::writes::all_of` meets its contract: the index stays below the length.
+-- `drive::run::row` meets its contract: the index stays below the length.
 -- Assumes nothing.
-use Prim.Native.Nat.{_-_, _≤_}
 use borrow.Author.Needs.{needs}
-use Rattle.drive.proofs.writes.all_of.Statement.{statement}
-use Rattle.drive.proofs.writes.all_of.Tie as tie
+use Prim.Native.Nat.{_-_, _≤_}
+use mathlib.Core.Path.{_≡_}
+use lib.ListN.{length}
+use Rattle.drive.proofs.run.row.Statement.{statement}
+use Rattle.drive.proofs.run.row.Tie as tie
 
 abbrev Inv-loop : tie.InvT-loop
-Inv-loop name call payload scripts i₀ i = i ≤ 64
+Inv-loop name kind payload n group scripts i₀ i-end i = (i ≤ i-end) × (i-end ≡ length scripts)
 
 abbrev μ-loop : tie.MeasureT-loop
-μ-loop name call payload scripts i₀ i = 64 - i
+μ-loop name kind payload n group scripts i₀ i-end i = i-end - i
+
+slice-aggregate-scripts : tie.Need-slice-aggregate-scripts Inv-loop μ-loop
+slice-aggregate-scripts c = search needs
+
+slice-aggregate-scripts-2 : tie.Need-slice-aggregate-scripts-2 Inv-loop μ-loop
+slice-aggregate-scripts-2 c = search needs
+
+scripts-requires : tie.Need-scripts-requires Inv-loop μ-loop
+scripts-requires c κs = search needs
 
 words-requires : tie.Need-words-requires Inv-loop μ-loop
 words-requires c κs = search needs
@@ -29,8 +40,8 @@ begins-requires c κs = search needs
 script-requires : tie.Need-script-requires Inv-loop μ-loop
 script-requires c κs = search needs
 
-run-requires : tie.Need-run-requires Inv-loop μ-loop
-run-requires c κs = search needs
+line-requires : tie.Need-line-requires Inv-loop μ-loop
+line-requires c κs = search needs
 
 add-i : tie.Need-add-i Inv-loop μ-loop
 add-i c = search needs
@@ -44,19 +55,22 @@ loop-again c = search needs
 returns : tie.Need-returns Inv-loop μ-loop
 returns c = search needs
 
-pub all-of-spec : {M : Type 1} → statement M
-all-of-spec =
+pub row-spec : {M : Type 1} → statement M
+row-spec =
     tie.close
     (tie.spec
     Inv-loop
     μ-loop
+    slice-aggregate-scripts
+    slice-aggregate-scripts-2
+    scripts-requires
     words-requires
     slice-aggregate-words
     words-requires-2
     loop-holds
     begins-requires
     script-requires
-    run-requires
+    line-requires
     add-i
     loop-less
     loop-again
