@@ -95,6 +95,15 @@ pub(crate) fn work(mark: u8) -> usize
     }
 }
 
+// The bytes that a payload of this length is of: two, 33, or a key's.
+pub(crate) fn source<'a>(n: usize, two: &'a [u8], key: &'a [u8], long: &'a [u8]) -> &'a [u8] {
+    match n {
+        2 => two,
+        33 => long,
+        _ => key,
+    }
+}
+
 // The payload that a mark lends: l another one.
 pub(crate) fn payload<'a>(mark: u8, payload: &'a [u8], other: &'a [u8]) -> &'a [u8] {
     if mark == b'l' { other } else { payload }

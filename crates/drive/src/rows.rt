@@ -1,18 +1,17 @@
-// The rows: a call of a kind, with its payload and the length of its buffer.
+// The rows: a call of a kind, with the lengths of its payload and its buffer.
 use crate::run::Group;
 use crate::run::row;
 use calls::kind::Kind;
 
 // Plain, register and buffer writes.
 fn plain_writes(group: Group) {
-    let two = b"\xAA\xBB";
-    row(b"write_with_retries", Kind::WriteWithRetries, two, 0, group);
-    row(b"write_register", Kind::WriteRegister(0x12), two, 0, group);
-    row(b"write_buffer", Kind::WriteBuffer(0x23), two, 0, group);
+    row(b"write_with_retries", Kind::WriteWithRetries, 2, 0, group);
+    row(b"write_register", Kind::WriteRegister(0x12), 2, 0, group);
+    row(b"write_buffer", Kind::WriteBuffer(0x23), 2, 0, group);
     row(
         b"write_register_unchecked",
         Kind::WriteRegisterUnchecked(0x12),
-        two,
+        2,
         0,
         group,
     );
@@ -20,58 +19,53 @@ fn plain_writes(group: Group) {
 
 // Keys and the override.
 fn key_writes(group: Group) {
-    let keys = [0xDDu8; 28];
     row(
         b"write_security_keys",
         Kind::WriteSecurityKeys,
-        &keys,
+        28,
         0,
         group,
     );
     row(
         b"write_authentication_key",
         Kind::WriteAuthenticationKey,
-        &keys[..16],
+        16,
         0,
         group,
     );
     row(
         b"write_charging_voltage_override",
         Kind::WriteChargingVoltageOverride,
-        &keys[..10],
+        10,
         0,
         group,
     );
 }
 
-// Access keys, under both names, and what needs them.
+// Access keys, under both names, manufacturer info and data flash.
 fn access_writes(group: Group) {
     let lower = 0x1234;
     let upper = 0x5678;
     row(
         b"send_access_key",
         Kind::SendAccessKey { lower, upper },
-        b"",
+        0,
         0,
         group,
     );
-    row(b"unseal_fg", Kind::UnsealFg { lower, upper }, b"", 0, group);
+    row(b"unseal_fg", Kind::UnsealFg { lower, upper }, 0, 0, group);
     row(
         b"write_mfg_info_c",
         Kind::WriteMfgInfoC { lower, upper },
-        b"\xAA\xBB",
+        2,
         0,
         group,
     );
-}
-
-// Manufacturer info and data flash.
-fn long_writes(group: Group) {
-    row(b"write_mfg_info", Kind::WriteMfgInfo, b"\xAA\xBB", 0, group);
+    row(b"write_mfg_info", Kind::WriteMfgInfo, 2, 0, group);
     row(
         b"write_dataflash",
         Kind::WriteDataflash(0x4000),
-        &[0xCCu8; 33],
+        33,
         0,
         group,
     );
@@ -86,75 +80,70 @@ fn writes(pec_write: bool) {
     plain_writes(group);
     key_writes(group);
     access_writes(group);
-    long_writes(group);
 }
 
-// Registers, buffers and commands.
+// Registers and buffers.
 fn plain_reads(group: Group) {
-    row(b"read_register", Kind::ReadRegister(0x12), b"", 2, group);
-    row(b"read_buffer", Kind::ReadBuffer(0x23), b"", 2, group);
+    row(b"read_register", Kind::ReadRegister(0x12), 0, 2, group);
+    row(b"read_buffer", Kind::ReadBuffer(0x23), 0, 2, group);
     row(
         b"read_register_unchecked",
         Kind::ReadRegisterUnchecked(0x12),
-        b"",
+        0,
         0,
         group,
     );
+}
+
+// Commands.
+fn command_reads(group: Group) {
     row(
         b"dispatch_command 443500, 2",
         Kind::DispatchCommand(0x443500),
-        b"",
+        0,
         2,
         group,
     );
     row(
         b"dispatch_command FF010203, 0",
         Kind::DispatchCommand(0xFF010203),
-        b"",
+        0,
         0,
         group,
     );
     row(
         b"dispatch_command 010203, 1",
         Kind::DispatchCommand(0x010203),
-        b"",
+        0,
         1,
         group,
     );
 }
 
-// Keys, the override, manufacturer info and data flash.
-fn long_reads(group: Group) {
-    row(
-        b"read_security_keys",
-        Kind::ReadSecurityKeys,
-        b"",
-        28,
-        group,
-    );
+// Keys and the override.
+fn key_reads(group: Group) {
+    row(b"read_security_keys", Kind::ReadSecurityKeys, 0, 28, group);
     row(
         b"read_authentication_key",
         Kind::ReadAuthenticationKey,
-        b"",
+        0,
         16,
         group,
     );
     row(
         b"read_charging_voltage_override",
         Kind::ReadChargingVoltageOverride,
-        b"",
+        0,
         10,
         group,
     );
-    row(b"read_mfg_info_c", Kind::ReadMfgInfoC, b"", 2, group);
-    row(b"read_mfg_info", Kind::ReadMfgInfo, b"", 2, group);
-    row(
-        b"read_dataflash",
-        Kind::ReadDataflash(0x5FDF),
-        b"",
-        33,
-        group,
-    );
+}
+
+// Manufacturer info and data flash.
+fn long_reads(group: Group) {
+    row(b"read_mfg_info_c", Kind::ReadMfgInfoC, 0, 2, group);
+    row(b"read_mfg_info", Kind::ReadMfgInfo, 0, 2, group);
+    row(b"read_dataflash", Kind::ReadDataflash(0x5FDF), 0, 33, group);
 }
 
 // The calls that read.
@@ -164,6 +153,8 @@ fn reads(pec_write: bool) {
         reads: true,
     };
     plain_reads(group);
+    command_reads(group);
+    key_reads(group);
     long_reads(group);
 }
 
@@ -174,7 +165,7 @@ pub(crate) fn all() {
     row(
         b"write_register, refused",
         Kind::WriteRegister(0x12),
-        &[0xCCu8; 33],
+        33,
         0,
         Group {
             pec_write: true,
@@ -186,7 +177,7 @@ pub(crate) fn all() {
     row(
         b"read_register, refused",
         Kind::ReadRegister(0x12),
-        b"",
+        0,
         33,
         Group {
             pec_write: false,

@@ -63,8 +63,10 @@ fn line(kind: Kind, payload: &[u8], n: usize, group: Group, script: &[u8]) {
     say::filled(group.reads, bytes::front(&room, n));
 }
 
-// A call by its name, through success, retries, each failure and the refusals of a step.
-pub(crate) fn row(name: &[u8], kind: Kind, payload: &[u8], n: usize, group: Group) {
+// A call by its name, with a payload and a buffer of so many bytes, through success, retries, each failure and the refusals of a step.
+pub(crate) fn row(name: &[u8], kind: Kind, payload: usize, buffer: usize, group: Group) {
+    let source = marks::source(payload, b"\xAA\xBB", &[0xDDu8; 28], &[0xCCu8; 33]);
+    let lent = bytes::front(source, payload);
     let scripts = marks::scripts(
         group.reads,
         b",aaasl,eataea,ef,tt,te,att,aef,rslba",
@@ -74,7 +76,7 @@ pub(crate) fn row(name: &[u8], kind: Kind, payload: &[u8], n: usize, group: Grou
     say::words(b"\n");
     for i in 0..scripts.len() {
         if marks::begins(scripts, i) {
-            line(kind, payload, n, group, marks::script(scripts, i));
+            line(kind, lent, buffer, group, marks::script(scripts, i));
         }
     }
 }

@@ -8,10 +8,25 @@ use Rattle.drive.proofs.run.row.Statement.{statement}
 use Rattle.drive.proofs.run.row.Tie as tie
 
 abbrev Inv-loop : tie.InvT-loop
-Inv-loop name kind payload n group scripts i₀ i-end i = (i ≤ i-end) × (i-end ≡ length scripts)
+Inv-loop name kind payload buffer group lent scripts i₀ i-end i = (i ≤ i-end) × (i-end ≡ length scripts)
 
 abbrev μ-loop : tie.MeasureT-loop
-μ-loop name kind payload n group scripts i₀ i-end i = i-end - i
+μ-loop name kind payload buffer group lent scripts i₀ i-end i = i-end - i
+
+slice-aggregate-source : tie.Need-slice-aggregate-source Inv-loop μ-loop
+slice-aggregate-source c = search needs
+
+slice-aggregate-source-2 : tie.Need-slice-aggregate-source-2 Inv-loop μ-loop
+slice-aggregate-source-2 c = search needs
+
+slice-aggregate-source-3 : tie.Need-slice-aggregate-source-3 Inv-loop μ-loop
+slice-aggregate-source-3 c = search needs
+
+source-requires : tie.Need-source-requires Inv-loop μ-loop
+source-requires c κs = search needs
+
+front-requires : tie.Need-front-requires Inv-loop μ-loop
+front-requires c κs = search needs
 
 slice-aggregate-scripts : tie.Need-slice-aggregate-scripts Inv-loop μ-loop
 slice-aggregate-scripts c = search needs
@@ -61,6 +76,11 @@ row-spec =
     (tie.spec
     Inv-loop
     μ-loop
+    slice-aggregate-source
+    slice-aggregate-source-2
+    slice-aggregate-source-3
+    source-requires
+    front-requires
     slice-aggregate-scripts
     slice-aggregate-scripts-2
     scripts-requires

@@ -1,9 +1,9 @@
 -- `drive::say::bytes` meets its contract: the index stays below the length.
 -- Assumes nothing.
+use borrow.Author.Needs.{needs}
 use Prim.Native.Nat.{_-_, _≤_}
 use mathlib.Core.Path.{_≡_}
 use lib.ListN.{length}
-use borrow.Author.Needs.{needs}
 use Rattle.drive.proofs.say.bytes.Statement.{statement}
 use Rattle.drive.proofs.say.bytes.Tie as tie
 
@@ -12,6 +12,12 @@ Inv-loop s i₀ i-end i = (i ≤ i-end) × (i-end ≡ length s)
 
 abbrev μ-loop : tie.MeasureT-loop
 μ-loop s i₀ i-end i = i-end - i
+
+slice-aggregate-words : tie.Need-slice-aggregate-words Inv-loop μ-loop
+slice-aggregate-words c = search needs
+
+words-requires : tie.Need-words-requires Inv-loop μ-loop
+words-requires c κs = search needs
 
 loop-holds : tie.Need-loop-holds Inv-loop μ-loop
 loop-holds c = search needs
@@ -40,6 +46,8 @@ bytes-spec =
     (tie.spec
     Inv-loop
     μ-loop
+    slice-aggregate-words
+    words-requires
     loop-holds
     shared-slice-read-byte
     byte-requires
