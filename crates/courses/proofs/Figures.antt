@@ -14,7 +14,6 @@ use Rattle.engine.specs.Pick.{case_waiting_ended_}
 use Rattle.engine.specs.Bus as bus
 use Rattle.engine.specs.declared.bus.Lent.{Lent}
 use Rattle.engine.specs.declared.bus.Phase.the-variants as phase
-use Rattle.engine.specs.declared.bus.Transfer.{Transfer}
 use Rattle.engine.specs.declared.bus.Transfer.the-variants as transfer
 use Rattle.writing.specs.Writing as writing
 use Rattle.reading.specs.Reading as reading

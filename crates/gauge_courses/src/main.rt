@@ -3,9 +3,11 @@
 // each setting has the runs, how they ended, at how many stops the block that is due was all old, at how many all new and at how many of these the
 // course has no 2, and how many flashes in the end had the payload over the old bytes and no other change. What a flash is compared with is laid
 // without the gauge. The file `stdout` comes from tests/gauge_courses.py, a program of its own that goes by document 01.
+use calls::call::Call;
+use calls::kind::Kind;
 use courses::course::End;
-use courses::write_run::WriteRun;
-use courses::write_run::Writer;
+use courses::run::Link;
+use courses::run::Run;
 use engine::budget;
 use fixture::course;
 use fixture::flash;
@@ -141,18 +143,37 @@ fn holds(flash: &[u8], old: &[u8], n: usize) -> bool {
     check::same(flash, &laid)
 }
 
+// A write of some bytes, over a course. It looks at no buffer.
+fn write(
+    config: Config,
+    address: u16,
+    payload: &[u8],
+    work: &mut [u8],
+    flash: &mut [u8],
+    course: &[u8],
+) -> Run {
+    let mut buffer = [0u8; 0];
+    let call = Call::start(
+        Kind::WriteDataflash(address),
+        config,
+        payload,
+        &buffer,
+        work,
+    );
+    let link = Link {
+        call,
+        gauge: Gauge::new(),
+    };
+    link.run(payload, &mut buffer, work, flash, course)
+}
+
 // A call with the bytes past the first `past`, over a heard course.
 fn send(config: Config, past: usize, flash: &mut [u8], work: &mut [u8]) {
     let payload = PAYLOAD;
     let heard = HEARD;
     let sent = bytes::least(past, payload.len());
     let rest = bytes::block(&payload, sent, payload.len());
-    let call = r5::write_dataflash(config, ADDRESS + sent as u16, rest, work);
-    let writer = Writer {
-        call,
-        gauge: Gauge::new(),
-    };
-    writer.run(rest, work, flash, &heard);
+    write(config, ADDRESS + sent as u16, rest, work, flash, &heard);
 }
 
 // The bytes that an answer says were acknowledged; none given means zero.
@@ -164,10 +185,21 @@ fn count_of(answer: Answer) -> usize {
     }
 }
 
-// The bytes of the blocks that were acknowledged before a run stopped: a cut call has counted them.
-fn acknowledged(end: End, sent: u32) -> usize {
+// How many transfers of a course have this byte.
+fn count(course: &[u8], byte: u8) -> u32 {
+    let mut n = 0u32;
+    for i in 0..course.len() {
+        if course[i] == byte {
+            n = budget::more(n);
+        }
+    }
+    n
+}
+
+// The bytes of the blocks that were acknowledged before a run stopped: where it was cut, one for each transfer that was heard.
+fn acknowledged(end: End, course: &[u8]) -> usize {
     match end {
-        End::Cut => bytes::least(sent as usize, 3) * 32,
+        End::Cut => bytes::least(count(course, 0) as usize, 3) * 32,
         End::Answered(answer) => count_of(answer),
     }
 }
@@ -180,35 +212,26 @@ fn has_stopped(end: End) -> bool {
     }
 }
 
-// Whether no transfer of a course is lost after the gauge acts.
-fn none_after(course: &[u8]) -> bool {
-    for i in 0..course.len() {
-        if course[i] == 2 {
-            return false;
-        }
-    }
-    true
-}
-
 // What stands at a stop where the block that is due goes.
-fn at_stop(end: End, sent: u32, course: &[u8], flash: &[u8], old: &[u8], counts: Counts) -> Counts {
+fn at_stop(end: End, course: &[u8], flash: &[u8], old: &[u8], counts: Counts) -> Counts {
     if has_stopped(end) {
-        let n = bytes::least(acknowledged(end, sent), 70);
+        let n = bytes::least(acknowledged(end, course), 70);
         let new = holds(flash, old, n + 32);
-        return counts.stopped(holds(flash, old, n), new, none_after(course));
+        return counts.stopped(holds(flash, old, n), new, count(course, 2) == 0);
     }
     counts
 }
 
 // A run that stopped is gone on with.
-fn go_on(config: Config, run: WriteRun, flash: &mut [u8], work: &mut [u8]) {
+fn go_on(config: Config, run: Run, flash: &mut [u8], work: &mut [u8]) {
     let payload = PAYLOAD;
+    let mut buffer = [0u8; 0];
     let heard = HEARD;
     let end = run.end;
-    let writer = run.writer;
+    let link = run.link;
     match end {
         End::Cut => {
-            writer.run(&payload, work, flash, &heard);
+            link.run(&payload, &mut buffer, work, flash, &heard);
         }
         End::Answered(answer) => {
             if answer.number() != 0 {
@@ -224,16 +247,9 @@ fn run(config: Config, course: &[u8], old: &[u8], clean: &[u8], counts: Counts) 
     let mut flash = [0u8; 8192];
     let mut work = [0u8; 39];
     bytes::copy_block(&mut flash, old, FLASH_BYTES);
-    let call = r5::write_dataflash(config, ADDRESS, &payload, &work);
-    let writer = Writer {
-        call,
-        gauge: Gauge::new(),
-    };
-    let run = writer.run(&payload, &mut work, &mut flash, course);
+    let run = write(config, ADDRESS, &payload, &mut work, &mut flash, course);
     let end = run.end;
-    let left = run.writer;
-    let stopped = left.call;
-    let counted = at_stop(end, stopped.sent, course, &flash, old, counts);
+    let counted = at_stop(end, course, &flash, old, counts);
     go_on(config, run, &mut flash, &mut work);
     let equal = check::same(&flash, clean);
     counted.ended(end).compared(equal)

@@ -1,8 +1,10 @@
 // The read over courses.
 use crate::seen::Seen;
+use calls::call::Call;
+use calls::kind::Kind;
 use courses::course::End;
-use courses::read_run::ReadRun;
-use courses::read_run::Reader;
+use courses::run::Link;
+use courses::run::Run;
 use fixture::course;
 use model_gauge::gauge::FLASH_BYTES;
 use model_gauge::gauge::Gauge;
@@ -20,7 +22,7 @@ const LENGTH: usize = 70;
 // As many transfers as a course has at the most, all heard.
 const HEARD: [u8; 7] = [0, 0, 0, 0, 0, 0, 0];
 
-// A call of this gauge, over a course.
+// A read from this gauge, over a course. It looks at no payload.
 fn read(
     config: Config,
     gauge: Gauge,
@@ -28,31 +30,25 @@ fn read(
     work: &mut [u8],
     flash: &mut [u8],
     course: &[u8],
-) -> ReadRun {
-    let call = r5::read_dataflash(config, ADDRESS, buffer, work);
-    let reader = Reader { call, gauge };
-    reader.run(buffer, work, flash, course)
+) -> Run {
+    let call = Call::start(Kind::ReadDataflash(ADDRESS), config, b"", buffer, work);
+    let link = Link { call, gauge };
+    link.run(b"", buffer, work, flash, course)
 }
 
 // A run that stopped is gone on with.
-fn go_on(
-    config: Config,
-    run: ReadRun,
-    buffer: &mut [u8],
-    work: &mut [u8],
-    flash: &mut [u8],
-) -> Reader {
+fn go_on(config: Config, run: Run, buffer: &mut [u8], work: &mut [u8], flash: &mut [u8]) -> Link {
     let heard = HEARD;
-    let reader = run.reader;
-    let gauge = reader.gauge;
+    let link = run.link;
+    let gauge = link.gauge;
     let end = run.end;
     match end {
-        End::Cut => reader.run(buffer, work, flash, &heard).reader,
+        End::Cut => link.run(b"", buffer, work, flash, &heard).link,
         End::Answered(answer) => {
             if answer.number() == 0 {
-                reader
+                link
             } else {
-                read(config, gauge, buffer, work, flash, &heard).reader
+                read(config, gauge, buffer, work, flash, &heard).link
             }
         }
     }
@@ -82,9 +78,9 @@ fn run(config: Config, course: &[u8], old: &[u8], seen: Seen) -> Seen {
         course,
     );
     let end = run.end;
-    let stopped = seen.stopped(end, run.reader, &buffer);
-    let reader = go_on(config, run, &mut buffer, &mut work, &mut flash);
-    stopped.over(reader, &buffer, is_whole(&buffer, &flash, old))
+    let stopped = seen.stopped(end, run.link, &buffer);
+    let link = go_on(config, run, &mut buffer, &mut work, &mut flash);
+    stopped.over(link, &buffer, is_whole(&buffer, &flash, old))
 }
 
 // Every course of one length.

@@ -1,6 +1,6 @@
 // How runs ended and what they left, and its line.
 use courses::course::End;
-use courses::read_run::Reader;
+use courses::run::Link;
 use engine::budget;
 use fixture::digest;
 use libc::STDOUT_FILENO;
@@ -63,10 +63,10 @@ impl Seen {
     }
 
     // One run more, which ended so and left this call, gauge and buffer.
-    pub(crate) fn stopped(self, end: End, reader: Reader, buffer: &[u8]) -> Seen {
-        let call = reader.call;
-        let tally = call.tally;
-        let gauge = reader.gauge;
+    pub(crate) fn stopped(self, end: End, link: Link, buffer: &[u8]) -> Seen {
+        let call = link.call;
+        let tally = call.tally();
+        let gauge = link.gauge;
         let mut seen = self.ended(end);
         let waited = digest::number(seen.stops, tally.waits as u64);
         let pointed = digest::number(waited, gauge.pointer as u64);
@@ -75,8 +75,8 @@ impl Seen {
     }
 
     // What a run left once it was gone on with; whether the buffer had the flash's bytes.
-    pub(crate) fn over(mut self, reader: Reader, buffer: &[u8], whole: bool) -> Seen {
-        let gauge = reader.gauge;
+    pub(crate) fn over(mut self, link: Link, buffer: &[u8], whole: bool) -> Seen {
+        let gauge = link.gauge;
         self.ends = digest::bytes(digest::number(self.ends, gauge.pointer as u64), buffer);
         if whole {
             self.whole = budget::more(self.whole);

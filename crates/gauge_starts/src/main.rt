@@ -1,18 +1,17 @@
 // Runs data-flash writes and reads against the model gauge over one course with losses: from starts that are not aligned to a block, that go from one page of 256 addresses to
 // the next, that end at the last address, and that the window refuses. A line has the answer and its detail, the waits, the gauge's pointer, and digests of the flash and of a
 // read's buffer. The file `stdout` comes from tests/gauge_starts.py, a program of its own that goes by document 01.
-mod reads;
+mod runs;
 mod say;
-mod writes;
 
 use fixture::flash;
 
 // Both calls from one start, without a PEC and with it.
 fn both(address: u16, length: usize, old: &[u8]) {
-    writes::row(address, length, false, old);
-    writes::row(address, length, true, old);
-    reads::row(address, length, false, old);
-    reads::row(address, length, true, old);
+    runs::write(address, length, false, old);
+    runs::write(address, length, true, old);
+    runs::read(address, length, false, old);
+    runs::read(address, length, true, old);
 }
 
 // At the first addresses, and with nothing to move.

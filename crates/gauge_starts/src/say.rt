@@ -1,5 +1,6 @@
 // What is printed, and the settings that the rows share.
 use courses::course::End;
+use courses::run::Run;
 use fixture::digest;
 use libc::STDOUT_FILENO;
 use protocol::common::Config;
@@ -48,17 +49,23 @@ fn answer(answer: Answer) {
 }
 
 // How a run ended.
-pub(crate) fn end(end: End) {
+fn end(end: End) {
     match end {
         End::Cut => words(b": cut"),
         End::Answered(given) => answer(given),
     }
 }
 
-// The waits, and where the gauge then reads.
-pub(crate) fn left(waits: u32, pointer: u16) {
-    number(b" waits ", waits as u64);
-    address(b" pointer ", pointer);
+// How a run ended, the waits, and where the gauge then reads.
+pub(crate) fn left(run: Run) {
+    let ended = run.end;
+    let link = run.link;
+    let call = link.call;
+    let tally = call.tally();
+    let gauge = link.gauge;
+    end(ended);
+    number(b" waits ", tally.waits as u64);
+    address(b" pointer ", gauge.pointer);
 }
 
 // A word and the digest of some bytes.

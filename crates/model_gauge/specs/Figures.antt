@@ -11,7 +11,7 @@ use Rattle.protocol.specs.Window.{inWindow}
 use Rattle.engine.specs.Made.{Made, write, read}
 use Rattle.engine.specs.declared.bus.Outcome.the-variants as outcome
 use Rattle.model_gauge.specs.Frame.{wholeOf, formOf, readFrame}
-use Rattle.model_gauge.specs.Gauge.{newGauge, blockAt, replyFront, replyOf, movedOf, repliesTo, Effect, taken, untaken, heardFrame, heardRead, acts, effectOf}
+use Rattle.model_gauge.specs.Gauge.{newGauge, blockAt, replyFront, replyOf, movedOf, repliesTo, taken, untaken, heardFrame, heardRead, acts, effectOf}
 use Rattle.model_gauge.specs.declared.frame.Form.the-variants as form
 use Rattle.model_gauge.specs.declared.gauge.Fate.the-variants as fate
 use Rattle.model_gauge.specs.declared.gauge.Gauge.{Gauge}

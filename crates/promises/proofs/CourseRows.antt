@@ -4,11 +4,9 @@ use Prim.Native.Nat.{ℕ}
 use mathlib.Core.Path.{_≡_, refl, sym, ap, subst, _∙_}
 use mathlib.Core.Bool.{true}
 use mathlib.Core.List.{List, [], _∷_}
-use lib.Dec.{eqb}
 use lib.ListN.{length}
 use borrow.Author.Tests.{eq-eqb}
 use Rattle.protocol.specs.Pick.{if_then_else_}
-use Rattle.engine.specs.declared.bus.Lent.{Lent}
 use Rattle.engine.specs.declared.bus.Outcome.{Outcome}
 use Rattle.engine.specs.declared.bus.Phase.the-variants as phase
 use Rattle.engine.specs.declared.bus.Transfer.{Transfer}
@@ -31,8 +29,7 @@ use Rattle.model_gauge.specs.declared.gauge.Fate.{Fate}
 use Rattle.courses.specs.Pick.{case_sending_to_none_, case_refused_admitted_}
 use Rattle.courses.specs.Course.{fatesOf, soundOf, admitOf, endOf}
 use Rattle.courses.specs.Figures.{LentAgain}
-use Rattle.courses.specs.Run.{World, Left, world, takenOf, heardIn, showing, stepOf, driveOf, endedOf, leftOf, runOf}
-use Rattle.courses.specs.declared.course.End.{End}
+use Rattle.courses.specs.Run.{World, world, takenOf, heardIn, showing, stepOf, driveOf, endedOf, leftOf, runOf}
 use Rattle.courses.specs.declared.run.Link.{Link}
 use Rattle.courses.proofs.Figures.{figures}
 use Rattle.writing.proofs.Shown.{write-work}

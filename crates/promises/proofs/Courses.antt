@@ -18,8 +18,6 @@ use Rattle.engine.specs.Bus as bus
 use Rattle.engine.specs.Made.{Made, write}
 use Rattle.engine.specs.declared.budget.Budget.{Budget}
 use Rattle.engine.specs.declared.budget.Tally.{Tally}
-use Rattle.engine.specs.declared.bus.Outcome.{Outcome}
-use Rattle.engine.specs.declared.bus.Outcome.the-variants as outcome
 use Rattle.engine.specs.declared.bus.Phase.{Phase}
 use Rattle.engine.specs.declared.bus.Phase.the-variants as phase
 use Rattle.engine.specs.declared.bus.Transfer.{Transfer}
@@ -28,15 +26,13 @@ use Rattle.writing.specs.Frames.{blockBytes}
 use Rattle.writing.specs.Writing as writing
 use Rattle.calls.specs.Call.{startWith, startOf, nextOf, workAfter, partOf, wroteOf, reportOf, bufferAfter, phaseOf, fitsOf}
 use Rattle.calls.specs.Kind.{planOf}
-use Rattle.calls.specs.declared.call.Call.the-variants as call
-use Rattle.calls.specs.declared.kind.Kind.the-variants as kind
-use Rattle.model_gauge.specs.Gauge.{Effect, taken, acts, stored, effectOf}
+use Rattle.model_gauge.specs.Gauge.{taken, acts, stored, effectOf}
 use Rattle.model_gauge.specs.declared.gauge.Fate.{Fate}
 use Rattle.model_gauge.specs.declared.gauge.Fate.the-variants as fate
 use Rattle.model_gauge.specs.declared.gauge.Gauge.{Gauge}
 use Rattle.courses.specs.Pick.{case_sending_to_none_}
 use Rattle.courses.specs.Course.{fateOf, fatesOf, soundOf, endOf}
-use Rattle.courses.specs.Run.{World, Left, world, left, takenOf, heardIn, stepOf, driveOf, endedOf, leftOf, runOf}
+use Rattle.courses.specs.Run.{World, Left, left, takenOf, heardIn, stepOf, driveOf, endedOf, leftOf, runOf}
 use Rattle.courses.specs.declared.course.End.{End}
 use Rattle.courses.proofs.Cases.{at-write}
 use Rattle.promises.specs.Flash.{placeOf, blockOf, Overlaid}

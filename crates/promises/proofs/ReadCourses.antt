@@ -7,9 +7,8 @@ use mathlib.Core.List.{List, [], _∷_, _++_}
 use native.Mathlib.Omega.{arith}
 use lib.Dec.{eqb}
 use lib.ListN.{length}
-use borrow.Author.Tests.{eq-eqb, eqb-true, eqb-false, le-leb}
+use borrow.Author.Tests.{eq-eqb, eqb-true, eqb-false}
 use Rattle.protocol.specs.Pick.{if_then_else_}
-use Rattle.protocol.specs.Bytes.{over}
 use Rattle.protocol.specs.declared.common.Config.{Config}
 use Rattle.protocol.specs.declared.error.Answer.{Answer}
 use Rattle.protocol.specs.declared.error.Answer.the-variants as answer
@@ -28,7 +27,7 @@ use Rattle.reading.specs.declared.call.ReadReported.the-variants as got
 use Rattle.calls.specs.Call.{startWith, startOf, nextOf, workAfter, partOf, gotOf, reportOf, bufferAfter, phaseOf, fitsOf}
 use Rattle.calls.specs.Kind.{planOf}
 use Rattle.calls.specs.declared.call.Call.the-variants as call
-use Rattle.model_gauge.specs.Gauge.{movedOf, acts, taken, effectOf}
+use Rattle.model_gauge.specs.Gauge.{movedOf, acts, taken}
 use Rattle.model_gauge.specs.declared.gauge.Fate.{Fate}
 use Rattle.model_gauge.specs.declared.gauge.Gauge.{Gauge}
 use Rattle.courses.specs.Pick.{case_sending_to_none_}
@@ -37,7 +36,7 @@ use Rattle.courses.specs.Run.{World, Left, left, takenOf, heardIn, stepOf, driv
 use Rattle.courses.specs.declared.course.End.{End}
 use Rattle.courses.proofs.Cases.{at-write, at-read}
 use Rattle.answers.specs.Runs.{callR}
-use Rattle.promises.specs.Events.{Event, after, flashAfter, ackedAfter, each}
+use Rattle.promises.specs.Events.{Event, each}
 use Rattle.promises.specs.Demand3.{endIn, Accepted}
 use Rattle.promises.specs.Courses.{eventsAt, left-over}
 use Rattle.promises.specs.Reads.{ReadWorld, readBegan, heard, readShows, readStep, readRun}
@@ -46,7 +45,7 @@ use Rattle.promises.proofs.Window.{within}
 use Rattle.promises.proofs.Courses.{eventIn, eventsIn, events-at, effect-in, same-after, drive-both, fates-both, sound-both}
 use Rattle.promises.proofs.CourseRows.{is-admitted}
 use Rattle.promises.proofs.Frames.{address-acts, address-points, address-stores}
-use Rattle.promises.proofs.ReadSteps.{ask-small, read-acts, readWorld, headOf, shows-head, lays-head, head-long, made-head, shows-read, lays-none, countAt, broughtAt, made-read, heard-same, made-over}
+use Rattle.promises.proofs.ReadSteps.{ask-small, read-acts, readWorld, headOf, shows-head, lays-head, made-head, shows-read, lays-none, countAt, broughtAt, made-read, made-over}
 use Rattle.promises.proofs.Reading.{Kept, Reading, buffer-long, reading-step}
 use Rattle.promises.proofs.ReadStopped.{start, read-empty, reading, stopped}
 

@@ -8,7 +8,7 @@ use native.Mathlib.Omega.{arith}
 use lib.Dec.{eqb, leb}
 use lib.ListN.{length, take, drop, length-take, length-drop}
 use lib.Seq.{length-take-le}
-use borrow.Author.Tests.{le-leb, leb-true, leb-false}
+use borrow.Author.Tests.{leb-true, leb-false}
 use Rattle.smbus_pec.specs.Pec.{pecOf}
 use Rattle.protocol.specs.Pick.{if_then_else_}
 use Rattle.protocol.specs.Bytes.{over, storedAt, blocksOf}

@@ -1,7 +1,7 @@
 -- `courses::run::Link::send` meets its contract: the call hears what the gauge made of the part that it handed out.
 -- Assumes nothing.
 use Prim.Native.Nat.{_-_}
-use mathlib.Core.Path.{refl, sym}
+use mathlib.Core.Path.{sym}
 use borrow.Author.Needs.{needs}
 use Rattle.model_gauge.proofs.Laws.{write-brings}
 use Rattle.courses.proofs.Steps.{hears}
