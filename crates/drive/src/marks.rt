@@ -1,7 +1,5 @@
 // What a mark of a script stands for: what is lent, and what is reported. Marks that are not named are acknowledged, with what was asked for.
-use calls::kind::Kind;
 use engine::bus::Outcome;
-use engine::bus::Transfer;
 use protocol::bytes;
 use protocol::common::Config;
 ghost use Prim.Native.Nat.{_≤_};
@@ -26,7 +24,7 @@ pub(crate) fn outcome(mark: u8) -> Outcome {
 }
 
 // How many bytes of reply come where n were asked for: with r, b and f one more, with q one fewer (where none is asked for, one more).
-fn count(mark: u8, n: usize) -> usize {
+pub(crate) fn count(mark: u8, n: usize) -> usize {
     match mark {
         b'r' => bytes::least(n, 63) + 1,
         b'b' => bytes::least(n, 63) + 1,
@@ -43,44 +41,21 @@ fn count_up(reply: &mut [u8]) {
     }
 }
 
-// A reply of n bytes at the front of what is lent: its last byte is the PEC of 16, the command, 17 and what comes before it.
-fn fill(reply: &mut [u8], n: usize, command: u8) {
+// The command that a reply's PEC is worked out with: that of the read, but 44 where a command is read by 01; for p another one.
+fn covered(mark: u8, command: u8) -> u8 {
+    let by = if command == 0x01 { 0x44 } else { command };
+    if mark == b'p' { by ^ 1 } else { by }
+}
+
+// A reply of n bytes at the front of what is lent: its last byte is the PEC of 16, the command that it covers, 17 and what comes before it.
+pub(crate) fn fill(reply: &mut [u8], mark: u8, n: usize, command: u8) {
+    let opening = [0x16, covered(mark, command), 0x17];
     count_up(reply);
-    if n == 0 {
-        return;
-    }
-    if reply.len() < n {
-        return;
-    }
-    let opening = [0x16, command, 0x17];
-    let check = smbus_pec::pec(smbus_pec::pec(0, &opening), bytes::front(reply, n - 1));
-    reply[n - 1] = check;
-}
-
-// The command that a reply's PEC is worked out with: for p another one than the PEC covers.
-fn worked(mark: u8, covered: u8) -> u8 {
-    if mark == b'p' { covered ^ 1 } else { covered }
-}
-
-// The reply to a transfer, laid at the front of what is lent, and its length. Its PEC covers this command.
-pub(crate) fn reply(mark: u8, transfer: Transfer, covered: u8, reply: &mut [u8]) -> usize {
-    match transfer {
-        Transfer::Read(_, n) => {
-            fill(reply, n, worked(mark, covered));
-            count(mark, n)
+    if n != 0 {
+        if n <= reply.len() {
+            let check = smbus_pec::pec(smbus_pec::pec(0, &opening), bytes::front(reply, n - 1));
+            reply[n - 1] = check;
         }
-        _ => count(mark, 0),
-    }
-}
-
-// The command that the PEC of a kind's replies covers.
-pub(crate) fn covered(kind: Kind) -> u8 {
-    match kind {
-        Kind::ReadRegister(address) => address,
-        Kind::ReadBuffer(address) => address,
-        Kind::ReadRegisterUnchecked(address) => address,
-        Kind::ReadMfgInfo => 0x70,
-        _ => 0x44,
     }
 }
 
@@ -95,18 +70,9 @@ pub(crate) fn work(mark: u8) -> usize
     }
 }
 
-// The bytes that a payload of this length is of: two, 33, or a key's.
-pub(crate) fn source<'a>(n: usize, two: &'a [u8], key: &'a [u8], long: &'a [u8]) -> &'a [u8] {
-    match n {
-        2 => two,
-        33 => long,
-        _ => key,
-    }
-}
-
-// The payload that a mark lends: l another one.
-pub(crate) fn payload<'a>(mark: u8, payload: &'a [u8], other: &'a [u8]) -> &'a [u8] {
-    if mark == b'l' { other } else { payload }
+// One of two, as a test says.
+pub(crate) fn pick<'a>(test: bool, yes: &'a [u8], no: &'a [u8]) -> &'a [u8] {
+    if test { yes } else { no }
 }
 
 // The length of the buffer that a mark lends: with l another one than that of the start.
@@ -114,11 +80,6 @@ pub(crate) fn buffer(mark: u8, n: usize) -> usize
     ensures { λ r. ⌜ r ≤ 64 ⌝ }
 {
     if mark == b'l' { 3 } else { bytes::least(n, 64) }
-}
-
-// The scripts of a group.
-pub(crate) fn scripts<'a>(reads: bool, of_writes: &'a [u8], of_reads: &'a [u8]) -> &'a [u8] {
-    if reads { of_reads } else { of_writes }
 }
 
 // Whether a script begins here: at the front, and after each comma.

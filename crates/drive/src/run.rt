@@ -4,6 +4,7 @@ use crate::say;
 use calls::call::Call;
 use calls::call::Reported;
 use calls::kind::Kind;
+use engine::bus::Transfer;
 use protocol::bytes;
 
 // What the calls of a group have in common: PEC either on writes or on reads, and whether they read, and so have scripts of their own and a buffer to show.
@@ -23,10 +24,21 @@ fn taken(reported: Reported) -> Call {
     }
 }
 
+// The reply to a transfer, at the front of what is lent, and its length.
+fn reply(mark: u8, transfer: Transfer, reply: &mut [u8]) -> usize {
+    match transfer {
+        Transfer::Read(command, n) => {
+            marks::fill(reply, mark, n, command);
+            marks::count(mark, n)
+        }
+        _ => marks::count(mark, 0),
+    }
+}
+
 // One transfer and its outcome.
-fn step(call: Call, mark: u8, covered: u8, payload: &[u8], buffer: &mut [u8]) -> Call {
+fn step(call: Call, mark: u8, payload: &[u8], buffer: &mut [u8]) -> Call {
     let mut work = [0u8; 39];
-    let mut reply = [0u8; 64];
+    let mut room = [0u8; 64];
     let length = marks::work(mark);
     let shown = call.next(payload, buffer, &mut work[..length]);
     let built = bytes::front(&work, length);
@@ -35,8 +47,8 @@ fn step(call: Call, mark: u8, covered: u8, payload: &[u8], buffer: &mut [u8]) ->
         transfer,
         call.to_send(payload, built, say::length(transfer)),
     );
-    let n = marks::reply(mark, transfer, covered, &mut reply);
-    let came = bytes::front(&reply, n);
+    let n = reply(mark, transfer, &mut room);
+    let came = bytes::front(&room, n);
     taken(call.report(marks::outcome(mark), came, payload, buffer, built))
 }
 
@@ -50,13 +62,12 @@ fn line(kind: Kind, payload: &[u8], n: usize, group: Group, script: &[u8]) {
         bytes::front(&room, n),
         &[0u8; 39],
     );
-    let covered = marks::covered(kind);
     say::words(script);
     for i in 0..script.len() {
         let mark = script[i];
         let size = marks::buffer(mark, n);
-        let lent = marks::payload(mark, payload, b"!!!");
-        call = step(call, mark, covered, lent, &mut room[..size]);
+        let lent = marks::pick(mark == b'l', b"!!!", payload);
+        call = step(call, mark, lent, &mut room[..size]);
     }
     let tally = call.tally();
     say::end(call.phase(), tally.waits);
@@ -65,12 +76,13 @@ fn line(kind: Kind, payload: &[u8], n: usize, group: Group, script: &[u8]) {
 
 // A call by its name, with a payload and a buffer of so many bytes, through success, retries, each failure and the refusals of a step.
 pub(crate) fn row(name: &[u8], kind: Kind, payload: usize, buffer: usize, group: Group) {
-    let source = marks::source(payload, b"\xAA\xBB", &[0xDDu8; 28], &[0xCCu8; 33]);
-    let lent = bytes::front(source, payload);
-    let scripts = marks::scripts(
+    let two = b"\xAA\xBB";
+    let rest = marks::pick(payload == 33, &[0xCCu8; 33], &[0xDDu8; 28]);
+    let lent = bytes::front(marks::pick(payload == 2, two, rest), payload);
+    let scripts = marks::pick(
         group.reads,
-        b",aaasl,eataea,ef,tt,te,att,aef,rslba",
         b",aaasl,aeaaaa,ef,tt,te,tat,aapat,tpp,qrslba,aqrba",
+        b",aaasl,eataea,ef,tt,te,att,aef,rslba",
     );
     say::words(name);
     say::words(b"\n");

@@ -41,8 +41,7 @@ pub(crate) fn transfer(transfer: Transfer, frame: &[u8]) {
     match transfer {
         Transfer::Write(_) => bytes(frame),
         Transfer::Read(command, count) => {
-            words(b" ");
-            byte(command);
+            bytes(&[command]);
             number(b"?", count as u64);
         }
         Transfer::Refused(a) => number(b" !", a.number() as u64),

@@ -10,10 +10,10 @@ use Rattle.drive.proofs.run.line.Statement.{statement}
 use Rattle.drive.proofs.run.line.Tie as tie
 
 abbrev Inv-loop : tie.InvT-loop
-Inv-loop payload n group script room₀ call₀ covered i₀ t15 i-end room call i = (i ≤ i-end) × ((i-end ≡ length script) × (length room ≡ 64))
+Inv-loop payload n group script room₀ call₀ i₀ t14 i-end room call i = (i ≤ i-end) × ((i-end ≡ length script) × (length room ≡ 64))
 
 abbrev μ-loop : tie.MeasureT-loop
-μ-loop payload n group script room₀ call₀ covered i₀ t15 i-end room call i = i-end - i
+μ-loop payload n group script room₀ call₀ i₀ t14 i-end room call i = i-end - i
 
 settings-requires : tie.Need-settings-requires Inv-loop μ-loop
 settings-requires c κs = search needs
@@ -30,9 +30,6 @@ slice-aggregate-start c = search needs
 start-requires : tie.Need-start-requires Inv-loop μ-loop
 start-requires c κs = search needs
 
-covered-requires : tie.Need-covered-requires Inv-loop μ-loop
-covered-requires c κs = search needs
-
 words-requires : tie.Need-words-requires Inv-loop μ-loop
 words-requires c κs = search needs
 
@@ -45,11 +42,11 @@ shared-slice-read-mark c = search needs
 buffer-requires : tie.Need-buffer-requires Inv-loop μ-loop
 buffer-requires c κs = search needs
 
-slice-aggregate-payload : tie.Need-slice-aggregate-payload Inv-loop μ-loop
-slice-aggregate-payload c = search needs
+slice-aggregate-pick : tie.Need-slice-aggregate-pick Inv-loop μ-loop
+slice-aggregate-pick c = search needs
 
-payload-requires : tie.Need-payload-requires Inv-loop μ-loop
-payload-requires c κs = search needs
+pick-requires : tie.Need-pick-requires Inv-loop μ-loop
+pick-requires c κs = search needs
 
 array-borrow-prefix-room : tie.Need-array-borrow-prefix-room Inv-loop μ-loop
 array-borrow-prefix-room c = search needs
@@ -61,13 +58,13 @@ step-requires : tie.Need-step-requires Inv-loop μ-loop
 step-requires c κs = search needs
 
 add-i : tie.Need-add-i Inv-loop μ-loop
-add-i c = omega (arith, c .before .before .before .before .before .before .before .loop-test .taken, c .before .before .before .before .before .before .before .before .loop .inv .1 .0, c .before .before .before .before .before .before .before .before .before .before .before .before .before .before .before .before .before .before .good .1 .1 .1 .1 .0)
+add-i c = omega (arith, c .before .before .before .before .before .before .before .loop-test .taken, c .before .before .before .before .before .before .before .before .loop .inv .1 .0, c .before .before .before .before .before .before .before .before .before .before .before .before .before .before .before .before .before .good .1 .1 .1 .1 .0)
 
 loop-less : tie.Need-loop-less Inv-loop μ-loop
 loop-less c = search needs
 
 loop-again : tie.Need-loop-again Inv-loop μ-loop
-loop-again c = let kept = c .before .step .kept .1 .1 .1 .1 .0 in (omega (arith, c .before .before .before .before .before .before .before .loop-test .taken), (c .before .before .before .before .before .before .before .before .loop .inv .1 .0, rw length-front (c .before .before .before .before .before .before .before .before .loop .inv .1 .1)))
+loop-again c = let kept = c .before .step .kept .1 .1 .1 .0 in (omega (arith, c .before .before .before .before .before .before .before .loop-test .taken), (c .before .before .before .before .before .before .before .before .loop .inv .1 .0, rw length-front (c .before .before .before .before .before .before .before .before .loop .inv .1 .1)))
 
 tally-requires : tie.Need-tally-requires Inv-loop μ-loop
 tally-requires c κs = search needs
@@ -101,13 +98,12 @@ line-spec =
     front-requires
     slice-aggregate-start
     start-requires
-    covered-requires
     words-requires
     loop-holds
     shared-slice-read-mark
     buffer-requires
-    slice-aggregate-payload
-    payload-requires
+    slice-aggregate-pick
+    pick-requires
     array-borrow-prefix-room
     slice-aggregate-step
     step-requires

@@ -13,29 +13,29 @@ Inv-loop name kind payload buffer group lent scripts i₀ i-end i = (i ≤ i-end
 abbrev μ-loop : tie.MeasureT-loop
 μ-loop name kind payload buffer group lent scripts i₀ i-end i = i-end - i
 
-slice-aggregate-source : tie.Need-slice-aggregate-source Inv-loop μ-loop
-slice-aggregate-source c = search needs
+slice-aggregate-pick : tie.Need-slice-aggregate-pick Inv-loop μ-loop
+slice-aggregate-pick c = search needs
 
-slice-aggregate-source-2 : tie.Need-slice-aggregate-source-2 Inv-loop μ-loop
-slice-aggregate-source-2 c = search needs
+slice-aggregate-pick-2 : tie.Need-slice-aggregate-pick-2 Inv-loop μ-loop
+slice-aggregate-pick-2 c = search needs
 
-slice-aggregate-source-3 : tie.Need-slice-aggregate-source-3 Inv-loop μ-loop
-slice-aggregate-source-3 c = search needs
+pick-requires : tie.Need-pick-requires Inv-loop μ-loop
+pick-requires c κs = search needs
 
-source-requires : tie.Need-source-requires Inv-loop μ-loop
-source-requires c κs = search needs
+pick-requires-2 : tie.Need-pick-requires-2 Inv-loop μ-loop
+pick-requires-2 c κs = search needs
 
 front-requires : tie.Need-front-requires Inv-loop μ-loop
 front-requires c κs = search needs
 
-slice-aggregate-scripts : tie.Need-slice-aggregate-scripts Inv-loop μ-loop
-slice-aggregate-scripts c = search needs
+slice-aggregate-pick-3 : tie.Need-slice-aggregate-pick-3 Inv-loop μ-loop
+slice-aggregate-pick-3 c = search needs
 
-slice-aggregate-scripts-2 : tie.Need-slice-aggregate-scripts-2 Inv-loop μ-loop
-slice-aggregate-scripts-2 c = search needs
+slice-aggregate-pick-4 : tie.Need-slice-aggregate-pick-4 Inv-loop μ-loop
+slice-aggregate-pick-4 c = search needs
 
-scripts-requires : tie.Need-scripts-requires Inv-loop μ-loop
-scripts-requires c κs = search needs
+pick-requires-3 : tie.Need-pick-requires-3 Inv-loop μ-loop
+pick-requires-3 c κs = search needs
 
 words-requires : tie.Need-words-requires Inv-loop μ-loop
 words-requires c κs = search needs
@@ -76,14 +76,14 @@ row-spec =
     (tie.spec
     Inv-loop
     μ-loop
-    slice-aggregate-source
-    slice-aggregate-source-2
-    slice-aggregate-source-3
-    source-requires
+    slice-aggregate-pick
+    slice-aggregate-pick-2
+    pick-requires
+    pick-requires-2
     front-requires
-    slice-aggregate-scripts
-    slice-aggregate-scripts-2
-    scripts-requires
+    slice-aggregate-pick-3
+    slice-aggregate-pick-4
+    pick-requires-3
     words-requires
     slice-aggregate-words
     words-requires-2
