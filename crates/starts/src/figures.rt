@@ -21,7 +21,7 @@ fn figure(millivolts: i16) {
 }
 
 // The settings that a driver starts with, as the Rust's are printed by oracle/.
-fn settings() {
+pub(crate) fn settings() {
     let config = Config::new();
     say::number(b"Config::new : retries ", config.max_bus_retries as usize);
     say::number(b", pec_write ", config.pec_write as usize);
@@ -30,15 +30,15 @@ fn settings() {
 }
 
 // The gauge's address on the bus, and the milliseconds of a wait.
-fn bus() {
+pub(crate) fn bus() {
     say::words(b"bus : address ");
-    say::byte(BQ_ADDR);
+    say::bytes(&[BQ_ADDR]);
     say::number(b", wait ", DEFAULT_ERROR_BACKOFF_DELAY_MS as usize);
     say::words(b"\n");
 }
 
 // Ten bytes, their five figures, and the bytes of those.
-fn voltages() {
+pub(crate) fn voltages() {
     let v = ChargingVoltageOverride::from_bytes(b"\xFF\xFF\x00\x80\xFF\x7F\x00\x01\x01\x00");
     say::words(b"FFFF0080FF7F00010100 :");
     figure(v.low_temp_chrg_mv);
@@ -52,11 +52,4 @@ fn voltages() {
     say::words(b" ");
     say::words(&digits);
     say::words(b"\n");
-}
-
-// Everything.
-pub(crate) fn all() {
-    voltages();
-    settings();
-    bus();
 }

@@ -6,5 +6,7 @@ mod say;
 
 fn main() {
     rows::all();
-    figures::all();
+    figures::voltages();
+    figures::settings();
+    figures::bus();
 }

@@ -17,10 +17,12 @@ fn taken(reported: Reported) -> Call {
 fn step(call: Call, payload: &[u8], buffer: &mut [u8]) -> Call {
     let mut work = [0u8; 39];
     let shown = call.next(payload, buffer, &mut work);
+    let built = bytes::front(&work, 39);
     let transfer = shown.transfer;
-    let frame = call.to_send(payload, &work, say::length(transfer));
+    let frame = call.to_send(payload, built, say::length(transfer));
     let outcome = say::transfer(transfer, frame);
-    taken(call.report(outcome, b"", payload, buffer, &work))
+    let none = bytes::front(built, 0);
+    taken(call.report(outcome, none, payload, buffer, built))
 }
 
 // How a call stands, and its first transfers, of which three are frames at most.
@@ -143,7 +145,7 @@ fn commands() {
     command(0, 0, 39, true);
 }
 
-// The writes of registers, buffers and keys.
+// The writes of registers and buffers.
 fn writes() {
     plain(b"write_with_retries ", Kind::WriteWithRetries);
     limited(b"write_register ", Kind::WriteRegister(1), 32);
@@ -153,6 +155,10 @@ fn writes() {
         Kind::WriteRegisterUnchecked(1),
         32,
     );
+}
+
+// The writes of keys and the override.
+fn key_writes() {
     exact(b"write_security_keys ", Kind::WriteSecurityKeys, 27);
     exact(
         b"write_authentication_key ",
@@ -166,16 +172,15 @@ fn writes() {
     );
 }
 
-// What needs the access key, or is it, and manufacturer info.
-fn keyed() {
-    access(
-        b"send_access_key ",
-        Kind::SendAccessKey { lower: 1, upper: 2 },
-    );
-    access(b"unseal_fg ", Kind::UnsealFg { lower: 1, upper: 2 });
+// Access keys and manufacturer info.
+fn access_writes() {
+    let lower = 1;
+    let upper = 2;
+    access(b"send_access_key ", Kind::SendAccessKey { lower, upper });
+    access(b"unseal_fg ", Kind::UnsealFg { lower, upper });
     limited(
         b"write_mfg_info_c ",
-        Kind::WriteMfgInfoC { lower: 1, upper: 2 },
+        Kind::WriteMfgInfoC { lower, upper },
         32,
     );
     limited(b"write_mfg_info ", Kind::WriteMfgInfo, 32);
@@ -188,8 +193,8 @@ fn reads() {
     unlimited(b"read_register_unchecked ", Kind::ReadRegisterUnchecked(1));
 }
 
-// The reads by command.
-fn command_reads() {
+// The reads of keys, the override and manufacturer info.
+fn key_reads() {
     exact(b"read_security_keys ", Kind::ReadSecurityKeys, 27);
     exact(b"read_authentication_key ", Kind::ReadAuthenticationKey, 15);
     exact(
@@ -204,10 +209,11 @@ fn command_reads() {
 // Everything.
 pub(crate) fn all() {
     writes();
-    keyed();
+    key_writes();
+    access_writes();
     window(false);
     reads();
     commands();
-    command_reads();
+    key_reads();
     window(true);
 }
