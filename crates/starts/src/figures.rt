@@ -32,7 +32,7 @@ pub(crate) fn settings() {
 // The gauge's address on the bus, and the milliseconds of a wait.
 pub(crate) fn bus() {
     say::words(b"bus : address ");
-    say::bytes(&[BQ_ADDR]);
+    say::byte(BQ_ADDR);
     say::number(b", wait ", DEFAULT_ERROR_BACKOFF_DELAY_MS as usize);
     say::words(b"\n");
 }

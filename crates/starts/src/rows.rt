@@ -25,30 +25,24 @@ fn step(call: Call, payload: &[u8], buffer: &mut [u8]) -> Call {
     taken(call.report(outcome, none, payload, buffer, built))
 }
 
-// How a call stands, and its first transfers, of which three are frames at most.
-fn transfers(first: Call, payload: &[u8], buffer: &mut [u8]) {
-    let mut call = first;
-    say::stand(first.phase());
-    for _ in 0..3u8 {
-        call = step(call, payload, buffer);
-    }
-    say::words(b"\n");
-}
-
-// A call of a kind with a payload and a buffer of so many bytes; its title is said.
+// A call of a kind with a payload and a buffer of so many bytes, whose title is said: how it stands, and its first transfers, of which three are frames at most.
 fn start(kind: Kind, payload: usize, buffer: usize, work: usize, pec: bool) {
     let source = [0xDDu8; 40];
     let mut room = [0u8; 40];
     let lent = bytes::front(&source, payload);
-    let first = Call::start(
+    let n = bytes::least(buffer, 40);
+    let mut call = Call::start(
         kind,
         say::settings(pec),
         lent,
-        bytes::front(&source, buffer),
+        bytes::front(&source, n),
         bytes::front(&source, work),
     );
-    let n = bytes::least(buffer, 40);
-    transfers(first, lent, &mut room[..n]);
+    say::stand(call.phase());
+    for _ in 0..3u8 {
+        call = step(call, lent, &mut room[..n]);
+    }
+    say::words(b"\n");
 }
 
 // A call of a kind with n bytes lent, and a work buffer.

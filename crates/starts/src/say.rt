@@ -42,12 +42,12 @@ pub(crate) fn stand(phase: Phase) {
 }
 
 // A byte as two digits.
-fn byte(b: u8) {
+pub(crate) fn byte(b: u8) {
     io::print_hex(STDOUT_FILENO, b as u64, 2);
 }
 
 // Bytes as digits.
-pub(crate) fn bytes(s: &[u8]) {
+fn bytes(s: &[u8]) {
     for i in 0..s.len() {
         byte(s[i]);
     }
