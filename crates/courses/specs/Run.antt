@@ -49,8 +49,8 @@ heardIn p e w =
     (bufferAfter (w .link .call) (e .outcome) (e .reply) (w .buffer) (length (w .work))) (w .work) (e .flash)
 
 -- a transfer goes to the gauge
-abbrev pub makes : ℕ → Fate → Made → World → World
-makes p f made w = heardIn p (effectOf f made (w .link .gauge) (w .flash)) w
+abbrev pub transferred : ℕ → Fate → Made → World → World
+transferred p f made w = heardIn p (effectOf f made (w .link .gauge) (w .flash)) w
 
 -- what showing leaves in the work buffer
 abbrev pub showing : List ℕ → World → World
@@ -61,7 +61,7 @@ unfoldable pub stepOf : List ℕ → Fate → World → World
 stepOf payload f w =
     case nextOf (w .link .call) payload (length (w .buffer)) (length (w .work))
     sending partOf (w .link .call) payload (showing payload w .work)
-    to (λ made. makes (length payload) f made (showing payload w))
+    to (λ made. transferred (length payload) f made (showing payload w))
     none showing payload w
 
 -- a transfer for each byte of the course

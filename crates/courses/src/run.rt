@@ -15,7 +15,7 @@ ghost use lib.ListN.{length};
 ghost use Rattle.engine.specs.Made.{write, read};
 ghost use Rattle.calls.specs.Call.{partOf, reportOf, bufferAfter};
 ghost use Rattle.courses.specs.Course.{fatesOf};
-ghost use Rattle.courses.specs.Run.{world, left, takenOf, makes, stepOf, driveOf, endedOf, refusedOf, runOf};
+ghost use Rattle.courses.specs.Run.{world, left, takenOf, transferred, stepOf, driveOf, endedOf, refusedOf, runOf};
 
 // A call and the gauge on the other side of the bus.
 pub struct Link {
@@ -70,7 +70,7 @@ impl Link {
         work: &'a [u8],
         flash: &mut [u8],
     ) -> Link
-        ensures { λ r. ⌜ world r (now (buffer .exit)) (now (work .entry)) (now (flash .exit)) ≡ makes (length (now (payload .entry))) fate (write (partOf (self .call) (now (payload .entry)) (now (work .entry)) n)) (world self (now (buffer .entry)) (now (work .entry)) (now (flash .entry))) ⌝ }
+        ensures { λ r. ⌜ world r (now (buffer .exit)) (now (work .entry)) (now (flash .exit)) ≡ transferred (length (now (payload .entry))) fate (write (partOf (self .call) (now (payload .entry)) (now (work .entry)) n)) (world self (now (buffer .entry)) (now (work .entry)) (now (flash .entry))) ⌝ }
     {
         let call = self.call;
         let gauge = self.gauge;
@@ -90,7 +90,7 @@ impl Link {
         work: &[u8],
         flash: &[u8],
     ) -> Link
-        ensures { λ r. ⌜ world r (now (buffer .exit)) (now (work .entry)) (now (flash .entry)) ≡ makes (length (now (payload .entry))) fate (read command count) (world self (now (buffer .entry)) (now (work .entry)) (now (flash .entry))) ⌝ }
+        ensures { λ r. ⌜ world r (now (buffer .exit)) (now (work .entry)) (now (flash .entry)) ≡ transferred (length (now (payload .entry))) fate (read command count) (world self (now (buffer .entry)) (now (work .entry)) (now (flash .entry))) ⌝ }
     {
         let gauge = self.gauge;
         let mut reply = [0u8; 36];

@@ -65,16 +65,22 @@ replies-few command count t = by (eqb command 0x44) refl
     by true here = leb-true count 36 (rw here at t)
     by false here = absurd (false≢true (rw here at t))
 
--- what a frame stores, wherever the gauge points
-either-stores : (t : Bool) (a b c d : Effect) → a .flash ≡ c .flash → b .flash ≡ d .flash → (if t then a else b) .flash ≡ (if t then c else d) .flash
+-- what holds of both holds of whichever it is
+pub whichever : {A : Type 0} (P : A → Type 0) (t : Bool) (a b : A) → P a → P b → P (if t then a else b)
 unfolding if_then_else_
-either-stores true a b c d e f = e
-either-stores false a b c d e f = f
+whichever P true a b p q = p
+whichever P false a b p q = q
+
+-- what a frame stores, wherever the gauge points
+whichever-stores : (t : Bool) (a b c d : Effect) → a .flash ≡ c .flash → b .flash ≡ d .flash → (if t then a else b) .flash ≡ (if t then c else d) .flash
+unfolding if_then_else_
+whichever-stores true a b c d e f = e
+whichever-stores false a b c d e f = f
 
 form-stores : (f : Form) (frame : List ℕ) (gauge other : Gauge) (flash : List ℕ) → heardFrame f frame gauge flash .flash ≡ heardFrame f frame other flash .flash
 unfolding heardFrame
-form-stores (form.BlockWrite address count) frame gauge other flash = either-stores (inWindow address count) _ _ _ _ refl refl
-form-stores (form.Address address) frame gauge other flash = either-stores (inWindow address 1) _ _ _ _ refl refl
+form-stores (form.BlockWrite address count) frame gauge other flash = whichever-stores (inWindow address count) _ _ _ _ refl refl
+form-stores (form.Address address) frame gauge other flash = whichever-stores (inWindow address 1) _ _ _ _ refl refl
 form-stores form.Other frame gauge other flash = refl
 
 pub stores : (frame : List ℕ) (gauge : Gauge) (flash : List ℕ) → acts (write frame) gauge flash .flash ≡ stored frame flash
@@ -82,15 +88,10 @@ unfolding stored acts
 stores frame gauge flash = form-stores (readFrame frame) frame gauge newGauge flash
 
 -- a write brings nothing
-either-brings : (t : Bool) (a b : Effect) → a .reply ≡ [] → b .reply ≡ [] → (if t then a else b) .reply ≡ []
-unfolding if_then_else_
-either-brings true a b e f = e
-either-brings false a b e f = f
-
 form-brings : (f : Form) (frame : List ℕ) (gauge : Gauge) (flash : List ℕ) → heardFrame f frame gauge flash .reply ≡ []
 unfolding heardFrame
-form-brings (form.BlockWrite address count) frame gauge flash = either-brings (inWindow address count) _ _ refl refl
-form-brings (form.Address address) frame gauge flash = either-brings (inWindow address 1) _ _ refl refl
+form-brings (form.BlockWrite address count) frame gauge flash = whichever (λ (e : Effect). e .reply ≡ []) (inWindow address count) _ _ refl refl
+form-brings (form.Address address) frame gauge flash = whichever (λ (e : Effect). e .reply ≡ []) (inWindow address 1) _ _ refl refl
 form-brings form.Other frame gauge flash = refl
 
 pub write-brings : (f : Fate) (frame : List ℕ) (gauge : Gauge) (flash : List ℕ) → effectOf f (write frame) gauge flash .reply ≡ []
@@ -115,11 +116,8 @@ module _ (command count : ℕ) (gauge : Gauge) (flash : List ℕ) where
       rw (read-taken t, length-take-le count (replyOf gauge flash) few)
 
   pub read-stores : acts (read command count) gauge flash .flash ≡ flash
-  read-stores = by (repliesTo command count) refl
-    where
-      by : (t : Bool) → repliesTo command count ≡ t → acts (read command count) gauge flash .flash ≡ flash
-      by true t = rw (read-taken t)
-      by false t = rw (read-untaken t)
+  unfolding acts heardRead
+  read-stores = whichever (λ (e : Effect). e .flash ≡ flash) (repliesTo command count) _ _ refl refl
 
   -- it brings the reply's front or nothing
   acts-brings : (t : Bool) → repliesTo command count ≡ t

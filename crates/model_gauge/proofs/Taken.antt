@@ -22,6 +22,7 @@ use Rattle.model_gauge.specs.Forms.{counted}
 use Rattle.model_gauge.specs.Taken.{Taken, sent}
 use Rattle.model_gauge.specs.declared.frame.Form.the-variants as form
 use Rattle.model_gauge.specs.declared.gauge.Gauge.{Gauge}
+use Rattle.model_gauge.proofs.Laws.{stores}
 use Rattle.model_gauge.proofs.Forms.{forms}
 
 -- ---- the window in numbers
@@ -98,6 +99,7 @@ address-read pec low high at here = rw here (forms .address pec low high)
 
 -- what the gauge makes of a block write and of an address
 pub taken : Taken
+unfolding effectOf
 taken = record {
   block = λ pec low high at room bytes flash gauge here fits some few from to.
       block-in (counted pec low high bytes) at gauge flash bytes (block-read pec low high at bytes here some few) (inside at (length bytes) some from to) (data-back pec low high bytes)
@@ -108,4 +110,5 @@ taken = record {
       address-in (counted pec low high []) at gauge flash (address-read pec low high at here) (inside at 1 (omega arith) from (omega arith));
   address-outside = λ pec low high at flash gauge here off.
       address-out (counted pec low high []) at gauge flash (address-read pec low high at here) (outside at 1 (omega arith) (⊎-map (λ h. h) (λ h. omega arith) off));
+  wherever = λ frame flash gauge. stores frame gauge flash;
 }

@@ -7,7 +7,7 @@ use mathlib.Core.Logic.{_⊎_}
 use mathlib.Core.List.{List, [], _++_}
 use lib.ListN.{length, take, drop}
 use Rattle.engine.specs.Made.{write}
-use Rattle.model_gauge.specs.Gauge.{Effect, taken, untaken, effectOf}
+use Rattle.model_gauge.specs.Gauge.{Effect, taken, untaken, stored, effectOf}
 use Rattle.model_gauge.specs.Forms.{counted}
 use Rattle.model_gauge.specs.declared.gauge.Fate.the-variants as fate
 use Rattle.model_gauge.specs.declared.gauge.Gauge.{Gauge}
@@ -32,3 +32,5 @@ pub record Taken : Type 0 where
   -- one before the window or past it is a bus error with code 0, and leaves flash and gauge as they were
   pub address-outside : (pec : Bool) (low high at : ℕ) (flash : List ℕ) (gauge : Gauge) → at ≡ high * 256 + low → (at < 0x4000) ⊎ (0x6000 ≤ at)
       → sent (counted pec low high []) gauge flash ≡ untaken gauge flash
+  -- what any frame stores does not hang on where the gauge points
+  pub wherever : (frame flash : List ℕ) (gauge : Gauge) → sent frame gauge flash .flash ≡ stored frame flash

@@ -2,7 +2,7 @@
 -- Assumes nothing.
 use Prim.Native.Nat.{ℕ}
 use mathlib.Core.Path.{_≡_, refl, sym, ap, _∙_}
-use mathlib.Core.Bool.{Bool, true, false}
+use mathlib.Core.Bool.{true}
 use mathlib.Core.List.{List, [], _∷_}
 use lib.ListN.{length, take, drop}
 use Rattle.protocol.specs.Pick.{if_then_else_}
@@ -23,7 +23,7 @@ use Rattle.model_gauge.specs.declared.frame.Form.the-variants as form
 use Rattle.model_gauge.specs.declared.gauge.Fate.{Fate}
 use Rattle.model_gauge.specs.declared.gauge.Fate.the-variants as fate
 use Rattle.model_gauge.specs.declared.gauge.Gauge.{Gauge}
-use Rattle.model_gauge.proofs.Laws.{read-stores}
+use Rattle.model_gauge.proofs.Laws.{whichever, read-stores}
 use Rattle.courses.specs.Pick.{case_sending_to_none_}
 use Rattle.courses.specs.Course.{fateOf, fatesOf, soundOf, endOf}
 use Rattle.courses.specs.Figures.{LentAgain}
@@ -37,16 +37,11 @@ use Rattle.promises.proofs.CourseRows.{is-admitted}
 
 -- ---- a transfer keeps the flash's length
 
-either-kept : (t : Bool) (a b : Effect) (n : ℕ) → length (a .flash) ≡ n → length (b .flash) ≡ n → length ((if t then a else b) .flash) ≡ n
-unfolding if_then_else_
-either-kept true a b n p q = p
-either-kept false a b n p q = q
-
 form-kept : (f : Form) (frame : List ℕ) (gauge : Gauge) (flash : List ℕ) → length (heardFrame f frame gauge flash .flash) ≡ length flash
 unfolding heardFrame
 form-kept (form.BlockWrite address count) frame gauge flash =
-    either-kept (inWindow address count) _ _ (length flash) (stored-length (offsetOf address) count (take count (drop 4 frame)) flash) refl
-form-kept (form.Address address) frame gauge flash = either-kept (inWindow address 1) _ _ (length flash) refl refl
+    whichever (λ (e : Effect). length (e .flash) ≡ length flash) (inWindow address count) _ _ (stored-length (offsetOf address) count (take count (drop 4 frame)) flash) refl
+form-kept (form.Address address) frame gauge flash = whichever (λ (e : Effect). length (e .flash) ≡ length flash) (inWindow address 1) _ _ refl refl
 form-kept form.Other frame gauge flash = refl
 
 acts-kept : (made : Made) (gauge : Gauge) (flash : List ℕ) → length (acts made gauge flash .flash) ≡ length flash
