@@ -74,8 +74,8 @@ fn line(kind: Kind, payload: &[u8], n: usize, group: Group, script: &[u8]) {
     say::filled(group.reads, bytes::front(&room, n));
 }
 
-// A call by its name, with a payload and a buffer of so many bytes, through success, retries, each failure and the refusals of a step.
-pub(crate) fn row(name: &[u8], kind: Kind, payload: usize, buffer: usize, group: Group) {
+// A call, whose title is said, with a payload and a buffer of so many bytes, through success, retries, each failure and the refusals of a step.
+pub(crate) fn row(kind: Kind, payload: usize, buffer: usize, group: Group) {
     let two = b"\xAA\xBB";
     let rest = marks::pick(payload == 33, &[0xCCu8; 33], &[0xDDu8; 28]);
     let lent = bytes::front(marks::pick(payload == 2, two, rest), payload);
@@ -84,8 +84,6 @@ pub(crate) fn row(name: &[u8], kind: Kind, payload: usize, buffer: usize, group:
         b",aaasl,aeaaaa,ef,tt,te,tat,aapat,tpp,qrslba,aqrba",
         b",aaasl,eataea,ef,tt,te,att,aef,rslba",
     );
-    say::words(name);
-    say::words(b"\n");
     for i in 0..scripts.len() {
         if marks::begins(scripts, i) {
             line(kind, lent, buffer, group, marks::script(scripts, i));

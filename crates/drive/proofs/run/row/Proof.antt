@@ -8,10 +8,10 @@ use Rattle.drive.proofs.run.row.Statement.{statement}
 use Rattle.drive.proofs.run.row.Tie as tie
 
 abbrev Inv-loop : tie.InvT-loop
-Inv-loop name kind payload buffer group lent scripts i₀ i-end i = (i ≤ i-end) × (i-end ≡ length scripts)
+Inv-loop kind payload buffer group lent scripts i₀ i-end i = (i ≤ i-end) × (i-end ≡ length scripts)
 
 abbrev μ-loop : tie.MeasureT-loop
-μ-loop name kind payload buffer group lent scripts i₀ i-end i = i-end - i
+μ-loop kind payload buffer group lent scripts i₀ i-end i = i-end - i
 
 slice-aggregate-pick : tie.Need-slice-aggregate-pick Inv-loop μ-loop
 slice-aggregate-pick c = search needs
@@ -36,15 +36,6 @@ slice-aggregate-pick-4 c = search needs
 
 pick-requires-3 : tie.Need-pick-requires-3 Inv-loop μ-loop
 pick-requires-3 c κs = search needs
-
-words-requires : tie.Need-words-requires Inv-loop μ-loop
-words-requires c κs = search needs
-
-slice-aggregate-words : tie.Need-slice-aggregate-words Inv-loop μ-loop
-slice-aggregate-words c = search needs
-
-words-requires-2 : tie.Need-words-requires-2 Inv-loop μ-loop
-words-requires-2 c κs = search needs
 
 loop-holds : tie.Need-loop-holds Inv-loop μ-loop
 loop-holds c = search needs
@@ -84,9 +75,6 @@ row-spec =
     slice-aggregate-pick-3
     slice-aggregate-pick-4
     pick-requires-3
-    words-requires
-    slice-aggregate-words
-    words-requires-2
     loop-holds
     begins-requires
     script-requires
