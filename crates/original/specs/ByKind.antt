@@ -14,7 +14,7 @@ use Rattle.calls.specs.declared.kind.Kind.the-variants as kind
 use Rattle.calls.specs.declared.call.Call.{Call}
 use Rattle.calls.specs.declared.call.Reported.{Reported}
 use Rattle.calls.specs.declared.call.Reported.the-variants as reported
-use Rattle.original.specs.Bus.{BusOutcome, Made, Log, begun, Came, Waiting, Read, _leaving_}
+use Rattle.original.specs.Bus.{BusOutcome, Made, begun, Waiting, Read, _leaving_}
 use Rattle.original.specs.Fed.{told, Lending, reply, answered, shows_sending_transfer_answer_}
 use Rattle.original.specs.OriginalInterface as rust
 use Rattle.original.specs.OriginalR5 as rust-r5

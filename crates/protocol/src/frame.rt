@@ -8,7 +8,7 @@ use crate::consts::MFG_INFO_C_CMD;
 use crate::consts::MFG_INFO_CMD;
 use crate::consts::SECURITY_KEYS_CMD;
 ghost use mathlib.Core.Path.{_≡_};
-ghost use mathlib.Core.List.{List, [], _∷_, _++_};
+ghost use mathlib.Core.List.{_++_};
 ghost use Prim.Native.Nat.{_+_, _<_, _≤_};
 ghost use lib.ListN.{length, take, drop};
 ghost use lib.Dec.{ltb};

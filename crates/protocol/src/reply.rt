@@ -4,7 +4,6 @@ use crate::consts::BQ_ADDR;
 use crate::consts::MAC_CMD;
 ghost use mathlib.Core.Path.{_≡_};
 ghost use Prim.Native.Nat.{_+_, min};
-ghost use lib.ListN.{take, drop};
 ghost use Rattle.protocol.specs.Reply.{plainAsk, macAsk, leadOf, aroundOf, bytesAsked, checkedOf, heardOf, dataOf};
 
 // A read as it goes out, and how its reply is laid out.

@@ -18,7 +18,6 @@ use protocol::frame::MacCommand;
 use protocol::reply::Ask;
 use protocol::reply::Heard;
 ghost use mathlib.Core.Path.{_≡_};
-ghost use Prim.Native.Nat.{_*_};
 ghost use lib.ListN.{length, take};
 ghost use Rattle.reading.specs.Reading.{planOf, plainPlan, macPlan, startOf, dueAsk, shownHead, workHead, shownOf, workShown, nextOf, workAfter, headedOf, advanceOf, retryOf, endOf, failOf, heardHead, heardBlock, acknowledgedOf, weighOf, judgeOf, storedOf, reportOf, bufferAfter};
 
