@@ -43,11 +43,7 @@ fn access_writes(group: Group) {
 }
 
 // The calls that write.
-fn writes(pec_write: bool) {
-    let group = Group {
-        pec_write,
-        reads: false,
-    };
+fn writes(group: Group) {
     plain_writes(group);
     key_writes(group);
     access_writes(group);
@@ -94,11 +90,7 @@ fn long_reads(group: Group) {
 }
 
 // The calls that read.
-fn reads(pec_write: bool) {
-    let group = Group {
-        pec_write,
-        reads: true,
-    };
+fn reads(group: Group) {
     plain_reads(group);
     command_reads(group);
     key_reads(group);
@@ -107,28 +99,26 @@ fn reads(pec_write: bool) {
 
 // Everything, without PEC and with it, and of either group a call that is refused at its start.
 pub(crate) fn all() {
-    writes(false);
-    writes(true);
+    let sealed = Group {
+        pec_write: true,
+        reads: false,
+    };
+    let checked = Group {
+        pec_write: false,
+        reads: true,
+    };
+    writes(Group {
+        pec_write: false,
+        reads: false,
+    });
+    writes(sealed);
     say::words(b"write_register, refused\n");
-    row(
-        Kind::WriteRegister(0x12),
-        33,
-        0,
-        Group {
-            pec_write: true,
-            reads: false,
-        },
-    );
-    reads(true);
-    reads(false);
+    row(Kind::WriteRegister(0x12), 33, 0, sealed);
+    reads(Group {
+        pec_write: true,
+        reads: true,
+    });
+    reads(checked);
     say::words(b"read_register, refused\n");
-    row(
-        Kind::ReadRegister(0x12),
-        0,
-        33,
-        Group {
-            pec_write: false,
-            reads: true,
-        },
-    );
+    row(Kind::ReadRegister(0x12), 0, 33, checked);
 }

@@ -21,8 +21,7 @@ fn step(call: Call, payload: &[u8], buffer: &mut [u8]) -> Call {
     let transfer = shown.transfer;
     let frame = call.to_send(payload, built, say::length(transfer));
     let outcome = say::transfer(transfer, frame);
-    let none = bytes::front(built, 0);
-    taken(call.report(outcome, none, payload, buffer, built))
+    taken(call.report(outcome, b"", payload, buffer, built))
 }
 
 // A call of a kind with a payload and a buffer of so many bytes, whose title is said: how it stands, and its first transfers, of which three are frames at most.
