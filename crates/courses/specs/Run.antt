@@ -42,7 +42,7 @@ unfoldable pub takenOf : Reported → Call
 takenOf (reported.Refused a call) = call
 takenOf (reported.Taken call) = call
 
--- a call hears what came of a transfer, with a payload of p bytes and a work buffer of w; flash and gauge are those after it
+-- the call hears what a transfer came to, with a payload of p bytes lent; flash and gauge are those after it
 unfoldable pub heardIn : ℕ → Effect → World → World
 heardIn p e w =
     world (record { call = takenOf (reportOf (w .link .call) (e .outcome) (e .reply) p (length (w .buffer)) (length (w .work))); gauge = e .gauge })
@@ -52,7 +52,7 @@ heardIn p e w =
 abbrev pub transferred : ℕ → Fate → Made → World → World
 transferred p f made w = heardIn p (effectOf f made (w .link .gauge) (w .flash)) w
 
--- what showing leaves in the work buffer
+-- the call has shown what is next: its work buffer holds what that laid
 abbrev pub showing : List ℕ → World → World
 showing payload w = world (w .link) (w .buffer) (workAfter (w .link .call) payload (length (w .buffer)) (w .work)) (w .flash)
 
@@ -73,6 +73,7 @@ driveOf payload (f ∷ fs) w = driveOf payload fs (stepOf payload f w)
 unfoldable pub endedOf : Link → ℕ → ℕ → ℕ → Run
 endedOf link p n w = record { link = link; end = endOf (phaseOf (link .call)) (fitsOf (link .call) p n w) }
 
+-- what a run leaves that does not start
 unfoldable pub refusedOf : Link → Answer → Run
 refusedOf link a = record { link = link; end = end.Answered a }
 

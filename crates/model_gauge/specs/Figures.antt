@@ -36,10 +36,11 @@ before-start = 0x44 ∷ 3 ∷ 0xFF ∷ 0x3F ∷ 7 ∷ []
 abbrev pub past-end : List ℕ
 past-end = 0x44 ∷ 4 ∷ 0xFF ∷ 0x5F ∷ 7 ∷ 7 ∷ []
 
--- a frame that is heard sets the pointer to an address; it is not taken
+-- a frame that is heard sets the pointer to an address
 abbrev pub Points : List ℕ → ℕ → Type 0
 Points frame address = (gauge : Gauge) (flash : List ℕ) → effectOf fate.Heard (write frame) gauge flash ≡ taken [] (reading address) flash
 
+-- a transfer that is heard is not taken
 abbrev pub Untaken : Made → Type 0
 Untaken made = (gauge : Gauge) (flash : List ℕ) → effectOf fate.Heard made gauge flash ≡ untaken gauge flash
 
