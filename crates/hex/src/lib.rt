@@ -22,7 +22,7 @@ pub enum Encoded {
 }
 
 // The value of a digit, or 16 of a byte that is none.
-pub fn value(digit: u8) -> u16
+fn value(digit: u8) -> u16
     ensures { λ r. ⌜ r ≡ valueOf digit ⌝ }
 {
     if digit < 48 {

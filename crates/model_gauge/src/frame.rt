@@ -68,7 +68,7 @@ fn form_of(count: u8, address: u16) -> Form
 }
 
 // The frame reader: a block write, an address, or neither.
-pub fn read_frame(frame: &[u8]) -> Form
+pub(crate) fn read_frame(frame: &[u8]) -> Form
     ensures { λ r. ⌜ r ≡ readFrame (now (frame .entry)) ⌝ }
 {
     if frame.len() < 4 {

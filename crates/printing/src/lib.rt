@@ -46,7 +46,7 @@ fn lay(head: &[u8], body: &[u8], out: &mut [u8]) -> usize
 }
 
 // A line of two parts; how many bytes it has, or 0 where there is no room and nothing is laid.
-pub fn line(head: &[u8], body: &[u8], out: &mut [u8]) -> usize
+fn line(head: &[u8], body: &[u8], out: &mut [u8]) -> usize
     ensures { λ r. ⌜ (r ≡ printedOf (now (head .entry) ++ now (body .entry)) (length (now (out .entry)))) × (now (out .exit) ≡ outPrinted (now (head .entry) ++ now (body .entry)) (now (out .entry))) ⌝ }
 {
     if fits(head.len(), body.len(), out.len()) {
