@@ -1,12 +1,14 @@
 -- A call is what its engine makes of it: each definition has a case for each engine.
 -- Assumes nothing.
 use mathlib.Core.Path.{refl}
-use Rattle.calls.specs.Call.{nextOf, workAfter, partOf, wroteOf, gotOf, reportOf, bufferAfter, phaseOf, tallyOf, fitsOf}
+use Rattle.calls.specs.Call.{startWith, startOf, nextOf, workAfter, partOf, wroteOf, gotOf, reportOf, bufferAfter, phaseOf, tallyOf, fitsOf}
 use Rattle.calls.specs.Laws.{Laws}
 
 pub laws : Laws
-unfolding nextOf workAfter partOf wroteOf gotOf reportOf bufferAfter phaseOf tallyOf fitsOf
+unfolding startWith startOf nextOf workAfter partOf wroteOf gotOf reportOf bufferAfter phaseOf tallyOf fitsOf
 laws = record {
+  starts-w = λ kind config p n w its e. rw e;
+  starts-r = λ kind config p n w its e. rw e;
   writing = λ c. record {
     shows = λ payload work n. (refl, refl);
     sends = λ payload work n. refl;

@@ -5,16 +5,22 @@ use Prim.Native.Nat.{ℕ}
 use mathlib.Core.Path.{_≡_}
 use mathlib.Core.List.{List}
 use lib.ListN.{length, take}
+use Rattle.protocol.specs.declared.common.Config.{Config}
 use Rattle.protocol.specs.declared.error.Answer.{Answer}
 use Rattle.engine.specs.Bus as bus
 use Rattle.engine.specs.declared.bus.Outcome.{Outcome}
 use Rattle.writing.specs.Writing as writing
+use Rattle.writing.specs.declared.call.WritePlan.{WritePlan}
 use Rattle.writing.specs.declared.call.WriteCall.{WriteCall}
 use Rattle.writing.specs.declared.call.WriteReported.the-variants as wrote
 use Rattle.reading.specs.Reading as reading
+use Rattle.reading.specs.declared.call.ReadPlan.{ReadPlan}
 use Rattle.reading.specs.declared.call.ReadCall.{ReadCall}
 use Rattle.reading.specs.declared.call.ReadReported.the-variants as got
-use Rattle.calls.specs.Call.{nextOf, workAfter, partOf, reportOf, bufferAfter, phaseOf, tallyOf, fitsOf}
+use Rattle.calls.specs.Kind.{planOf}
+use Rattle.calls.specs.Call.{startOf, nextOf, workAfter, partOf, reportOf, bufferAfter, phaseOf, tallyOf, fitsOf}
+use Rattle.calls.specs.declared.kind.Kind.{Kind}
+use Rattle.calls.specs.declared.kind.Plan.the-variants as plan
 use Rattle.calls.specs.declared.call.Call.the-variants as call
 use Rattle.calls.specs.declared.call.Reported.the-variants as reported
 
@@ -49,5 +55,10 @@ pub record ReadsAs (c : ReadCall) : Type 0 where
   pub fits : (p n w : ℕ) → fitsOf (call.Read c) p n w ≡ bus.fitsOf (c .task .lent) n w
 
 pub record Laws : Type 0 where
+  -- a kind starts its plan, with the payload where that writes and the buffer where it reads
+  pub starts-w : (kind : Kind) (config : Config) (p n w : ℕ) (its : WritePlan) → planOf kind config p n ≡ plan.Write its
+      → startOf kind config p n w ≡ call.Write (writing.startOf its p w)
+  pub starts-r : (kind : Kind) (config : Config) (p n w : ℕ) (its : ReadPlan) → planOf kind config p n ≡ plan.Read its
+      → startOf kind config p n w ≡ call.Read (reading.startOf its n w)
   pub writing : (c : WriteCall) → WritesAs c
   pub reading : (c : ReadCall) → ReadsAs c

@@ -4,30 +4,41 @@ use Prim.Native.Nat.{ℕ, _≤_}
 use mathlib.Core.Path.{_≡_, refl, sym, ap, _∙_}
 use mathlib.Core.List.{List, [], _∷_, _++_}
 use lib.ListN.{length, take}
+use borrow.Author.Tests.{le-ltb, ne-eqb}
+use Rattle.protocol.specs.Pick.{if_then_else_}
 use Rattle.protocol.specs.declared.common.Config.{Config}
+use Rattle.protocol.specs.declared.error.Answer.{Answer}
+use Rattle.protocol.specs.declared.error.Answer.the-variants as answer
+use Rattle.engine.specs.Limit.{measured, admitted}
 use Rattle.engine.specs.declared.bus.Transfer.{Transfer}
 use Rattle.engine.specs.declared.bus.Transfer.the-variants as transfer
+use Rattle.engine.specs.declared.limit.Limit.the-variants as limit
+use Rattle.writing.specs.Frames as frames
 use Rattle.writing.specs.Writing as writing
 use Rattle.writing.specs.declared.call.WritePlan.{WritePlan}
 use Rattle.writing.specs.declared.call.WriteCall.{WriteCall}
 use Rattle.writing.specs.declared.call.WriteReported.{WriteReported}
 use Rattle.writing.specs.declared.call.WriteReported.the-variants as written
+use Rattle.reading.specs.Parts as parts
 use Rattle.reading.specs.Reading as reading
 use Rattle.reading.specs.declared.call.ReadPlan.{ReadPlan}
 use Rattle.reading.specs.declared.call.ReadCall.{ReadCall}
 use Rattle.reading.specs.declared.call.ReadReported.{ReadReported}
 use Rattle.reading.specs.declared.call.ReadReported.the-variants as got
-use Rattle.r5.specs.Plans.{writeChargingVoltageOverride}
+use Rattle.r5.specs.Plans.{macRead, macWrite, sendAccessKey, writeChargingVoltageOverride}
 use Rattle.r5.specs.Voltage.{overrideOf}
 use Rattle.r5.proofs.Back.{both-ways}
 use Rattle.calls.specs.Kind.{planOf}
 use Rattle.calls.specs.Call.{startWith, startOf, nextOf, workAfter, partOf, wroteOf, gotOf, reportOf, bufferAfter, tallyOf}
+use Rattle.calls.specs.declared.kind.Kind.{Kind}
 use Rattle.calls.specs.declared.kind.Kind.the-variants as kind
 use Rattle.calls.specs.declared.call.Call.the-variants as call
-use Rattle.original.specs.Bus.{BusOutcome, Made, write, read, Came, Read, _leaving_}
+use Rattle.original.specs.Bus.{BusOutcome, Made, write, read, begun, Came, Err, Read, _leaving_}
 use Rattle.original.specs.Fed.{told, Lending, Lends, reply, answered, shows_sending_transfer_answer_, wrote_taken_refused_, heard_taken_refused_, fedWrite, fedRead, writes, reads}
 use Rattle.original.specs.Equal.{Equal}
-use Rattle.original.specs.ByKind.{came_taken_refused_, fed, EqualByKind}
+use Rattle.original.specs.ByKind.{came_taken_refused_, fed, rustOf, Defined, Added, long-frame, long-register, input-given, keys-written, keys-read, key-written, key-read, override-written, override-read, key-sent, unsealed, EqualByKind}
+use Rattle.original.proofs.WriteTurns.{no-frame}
+use Rattle.original.proofs.ReadTurns.{no-transfer}
 use Rattle.original.proofs.Equal.{equal}
 
 -- a writing call is fed as its engine is, and leaves the buffer as it was
@@ -96,8 +107,8 @@ module _ (payload : List ℕ) (lent : ℕ → Lending) where
 
 -- DEMAND 2 BY KIND
 pub equal-by-kind : (config : Config) → config .«max_bus_retries» ≤ 65535 → (w : ℕ) → 39 ≤ w → (lent : ℕ → Lending) → Lends w lent → (outcomes : List BusOutcome) → EqualByKind config w lent outcomes
-unfolding startOf startWith planOf
-equal-by-kind config small w roomy lent steady os = by
+unfolding startOf startWith planOf macRead macWrite sendAccessKey writing.planOf reading.macPlan parts.firstAddress frames.firstAddress measured admitted answered if_then_else_
+equal-by-kind config small w roomy lent steady os = record { same = by; added = instead }
   where
     e : Equal config w lent os
     e = equal config small w roomy lent steady os
@@ -110,7 +121,8 @@ equal-by-kind config small w roomy lent steady os = by
         → fed (call.Read (reading.startOf plan (length buffer) w)) payload buffer lent [] os ≡ comes
     read-as plan payload buffer comes h = fed-reading payload lent (reading.startOf plan (length buffer) w) buffer [] os ∙ h
 
-    by : EqualByKind config w lent os
+    by : (kind : Kind) (payload buffer : List ℕ) → Defined kind config payload buffer
+        → fed (startOf kind config (length payload) (length buffer) w) payload buffer lent [] os ≡ rustOf kind config payload buffer os
     by kind.WriteWithRetries payload buffer d = wrote-as _ payload buffer _ (e .plain-write payload d)
     by (kind.WriteRegister address) payload buffer d = wrote-as _ payload buffer _ (e .write-register address payload)
     by (kind.ReadRegister address) payload buffer d = read-as _ payload buffer _ (e .read-register address buffer)
@@ -134,3 +146,26 @@ equal-by-kind config small w roomy lent steady os = by
     by kind.ReadMfgInfo payload buffer d = read-as _ payload buffer _ (e .read-mfg-info buffer)
     by (kind.WriteDataflash address) payload buffer d = wrote-as _ payload buffer _ (e .write-dataflash address payload)
     by (kind.ReadDataflash address) payload buffer d = read-as _ payload buffer _ (e .read-dataflash address buffer)
+
+    -- another length than the limit's own
+    key-wrote : (plan : WritePlan) (size : ℕ) → plan .limit ≡ limit.Exactly size → (payload buffer : List ℕ) → (length payload ≡ size → ⊥)
+        → fed (call.Write (writing.startOf plan (length payload) w)) payload buffer lent [] os ≡ (Err answer.WrongBuffer begun os leaving buffer)
+    key-wrote plan size l payload buffer h = wrote-as plan payload buffer _ (no-frame plan payload w lent answer.WrongBuffer os (rw (l, le-ltb w 39 roomy, ne-eqb (length payload) size h)))
+
+    key-got : (plan : ReadPlan) (size : ℕ) → plan .limit ≡ limit.Exactly size → (payload buffer : List ℕ) → (length buffer ≡ size → ⊥)
+        → fed (call.Read (reading.startOf plan (length buffer) w)) payload buffer lent [] os ≡ (Err answer.WrongBuffer begun os leaving buffer)
+    key-got plan size l payload buffer h = read-as plan payload buffer _ (no-transfer plan (length buffer) w lent buffer answer.WrongBuffer os (rw (l, le-ltb w 39 roomy, ne-eqb (length buffer) size h)))
+
+    instead : (kind : Kind) (payload buffer : List ℕ) (a : Answer) → Added config payload buffer kind a
+        → fed (startOf kind config (length payload) (length buffer) w) payload buffer lent [] os ≡ (Err a begun os leaving buffer)
+    instead kind payload buffer a (long-frame h) = wrote-as _ payload buffer _ (e .plain-write-refused payload h)
+    instead kind payload buffer a (long-register address h) = wrote-as _ payload buffer _ (e .write-register-unchecked-refused address payload h)
+    instead kind payload buffer a (input-given address h) = read-as _ payload buffer _ (e .dispatch-command-refused address payload buffer h)
+    instead kind payload buffer a (keys-written h) = key-wrote _ 28 refl payload buffer h
+    instead kind payload buffer a (keys-read h) = key-got _ 28 refl payload buffer h
+    instead kind payload buffer a (key-written h) = key-wrote _ 16 refl payload buffer h
+    instead kind payload buffer a (key-read h) = key-got _ 16 refl payload buffer h
+    instead kind payload buffer a (override-written h) = key-wrote _ 10 refl payload buffer h
+    instead kind payload buffer a (override-read h) = key-got _ 10 refl payload buffer h
+    instead kind payload buffer a (key-sent lower upper h) = key-wrote _ 0 refl payload buffer h
+    instead kind payload buffer a (unsealed lower upper h) = key-wrote _ 0 refl payload buffer h

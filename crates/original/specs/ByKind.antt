@@ -2,11 +2,12 @@
 -- Assumes nothing.
 use Prim.Native.Nat.{ℕ, _≤_, _<_}
 use mathlib.Core.Path.{_≡_}
-use mathlib.Core.Bool.{false}
+use mathlib.Core.Bool.{true, false}
 use mathlib.Core.List.{List, [], _∷_, _++_}
 use lib.ListN.{length, getD}
 use Rattle.protocol.specs.declared.common.Config.{Config}
 use Rattle.protocol.specs.declared.error.Answer.{Answer}
+use Rattle.protocol.specs.declared.error.Answer.the-variants as answer
 use Rattle.r5.specs.Voltage.{overrideOf}
 use Rattle.calls.specs.Call.{startOf, nextOf, workAfter, partOf, reportOf, bufferAfter, tallyOf}
 use Rattle.calls.specs.declared.kind.Kind.{Kind}
@@ -14,7 +15,7 @@ use Rattle.calls.specs.declared.kind.Kind.the-variants as kind
 use Rattle.calls.specs.declared.call.Call.{Call}
 use Rattle.calls.specs.declared.call.Reported.{Reported}
 use Rattle.calls.specs.declared.call.Reported.the-variants as reported
-use Rattle.original.specs.Bus.{BusOutcome, Made, begun, Waiting, Read, _leaving_}
+use Rattle.original.specs.Bus.{BusOutcome, Made, begun, Err, Waiting, Read, _leaving_}
 use Rattle.original.specs.Fed.{told, Lending, reply, answered, shows_sending_transfer_answer_}
 use Rattle.original.specs.OriginalInterface as rust
 use Rattle.original.specs.OriginalR5 as rust-r5
@@ -99,7 +100,24 @@ Defined kind.ReadMfgInfo config payload buffer = Unit {0}
 Defined (kind.WriteDataflash address) config payload buffer = Unit {0}
 Defined (kind.ReadDataflash address) config payload buffer = Unit {0}
 
+-- where it panics, or has no call of those lengths: the added refusal
+pub data Added (config : Config) (payload buffer : List ℕ) : Kind → Answer → Type 0 where
+  long-frame : rust.writePanics (config .«pec_write») payload ≡ true → Added config payload buffer kind.WriteWithRetries answer.DataTooLarge
+  long-register : (address : ℕ) → rust-r5.uncheckedPanics payload ≡ true → Added config payload buffer (kind.WriteRegisterUnchecked address) answer.DataTooLarge
+  input-given : (address : ℕ) → rust.dispatchPanics payload buffer ≡ true → Added config payload buffer (kind.DispatchCommand address) answer.NotACommand
+  keys-written : (length payload ≡ 28 → ⊥) → Added config payload buffer kind.WriteSecurityKeys answer.WrongBuffer
+  keys-read : (length buffer ≡ 28 → ⊥) → Added config payload buffer kind.ReadSecurityKeys answer.WrongBuffer
+  key-written : (length payload ≡ 16 → ⊥) → Added config payload buffer kind.WriteAuthenticationKey answer.WrongBuffer
+  key-read : (length buffer ≡ 16 → ⊥) → Added config payload buffer kind.ReadAuthenticationKey answer.WrongBuffer
+  override-written : (length payload ≡ 10 → ⊥) → Added config payload buffer kind.WriteChargingVoltageOverride answer.WrongBuffer
+  override-read : (length buffer ≡ 10 → ⊥) → Added config payload buffer kind.ReadChargingVoltageOverride answer.WrongBuffer
+  key-sent : (lower upper : ℕ) → (length payload ≡ 0 → ⊥) → Added config payload buffer (kind.SendAccessKey lower upper) answer.WrongBuffer
+  unsealed : (lower upper : ℕ) → (length payload ≡ 0 → ⊥) → Added config payload buffer (kind.UnsealFg lower upper) answer.WrongBuffer
+
 -- every kind, for these settings, a work buffer of w bytes at each step, what is lent and these outcomes
-abbrev pub EqualByKind : Config → ℕ → (ℕ → Lending) → List BusOutcome → Type 0
-EqualByKind config w lent outcomes = (kind : Kind) (payload buffer : List ℕ) → Defined kind config payload buffer
-    → fed (startOf kind config (length payload) (length buffer) w) payload buffer lent [] outcomes ≡ rustOf kind config payload buffer outcomes
+pub record EqualByKind (config : Config) (w : ℕ) (lent : ℕ → Lending) (outcomes : List BusOutcome) : Type 0 where
+  pub same : (kind : Kind) (payload buffer : List ℕ) → Defined kind config payload buffer
+      → fed (startOf kind config (length payload) (length buffer) w) payload buffer lent [] outcomes ≡ rustOf kind config payload buffer outcomes
+  -- with no transfer, and the buffer as it was
+  pub added : (kind : Kind) (payload buffer : List ℕ) (a : Answer) → Added config payload buffer kind a
+      → fed (startOf kind config (length payload) (length buffer) w) payload buffer lent [] outcomes ≡ (Err a begun outcomes leaving buffer)
