@@ -36,7 +36,7 @@ use Rattle.reading.specs.declared.call.Verdict.{Verdict}
 use Rattle.reading.specs.declared.call.Verdict.the-variants as verdict
 use Rattle.reading.specs.declared.call.ReadReported.{ReadReported}
 use Rattle.reading.specs.declared.call.ReadReported.the-variants as read
-use Rattle.answers.specs.Rows.{Failure, Damaged, made}
+use Rattle.answers.specs.Rows.{Failure, Damaged, readsMade}
 use Rattle.answers.specs.Steps.{MissedW, PaidW, CostW, MissedR, HeardR, PaidR, CostR, Delivers}
 use Rattle.answers.proofs.Laws.{bare-head}
 use Rattle.answers.proofs.Kept.{stored-length}
@@ -175,7 +175,7 @@ module _ (call : ReadCall) where
 
   -- WHAT EVERY REPORT COSTS A READING CALL
   pub cost-r : (o : Outcome) (bytes : List ℕ) (n w : ℕ) → CostR call o bytes (reading.reportOf call o bytes n w)
-  unfolding MissesR reading.reportOf reading.headedOf reading.advanceOf made case_refused_fault_headed_block_ if_then_else_
+  unfolding MissesR reading.reportOf reading.headedOf reading.advanceOf readsMade case_refused_fault_headed_block_ if_then_else_
   cost-r o bytes n w = by (reading.judgeOf call o bytes n w) refl (judge-comes o bytes n w)
     where
       result : ReadReported

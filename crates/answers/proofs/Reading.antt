@@ -26,7 +26,7 @@ use Rattle.reading.specs.Reading.{dueAsk, headedOf, advanceOf, retryOf, endOf, 
 use Rattle.reading.specs.declared.call.ReadCall.{ReadCall}
 use Rattle.reading.specs.declared.call.Verdict.{Verdict}
 use Rattle.reading.specs.declared.call.Verdict.the-variants as verdict
-use Rattle.answers.specs.Rows.{Says, saidR, OpenR, asked, Damaged, made, Reads}
+use Rattle.answers.specs.Rows.{Says, saidR, OpenR, asked, Damaged, readsMade, Reads}
 use Rattle.answers.specs.Rows.Reads.{done, bus-error, timed-out, wrong-pec, wrong-buffer, wrong-reply, nothing-outstanding}
 use Rattle.answers.proofs.Laws.{InTable, row-of, says-of, over-waits, fits-same, same-fits, other-fits, fits-other}
 
@@ -74,7 +74,7 @@ module _ (call : ReadCall) (o : Outcome) (bytes : List ℕ) (n w : ℕ) where
 
   -- a head that was acknowledged
   head-holds : OpenR call n w → o ≡ outcome.Acknowledged → call .heading ≡ true → Holds (leads (heardHead (length bytes)))
-  unfolding heardHead headedOf asked made if_then_else_
+  unfolding heardHead headedOf asked readsMade if_then_else_
   head-holds ready ack h = by (eqb (length bytes) 0) refl
     where
       none : asked call ≡ 0
@@ -92,7 +92,7 @@ module _ (call : ReadCall) (o : Outcome) (bytes : List ℕ) (n w : ℕ) where
 
   -- a read that was acknowledged
   block-holds : OpenR call n w → o ≡ outcome.Acknowledged → call .heading ≡ false → Holds (leads (heardBlock (dueAsk call) bytes))
-  unfolding heardBlock verdictOf reply.heardOf advanceOf asked made if_then_else_
+  unfolding heardBlock verdictOf reply.heardOf advanceOf asked readsMade if_then_else_
   block-holds ready ack h = by (eqb (reply.bytesAsked (dueAsk call)) (length bytes)) refl (dueAsk call .pec) refl (reply.checkedOf (dueAsk call .covered) bytes) refl
     where
       some : asked call ≡ reply.bytesAsked (dueAsk call)
@@ -170,8 +170,8 @@ module _ (call : ReadCall) (o : Outcome) (bytes : List ℕ) (n w : ℕ) where
   asked-some h = rw h
 
   done-row : OpenR call n w → o ≡ outcome.Acknowledged → length bytes ≡ asked call → (Damaged call bytes → ⊥)
-      → parts.readCount (call .task .plan .reads) (call .task .lent .length) ≤ made call → leads (judgeOf call o bytes n w) ≡ phase.Ended answer.Done
-  unfolding acknowledgedOf heardHead heardBlock verdictOf reply.heardOf headedOf advanceOf phaseAfter asked made if_then_else_
+      → parts.readCount (call .task .plan .reads) (call .task .lent .length) ≤ readsMade call → leads (judgeOf call o bytes n w) ≡ phase.Ended answer.Done
+  unfolding acknowledgedOf heardHead heardBlock verdictOf reply.heardOf headedOf advanceOf phaseAfter asked readsMade if_then_else_
   done-row ready ack size fine all = ap leads (heard ready ack) ∙ by (call .heading) refl (dueAsk call .pec) refl (reply.checkedOf (dueAsk call .covered) bytes) refl
     where
       by : (t : Bool) → call .heading ≡ t → (p : Bool) → dueAsk call .pec ≡ p → (k : Bool) → reply.checkedOf (dueAsk call .covered) bytes ≡ k

@@ -289,7 +289,7 @@ module _ (plan : ReadPlan) (n w : ℕ) (s : SaneRead plan n) (k : 39 ≤ w) (cal
 
   around-few : reply.aroundOf (reading.dueAsk call) ≤ 4
   unfolding reply.aroundOf reply.leadOf if_then_else_
-  around-few = by (reading.dueAsk call .pec) (reading.dueAsk call .headed)
+  around-few = by (reading.dueAsk call .pec) (reading.dueAsk call .prefixed)
     where
       by : (p h : Bool) → (if p then (if h then 3 else 0) + 1 else (if h then 3 else 0)) ≤ 4
       by true true = omega arith

@@ -143,13 +143,13 @@ abbrev pub Damaged : ReadCall → List ℕ → Type 0
 Damaged call bytes = (call .heading ≡ false) × (dueAsk call .pec ≡ true) × (reply.checkedOf (dueAsk call .covered) bytes ≡ false)
 
 -- the reads that are done with this one; a head is none
-unfoldable pub made : ReadCall → ℕ
-made call = if call .heading then call .received else moreOf (call .received)
+unfoldable pub readsMade : ReadCall → ℕ
+readsMade call = if call .heading then call .received else moreOf (call .received)
 
 pub data Reads (call : ReadCall) (o : Outcome) (bytes : List ℕ) (n w : ℕ) : ℕ → ℕ → Type 0 where
   -- 0: all reads are made, or its head where it has none
   done : OpenR call n w → o ≡ outcome.Acknowledged → length bytes ≡ asked call → (Damaged call bytes → ⊥)
-      → parts.readCount (call .task .plan .reads) (call .task .lent .length) ≤ made call → Reads call o bytes n w 0 0
+      → parts.readCount (call .task .plan .reads) (call .task .lent .length) ≤ readsMade call → Reads call o bytes n w 0 0
   -- 1, 2, 3: the last allowed attempt failed
   bus-error : (code : ℕ) → OpenR call n w → o ≡ outcome.BusError code → call .budget .left ≡ 0 → Reads call o bytes n w 1 code
   timed-out : OpenR call n w → o ≡ outcome.Timeout → call .budget .left ≡ 0 → Reads call o bytes n w 2 0

@@ -31,7 +31,7 @@ use Rattle.reading.specs.declared.call.ReadPlan.{ReadPlan}
 use Rattle.reading.specs.declared.call.ReadCall.{ReadCall}
 use Rattle.reading.specs.declared.call.ReadReported.{ReadReported}
 use Rattle.reading.specs.declared.call.ReadReported.the-variants as read
-use Rattle.answers.specs.Rows.{Same, Failure, asked, Damaged, made}
+use Rattle.answers.specs.Rows.{Same, Failure, asked, Damaged, readsMade}
 use Rattle.answers.specs.Runs.{WriteReport, feedW, ReadReport, feedR}
 use Rattle.answers.specs.Within.{WritesBy, write-with-retries, write-register, write-buffer, write-security-keys, write-authentication-key, write-charging-voltage-override, write-register-unchecked, send-access-key, unseal-fg, write-mfg-info-c, write-mfg-info, write-dataflash, ReadsBy}
 
@@ -145,7 +145,7 @@ MissedR call next =
 -- an acknowledged head or a believed reply leaves the budget of the whole call as it was, with no wait, and no head is due; a reply is one block more
 abbrev pub HeardR : ReadCall → ReadCall → Type 0
 HeardR call next =
-    (next .budget .left ≡ call .budget .left) × (next .tally .waits ≡ call .tally .waits) × (next .heading ≡ false) × (next .received ≡ made call)
+    (next .budget .left ≡ call .budget .left) × (next .tally .waits ≡ call .tally .waits) × (next .heading ≡ false) × (next .received ≡ readsMade call)
 
 -- a read whose PEC differs is a failed attempt
 abbrev pub PaidR : ReadCall → Outcome → List ℕ → ReadCall → Type 0

@@ -24,7 +24,7 @@ use Rattle.model_gauge.specs.declared.gauge.Fate.{Fate}
 use Rattle.courses.specs.Pick.{case_sending_to_none_, case_refused_admitted_}
 use Rattle.courses.specs.Course.{fateOf, fatesOf, soundOf, admitOf, endOf}
 use Rattle.courses.specs.Figures.{BadByte, LentAgain, unchanged, Figures}
-use Rattle.courses.specs.Run.{world, stepOf, driveOf, endedOf, refusedOf, leftOf, runOf}
+use Rattle.courses.specs.Run.{world, stepOf, driveOf, endedOf, refusedOf, leavesOf, runOf}
 use Rattle.courses.specs.declared.course.Admitted.the-variants as admitted
 use Rattle.courses.specs.declared.course.End.the-variants as end
 use Rattle.courses.specs.declared.run.Link.{Link}
@@ -121,7 +121,7 @@ module _ (payload buffer work flash : List ℕ) (link : Link) where
     idle : (course : List ℕ) (a : Answer) → length flash ≡ 8192 → soundOf course ≡ true
         → endOf (phaseOf (link .call)) (fitsOf (link .call) (length payload) (length buffer) (length work)) ≡ end.Answered a
         → runOf payload course (world link buffer work flash) ≡ unchanged a link buffer work flash
-    unfolding runOf leftOf endedOf case_refused_admitted_
+    unfolding runOf leavesOf endedOf case_refused_admitted_
     idle course a h s e = rw (admit-all (length flash) course h s, drives-none (fatesOf course), e)
 
   is-over : (course : List ℕ) (a : Answer) → length flash ≡ 8192 → soundOf course ≡ true → phaseOf (link .call) ≡ phase.Ended a

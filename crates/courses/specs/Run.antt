@@ -78,12 +78,12 @@ unfoldable pub refusedOf : Link → Answer → Run
 refusedOf link a = record { link = link; end = end.Answered a }
 
 -- what is left where a run ends
-unfoldable pub leftOf : ℕ → World → Left
-leftOf p w = left (endedOf (w .link) p (length (w .buffer)) (length (w .work))) (w .buffer) (w .work) (w .flash)
+unfoldable pub leavesOf : ℕ → World → Left
+leavesOf p w = left (endedOf (w .link) p (length (w .buffer)) (length (w .work))) (w .buffer) (w .work) (w .flash)
 
 -- 8, 11, or the call driven over the course
 unfoldable pub runOf : List ℕ → List ℕ → World → Left
 runOf payload course w =
     case admitOf (length (w .flash)) course
     refused (λ a. left (refusedOf (w .link) a) (w .buffer) (w .work) (w .flash))
-    admitted leftOf (length payload) (driveOf payload (fatesOf course) w)
+    admitted leavesOf (length payload) (driveOf payload (fatesOf course) w)

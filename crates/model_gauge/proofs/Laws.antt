@@ -19,7 +19,7 @@ use Rattle.protocol.proofs.Laws.{over-set, over-over, take-over, length-over, l
 use Rattle.engine.specs.Made.{write, read}
 use Rattle.engine.specs.declared.bus.Outcome.the-variants as outcome
 use Rattle.model_gauge.specs.Frame.{readFrame}
-use Rattle.model_gauge.specs.Gauge.{newGauge, blockAt, replyFront, replyOf, movedOf, repliesTo, Effect, taken, untaken, heardFrame, heardRead, acts, stored, effectOf, told}
+use Rattle.model_gauge.specs.Gauge.{newGauge, blockAt, replyFront, replyOf, movedOf, repliesTo, Effect, taken, untaken, heardFrame, heardRead, acts, stored, effectOf, handedBack}
 use Rattle.model_gauge.specs.declared.frame.Form.{Form}
 use Rattle.model_gauge.specs.declared.frame.Form.the-variants as form
 use Rattle.model_gauge.specs.declared.gauge.Effect as handed
@@ -110,7 +110,7 @@ module _ (command count : ℕ) (gauge : Gauge) (flash : List ℕ) where
   unfolding acts heardRead if_then_else_
   read-untaken t = rw t
 
-  pub read-told : repliesTo command count ≡ true → record { outcome = outcome.Acknowledged; replied = count; gauge = movedOf gauge } ≡ told (acts (read command count) gauge flash)
+  pub read-told : repliesTo command count ≡ true → record { outcome = outcome.Acknowledged; replied = count; gauge = movedOf gauge } ≡ handedBack (acts (read command count) gauge flash)
   read-told t =
       let few : count ≤ length (replyOf gauge flash) = omega (arith, replies-few command count t, reply-long gauge flash) in
       rw (read-taken t, length-take-le count (replyOf gauge flash) few)
@@ -137,7 +137,7 @@ module _ (command count : ℕ) (gauge : Gauge) (flash : List ℕ) where
   read-brings fate.LostAfter = (refl, omega arith)
 
   -- which is lent where what is handed back says how long it is
-  pub read-lent : (f : Fate) (r : handed.Effect) (whole part w v : List ℕ) → ((bytes : List ℕ) → r ≡ told (effectOf f (read command count) gauge bytes))
+  pub read-lent : (f : Fate) (r : handed.Effect) (whole part w v : List ℕ) → ((bytes : List ℕ) → r ≡ handedBack (effectOf f (read command count) gauge bytes))
       → whole ≡ replyOf gauge flash → part ≡ take (r .replied) whole → v ≡ blockIn 36 part w → v ≡ blockIn 36 (effectOf f (read command count) gauge flash .reply) w
   read-lent f r whole part w v known all cut laid = laid ∙ rw (cut, all, known flash, read-brings f .0)
 

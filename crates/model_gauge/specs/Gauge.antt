@@ -98,5 +98,5 @@ effectOf fate.LostBefore made gauge flash = lost gauge flash
 effectOf fate.LostAfter made gauge flash = lost (acts made gauge flash .gauge) (acts made gauge flash .flash)
 
 -- what is handed back of an effect; flash and reply are lent
-abbrev pub told : Effect → handed.Effect
-told e = record { outcome = e .outcome; replied = length (e .reply); gauge = e .gauge }
+abbrev pub handedBack : Effect → handed.Effect
+handedBack e = record { outcome = e .outcome; replied = length (e .reply); gauge = e .gauge }

@@ -14,7 +14,7 @@ ghost use mathlib.Core.List.{List, []};
 ghost use Prim.Native.Nat.{ℕ, _+_, _-_, min};
 ghost use Rattle.protocol.specs.Bytes.{blockIn};
 ghost use Rattle.engine.specs.Made.{write, read};
-ghost use Rattle.model_gauge.specs.Gauge.{newGauge, offsetOf, blockAt, replyOf, movedOf, repliesTo, lost, acts, effectOf, told};
+ghost use Rattle.model_gauge.specs.Gauge.{newGauge, offsetOf, blockAt, replyOf, movedOf, repliesTo, lost, acts, effectOf, handedBack};
 
 // The data flash has a byte for each address from 4000 to 5FFF hex.
 pub const FLASH_BYTES: usize = DF_SIZE_BYTES;
@@ -94,7 +94,7 @@ fn block_at(flash: &[u8], at: usize) -> [u8; 32]
 impl Effect {
     // The gauge has acted, and the host hears nothing of it.
     fn unheard(self) -> Effect
-        ensures { λ r. ⌜ r ≡ told (lost (self .gauge) []) ⌝ }
+        ensures { λ r. ⌜ r ≡ handedBack (lost (self .gauge) []) ⌝ }
     {
         let gauge = self.gauge;
         Effect {
@@ -128,7 +128,7 @@ impl Gauge {
 
     // A frame that is heard.
     fn hear(self, frame: &[u8], flash: &mut [u8]) -> Effect
-        ensures { λ r. ⌜ (r ≡ told (acts (write (now (frame .entry))) self (now (flash .entry)))) × (now (flash .exit) ≡ acts (write (now (frame .entry))) self (now (flash .entry)) .flash) ⌝ }
+        ensures { λ r. ⌜ (r ≡ handedBack (acts (write (now (frame .entry))) self (now (flash .entry)))) × (now (flash .exit) ≡ acts (write (now (frame .entry))) self (now (flash .entry)) .flash) ⌝ }
     {
         let form = frame::read_frame(frame);
         let Form::BlockWrite { address, count } = form else {
@@ -150,7 +150,7 @@ impl Gauge {
 
     // A frame goes to the gauge.
     pub fn write(self, fate: Fate, frame: &[u8], flash: &mut [u8]) -> Effect
-        ensures { λ r. ⌜ (r ≡ told (effectOf fate (write (now (frame .entry))) self (now (flash .entry)))) × (now (flash .exit) ≡ effectOf fate (write (now (frame .entry))) self (now (flash .entry)) .flash) ⌝ }
+        ensures { λ r. ⌜ (r ≡ handedBack (effectOf fate (write (now (frame .entry))) self (now (flash .entry)))) × (now (flash .exit) ≡ effectOf fate (write (now (frame .entry))) self (now (flash .entry)) .flash) ⌝ }
     {
         match fate {
             Fate::Heard => self.hear(frame, flash),
@@ -185,7 +185,7 @@ impl Gauge {
 
     // A read that is heard: one that is replied to moves the pointer on.
     fn ask(self, command: u8, count: usize) -> Effect
-        ensures { λ r. ⌜ ((flash : List ℕ) → r ≡ told (acts (read command count) self flash)) ⌝ }
+        ensures { λ r. ⌜ ((flash : List ℕ) → r ≡ handedBack (acts (read command count) self flash)) ⌝ }
     {
         if replies(command, count) {
             Effect {
@@ -200,7 +200,7 @@ impl Gauge {
 
     // What becomes of a read.
     fn asked(self, fate: Fate, command: u8, count: usize) -> Effect
-        ensures { λ r. ⌜ ((flash : List ℕ) → r ≡ told (effectOf fate (read command count) self flash)) ⌝ }
+        ensures { λ r. ⌜ ((flash : List ℕ) → r ≡ handedBack (effectOf fate (read command count) self flash)) ⌝ }
     {
         match fate {
             Fate::Heard => self.ask(command, count),
@@ -218,7 +218,7 @@ impl Gauge {
         flash: &[u8],
         reply: &mut [u8],
     ) -> Effect
-        ensures { λ r. ⌜ (r ≡ told (effectOf fate (read command count) self (now (flash .entry)))) × (now (reply .exit) ≡ blockIn 36 (effectOf fate (read command count) self (now (flash .entry)) .reply) (now (reply .entry))) ⌝ }
+        ensures { λ r. ⌜ (r ≡ handedBack (effectOf fate (read command count) self (now (flash .entry)))) × (now (reply .exit) ≡ blockIn 36 (effectOf fate (read command count) self (now (flash .entry)) .reply) (now (reply .entry))) ⌝ }
     {
         let effect = self.asked(fate, command, count);
         let whole = self.reply(flash);

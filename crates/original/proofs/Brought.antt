@@ -14,7 +14,7 @@ use Rattle.protocol.specs.Pick.{if_then_else_}
 use Rattle.protocol.specs.Bytes.{over}
 use Rattle.protocol.proofs.Laws.{take-over, drop-over, take-short}
 use Rattle.original.specs.Bus.{BusOutcome, Made, Read}
-use Rattle.original.specs.Fronts.{Layout, rightPec, dataIn, brought, allBrought, transfersOf, leftOf, gathered, Front}
+use Rattle.original.specs.Fronts.{Layout, rightPec, dataIn, brought, allBrought, transfersOf, bufferLeft, gathered, Front}
 
 -- so many bytes dropped of those taken
 pub drop-take : (a n : ℕ) (l : List ℕ) → drop a (take (a + n) l) ≡ take n (drop a l)
@@ -73,19 +73,19 @@ counted false m = omega arith
 pub record Comes (layout : Layout) (buffer before : List ℕ) (done : List Made) (outcomes : List BusOutcome) (r : Read) : Type 0 where
   pub added : List Made
   pub grown : transfersOf r ≡ done ++ added
-  pub front : leftOf r ≡ over (take (length buffer) (before ++ allBrought layout added outcomes)) buffer
+  pub front : bufferLeft r ≡ over (take (length buffer) (before ++ allBrought layout added outcomes)) buffer
   pub whole : length (before ++ allBrought layout added outcomes) < length buffer → length (before ++ allBrought layout added outcomes) % 32 ≡ 0
 
 module _ (layout : Layout) (buffer : List ℕ) where
   -- it has stopped
-  pub stopped : (before : List ℕ) (done : List Made) (outcomes : List BusOutcome) (r : Read) → transfersOf r ≡ done → leftOf r ≡ over (take (length buffer) before) buffer
+  pub stopped : (before : List ℕ) (done : List Made) (outcomes : List BusOutcome) (r : Read) → transfersOf r ≡ done → bufferLeft r ≡ over (take (length buffer) before) buffer
       → (length before < length buffer → length before % 32 ≡ 0) → Comes layout buffer before done outcomes r
   unfolding allBrought
   stopped before done outcomes r g f w =
       record { added = []; grown = g ∙ sym (append-nil done); front = rw append-nil f; whole = rw append-nil w }
 
   -- it waits for the outcome of one more transfer
-  pub waits : (before : List ℕ) (done : List Made) (t : Made) (r : Read) → transfersOf r ≡ done ++ (t ∷ []) → leftOf r ≡ over (take (length buffer) before) buffer
+  pub waits : (before : List ℕ) (done : List Made) (t : Made) (r : Read) → transfersOf r ≡ done ++ (t ∷ []) → bufferLeft r ≡ over (take (length buffer) before) buffer
       → (length before < length buffer → length before % 32 ≡ 0) → Comes layout buffer before done [] r
   unfolding allBrought
   waits before done t r g f w = record { added = t ∷ []; grown = g; front = rw append-nil f; whole = rw append-nil w }
@@ -122,7 +122,7 @@ module _ (layout : Layout) (buffer : List ℕ) where
 
   -- and brought what fills the buffer
   pub filled : (done : List Made) (t : Made) (o : BusOutcome) (outcomes : List BusOutcome) (r : Read) (d : List ℕ) → brought layout t o ≡ d → length buffer ≤ length d
-      → transfersOf r ≡ done ++ (t ∷ []) → leftOf r ≡ take (length buffer) d → Comes layout buffer [] done (o ∷ outcomes) r
+      → transfersOf r ≡ done ++ (t ∷ []) → bufferLeft r ≡ take (length buffer) d → Comes layout buffer [] done (o ∷ outcomes) r
   filled done t o outcomes r d e h g f =
       stepped [] done t o outcomes r (rw e (stopped d (done ++ (t ∷ [])) outcomes r g (f ∙ sym (over-whole d buffer h)) (λ short. absurd (omega arith))))
 

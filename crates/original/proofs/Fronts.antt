@@ -19,7 +19,7 @@ use Rattle.original.specs.Fed.{Lending, Lends, reads}
 use Rattle.original.specs.OriginalInterface as rust
 use Rattle.original.specs.OriginalR5 as rust-r5
 use Rattle.original.specs.Equal.{Equal}
-use Rattle.original.specs.Fronts.{Layout, plain, mac, allBrought, transfersOf, leftOf, Front, Fronts}
+use Rattle.original.specs.Fronts.{Layout, plain, mac, allBrought, transfersOf, bufferLeft, Front, Fronts}
 use Rattle.original.proofs.PlainRead as plain-read
 use Rattle.original.proofs.MacRead as mac-read
 use Rattle.original.proofs.FlashRead as flash-read
@@ -35,11 +35,11 @@ carried layout buffer outcomes e f = rw e f
 
 -- a refusal leaves the buffer as it was
 refused : (layout : Layout) (buffer : List ℕ) (outcomes : List BusOutcome) (e : Answer) → Front layout buffer outcomes (Err e begun outcomes leaving buffer)
-unfolding transfersOf leftOf allBrought
+unfolding transfersOf bufferLeft allBrought
 refused layout buffer outcomes e = untouched buffer
 
 -- so does a call whose buffer is empty
-empty : (layout : Layout) (buffer : List ℕ) (outcomes : List BusOutcome) (r : Read) → length buffer ≡ 0 → leftOf r ≡ buffer → Front layout buffer outcomes r
+empty : (layout : Layout) (buffer : List ℕ) (outcomes : List BusOutcome) (r : Read) → length buffer ≡ 0 → bufferLeft r ≡ buffer → Front layout buffer outcomes r
 unfolding over
 empty layout buffer outcomes r z e = e ∙ rw z refl
 
@@ -74,7 +74,7 @@ module _ (config : Config) (outcomes : List BusOutcome) where
       by false = plain-own address buffer (config .«pec_read»)
 
   command-front : (address : ℕ) (input output : List ℕ) → Front (mac (config .«pec_read»)) output outcomes (rust.dispatchCommand config address input output begun outcomes)
-  unfolding rust.dispatchCommand if_then_else_ leftOf
+  unfolding rust.dispatchCommand if_then_else_ bufferLeft
   command-front address input output = by (ltb 32 (length input) || ltb 32 (length output)) (eqb (length output) 0) refl
     where
       frame : List ℕ
@@ -114,7 +114,7 @@ module _ (config : Config) (outcomes : List BusOutcome) where
 
   -- data flash: refused, empty, or read in blocks
   dataflash-comes : (start : ℕ) (buffer : List ℕ) → Comes (mac (config .«pec_read»)) buffer [] [] outcomes (rust-r5.readDataflash config start buffer begun outcomes)
-  unfolding if_then_else_ transfersOf leftOf over
+  unfolding if_then_else_ transfersOf bufferLeft over
   dataflash-comes start buffer = rw (← read-dataflash-by config outcomes start buffer (config .«pec_read») refl) (by (rust.checkDfRange start (length buffer)) refl (eqb (length buffer) 0) refl)
     where
       by : (t : Bool) → rust.checkDfRange start (length buffer) ≡ t → (z : Bool) → eqb (length buffer) 0 ≡ z

@@ -18,7 +18,7 @@ use Rattle.protocol.specs.declared.error.Answer.{Answer}
 use Rattle.protocol.specs.declared.error.Answer.the-variants as answer
 use Rattle.original.specs.Bus.{BusOutcome, Acknowledged, BusError, Timeout, delivered, read, Log, made, delayed, Ok, Err, _leaving_, busOp_err_ok_, copied}
 use Rattle.original.specs.OriginalInterface.{readLoop, macWriteTurn, macReadTurn}
-use Rattle.original.specs.Fronts.{plain, mac, dataIn, brought, transfersOf, leftOf}
+use Rattle.original.specs.Fronts.{plain, mac, dataIn, brought, transfersOf, bufferLeft}
 use Rattle.original.proofs.ReadTurns.{length-delivered}
 use Rattle.original.proofs.FlashRead.{loop, count, bad, placed, loop-done, address-waits, address-turn, read-waits, read-turn}
 use Rattle.original.proofs.Brought.{drop-take, over-more, data-in, counted, Comes, stopped, waits, as-well, either, stepped, unmoved, filled}
@@ -35,7 +35,7 @@ module _ (command : ℕ) (buffer inner : List ℕ) (pec : Bool) (room : length b
 
   plain-fault : (outcomes : List BusOutcome) → Plain outcomes → (retries : ℕ) (why : Answer) (log : Log)
       → Comes (plain pec command) buffer [] (log .transfers) outcomes (copied buffer (if eqb retries 0 then Err why log outcomes leaving inner else readLoop (retries - 1) command inner pec (delayed log) outcomes))
-  unfolding copied transfersOf leftOf
+  unfolding copied transfersOf bufferLeft
   plain-fault outcomes ih retries why log =
       either (plain pec command) buffer (copied buffer) [] (log .transfers) outcomes (eqb retries 0) _ _
       (stopped (plain pec command) buffer [] (log .transfers) outcomes _ refl (untouched buffer) (λ h. refl)) (ih (retries - 1) (delayed log))
@@ -45,7 +45,7 @@ module _ (command : ℕ) (buffer inner : List ℕ) (pec : Bool) (room : length b
       → Comes (plain pec command) buffer [] (log .transfers) (Acknowledged bytes ∷ outcomes) (copied buffer (if t
       then (if eqb retries 0 then Err answer.Pec (made (read command count) log) outcomes leaving inner else readLoop (retries - 1) command inner pec (delayed (made (read command count) log)) outcomes)
       else Ok (made (read command count) log) outcomes leaving take (length inner) (delivered count bytes)))
-  unfolding if_then_else_ copied transfersOf leftOf brought
+  unfolding if_then_else_ copied transfersOf bufferLeft brought
   plain-reply outcomes ih retries log bytes count c true t =
       unmoved (plain pec command) buffer [] (log .transfers) (read command count) (Acknowledged bytes) outcomes _
       (data-in (plain pec command) (length inner) (delivered count bytes) (length-delivered count bytes ∙ c) ∙ rw t)
@@ -56,7 +56,7 @@ module _ (command : ℕ) (buffer inner : List ℕ) (pec : Bool) (room : length b
       (data-in (plain pec command) (length inner) (delivered count bytes) (length-delivered count bytes ∙ c) ∙ rw t) (rw (length-take, length-delivered) (omega arith)) refl refl
 
   pub plain-comes : (outcomes : List BusOutcome) → Plain outcomes
-  unfolding readLoop copied busOp_err_ok_ transfersOf leftOf brought
+  unfolding readLoop copied busOp_err_ok_ transfersOf bufferLeft brought
   plain-comes [] retries log = waits (plain pec command) buffer [] (log .transfers) _ _ refl (untouched buffer) (λ h. refl)
   plain-comes (Acknowledged bytes ∷ outcomes) retries log = plain-reply outcomes (plain-comes outcomes) retries log bytes _ refl _ refl
   plain-comes (BusError code ∷ outcomes) retries log = unmoved (plain pec command) buffer [] (log .transfers) _ (BusError code) outcomes _ refl (plain-fault outcomes (plain-comes outcomes) retries (answer.I2c code) _)
@@ -69,7 +69,7 @@ module _ (frame buffer inner : List ℕ) (pec : Bool) (room : length buffer ≤ 
 
   mac-fault : (outcomes : List BusOutcome) → AtFrame outcomes → (retries : ℕ) (why : Answer) (log : Log)
       → Comes (mac pec) buffer [] (log .transfers) outcomes (copied buffer (if eqb retries 0 then Err why log outcomes leaving inner else macWriteTurn (retries - 1) pec frame inner (delayed log) outcomes))
-  unfolding copied transfersOf leftOf
+  unfolding copied transfersOf bufferLeft
   mac-fault outcomes ih retries why log =
       either (mac pec) buffer (copied buffer) [] (log .transfers) outcomes (eqb retries 0) _ _
       (stopped (mac pec) buffer [] (log .transfers) outcomes _ refl (untouched buffer) (λ h. refl)) (ih (retries - 1) (delayed log))
@@ -79,7 +79,7 @@ module _ (frame buffer inner : List ℕ) (pec : Bool) (room : length buffer ≤ 
       → Comes (mac pec) buffer [] (log .transfers) (Acknowledged bytes ∷ outcomes) (copied buffer (if t
       then (if eqb retries 0 then Err answer.Pec (made (read sent count) log) outcomes leaving inner else macWriteTurn (retries - 1) pec frame inner (delayed (made (read sent count) log)) outcomes)
       else Ok (made (read sent count) log) outcomes leaving take (length inner) (drop (1 + 2) (delivered count bytes))))
-  unfolding if_then_else_ copied transfersOf leftOf brought
+  unfolding if_then_else_ copied transfersOf bufferLeft brought
   mac-reply outcomes ih retries log bytes sent count c true t =
       unmoved (mac pec) buffer [] (log .transfers) (read sent count) (Acknowledged bytes) outcomes _
       (data-in (mac pec) (1 + 2 + length inner) (delivered count bytes) (length-delivered count bytes ∙ c) ∙ rw t)
@@ -91,7 +91,7 @@ module _ (frame buffer inner : List ℕ) (pec : Bool) (room : length buffer ≤ 
       (rw (length-take, length-drop, length-delivered) (omega arith)) refl refl
 
   mutual
-    unfolding macWriteTurn copied busOp_err_ok_ transfersOf leftOf brought
+    unfolding macWriteTurn copied busOp_err_ok_ transfersOf bufferLeft brought
 
     pub mac-comes : (outcomes : List BusOutcome) → AtFrame outcomes
     mac-comes [] retries log = waits (mac pec) buffer [] (log .transfers) _ _ refl (untouched buffer) (λ h. refl)
@@ -166,7 +166,7 @@ module _ (start : ℕ) (pec : Bool) (buffer : List ℕ) (far : start + length bu
   flash-fault : (outcomes : List BusOutcome) → Going outcomes → (retries : ℕ) (why : Answer) (before : List ℕ) (log : Log) → length before < length buffer → length before % 32 ≡ 0
       → Comes (mac pec) buffer before (log .transfers) outcomes
       (if eqb retries 0 then Err why log outcomes leaving over before buffer else loop start pec (retries - 1) (over before buffer) (length before) true (delayed log) outcomes)
-  unfolding transfersOf leftOf
+  unfolding transfersOf bufferLeft
   flash-fault outcomes ih retries why before log h w =
       either (mac pec) buffer (λ r. r) before (log .transfers) outcomes (eqb retries 0) _ _
       (stopped (mac pec) buffer before (log .transfers) outcomes _ refl (in-place before h) (λ j. w)) (ih true (retries - 1) before (delayed log) h w)
@@ -175,7 +175,7 @@ module _ (start : ℕ) (pec : Bool) (buffer : List ℕ) (far : start + length bu
   next-block : (outcomes : List BusOutcome) → Going outcomes → (retries at : ℕ) (before : List ℕ) (log : Log) → at ≡ min (length before) (length buffer) → (length before < length buffer → length before % 32 ≡ 0)
       → (t : Bool) → ltb (length before) (length buffer) ≡ t
       → Comes (mac pec) buffer before (log .transfers) outcomes (loop start pec retries (over (take (length buffer) before) buffer) at false log outcomes)
-  unfolding transfersOf leftOf
+  unfolding transfersOf bufferLeft
   next-block outcomes ih retries at before log e w true t =
       let h : length before < length buffer = ltb-true (length before) (length buffer) t in
       let a : at ≡ length before = omega arith in
@@ -219,7 +219,7 @@ module _ (start : ℕ) (pec : Bool) (buffer : List ℕ) (far : start + length bu
       (rw all (reached pec (length before) (length buffer) left e h)) (rw all (whole-then pec (length before) (length buffer) left e w)) _ refl))
 
   pub flash-comes : (outcomes : List BusOutcome) → Going outcomes
-  unfolding busOp_err_ok_ transfersOf leftOf brought
+  unfolding busOp_err_ok_ transfersOf bufferLeft brought
   flash-comes [] true retries before log h w =
       let l : length (over before buffer) ≡ length buffer = as-long before h in
       as-well (mac pec) buffer before (log .transfers) [] _ _ (address-waits start retries (over before buffer) (length before) log (omega arith) pec (omega arith))

@@ -59,8 +59,8 @@ transfersOf (Ok log outcomes leaving left) = log .transfers
 transfersOf (Err e log outcomes leaving left) = log .transfers
 transfersOf (Waiting log leaving left) = log .transfers
 
-unfoldable pub leftOf : Read → List ℕ
-leftOf (came leaving left) = left
+unfoldable pub bufferLeft : Read → List ℕ
+bufferLeft (came leaving left) = left
 
 -- all that its transfers brought
 abbrev pub gathered : Layout → List BusOutcome → Read → List ℕ
@@ -68,7 +68,7 @@ gathered layout outcomes r = allBrought layout (transfersOf r) outcomes
 
 -- what was brought, cut to the buffer's length, over the front of the buffer
 abbrev pub Front : Layout → List ℕ → List BusOutcome → Read → Type 0
-Front layout buffer outcomes r = leftOf r ≡ over (take (length buffer) (gathered layout outcomes r)) buffer
+Front layout buffer outcomes r = bufferLeft r ≡ over (take (length buffer) (gathered layout outcomes r)) buffer
 
 -- every reading call, for these settings, a work buffer of w bytes at each step, what is lent and these outcomes
 pub record Fronts (config : Config) (w : ℕ) (lent : ℕ → Lending) (outcomes : List BusOutcome) : Type 0 where

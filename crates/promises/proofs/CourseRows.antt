@@ -29,7 +29,7 @@ use Rattle.model_gauge.specs.declared.gauge.Fate.{Fate}
 use Rattle.courses.specs.Pick.{case_sending_to_none_, case_refused_admitted_}
 use Rattle.courses.specs.Course.{fatesOf, soundOf, admitOf, endOf}
 use Rattle.courses.specs.Figures.{LentAgain}
-use Rattle.courses.specs.Run.{World, world, takenOf, heardIn, showing, stepOf, driveOf, endedOf, leftOf, runOf}
+use Rattle.courses.specs.Run.{World, world, takenOf, heardIn, showing, stepOf, driveOf, endedOf, leavesOf, runOf}
 use Rattle.courses.specs.declared.run.Link.{Link}
 use Rattle.courses.proofs.Figures.{figures}
 use Rattle.writing.proofs.Shown.{write-work}
@@ -46,7 +46,7 @@ use Rattle.promises.proofs.RunRows.{again-fits, Came, came, rows-of, ke
 -- ---- a run that is not refused drives its call
 
 pub is-admitted : (payload : List ℕ) (w : World) (course : List ℕ) → length (w .flash) ≡ 8192 → soundOf course ≡ true
-    → runOf payload course w ≡ leftOf (length payload) (driveOf payload (fatesOf course) w)
+    → runOf payload course w ≡ leavesOf (length payload) (driveOf payload (fatesOf course) w)
 unfolding runOf admitOf case_refused_admitted_ if_then_else_
 is-admitted payload w course whole sound = rw (eq-eqb (length (w .flash)) 8192 whole, sound)
 
@@ -150,7 +150,7 @@ module _ (payload : List ℕ) (c : Call) (n w : ℕ) where
 module _ (payload course buffer work flash : List ℕ) (link : Link) (waits : phaseOf (link .call) ≡ phase.Waiting) where
   driven : length flash ≡ 8192 → soundOf course ≡ true → LentAgain (link .call) (length payload) (length buffer) (length work)
       → GivesOneOf (ownOf (link .call)) (runOf payload course (world link buffer work flash) .run .end)
-  unfolding leftOf endedOf
+  unfolding leavesOf endedOf
   driven whole sound again =
       let k = drive-keeps payload (link .call) (length buffer) (length work) (fatesOf course) (world link buffer work flash) (record { follows = begins (link .call) waits; size = refl; long = refl }) in
       rw (is-admitted payload (world link buffer work flash) course whole sound, k .size, k .long) (ends-own payload (link .call) (length buffer) (length work) _ (k .follows) again)

@@ -32,7 +32,7 @@ use Rattle.model_gauge.specs.declared.gauge.Fate.the-variants as fate
 use Rattle.model_gauge.specs.declared.gauge.Gauge.{Gauge}
 use Rattle.courses.specs.Pick.{case_sending_to_none_}
 use Rattle.courses.specs.Course.{fateOf, fatesOf, soundOf, endOf}
-use Rattle.courses.specs.Run.{World, Left, left, takenOf, heardIn, stepOf, driveOf, endedOf, leftOf, runOf}
+use Rattle.courses.specs.Run.{World, Left, left, takenOf, heardIn, stepOf, driveOf, endedOf, leavesOf, runOf}
 use Rattle.courses.specs.declared.course.End.{End}
 use Rattle.courses.proofs.Cases.{at-write}
 use Rattle.promises.specs.Flash.{placeOf, blockOf, Overlaid}
@@ -102,9 +102,9 @@ module _ (config : Config) (address : ℕ) (payload : List ℕ) (n : ℕ) (gauge
 
   -- how a run says that it ended
   ended-at : (room : 39 ≤ n) (i : ℕ) (b : Budget) (t : Tally) (work flash : List ℕ) (p : Phase) → length work ≡ n
-      → leftOf (length payload) (beside gauge buffer (worldAt config address payload n p i b t work flash)) .run .end
+      → leavesOf (length payload) (beside gauge buffer (worldAt config address payload n p i b t work flash)) .run .end
       ≡ endIn (shows payload (worldAt config address payload n p i b t work flash))
-  unfolding leftOf endedOf endOf phaseOf fitsOf case_waiting_ended_ bus.fitsOf if_then_else_
+  unfolding leavesOf endedOf endOf phaseOf fitsOf case_waiting_ended_ bus.fitsOf if_then_else_
   ended-at room i b t work flash phase.Waiting long =
       rw (shows-block config address payload n i b t work long room, eq-eqb (length payload) (length payload) refl, eq-eqb (length work) n long)
   ended-at room i b t work flash (phase.Ended a) long = rw (shows-ended config address payload n a i b t (length work))
@@ -150,7 +150,7 @@ module _ (config : Config) (address : ℕ) (payload old : List ℕ) (n : ℕ) (r
 
   -- what a run that ends here says
   ended-going : (w : WriteWorld) → Going config address payload old n room whole low high w
-      → leftOf (length payload) (beside gauge buffer w) .run .end ≡ endIn (shows payload w)
+      → leavesOf (length payload) (beside gauge buffer w) .run .end ≡ endIn (shows payload w)
   ended-going w g = rw (g .is) (ended-at config address payload n gauge buffer room (g .i) (g .b) (g .t) (g .work) (g .flash) (g .at) (g .long))
 
 -- a write starts over the whole flash
@@ -193,15 +193,15 @@ module _ (config : Config) (address : ℕ) (payload work flash : List ℕ) (a : 
 
   pub run-same : (course : List ℕ) → soundOf course ≡ true
       → ran config address payload buffer work flash gauge course ≡ stoppedAt payload gauge buffer (ranIn config address payload work flash course)
-  unfolding leftOf endedOf
+  unfolding leavesOf endedOf
   run-same course sound =
       ran-is course
       ∙ is-admitted payload (beside gauge buffer (began config address payload work flash)) course (began-whole config address payload work flash a) sound
-      ∙ ap (leftOf (length payload)) (drive-same (fatesOf course) ∙ ap (λ (es : List written.Event). beside gauge buffer (run payload es (began config address payload work flash))) (events-at course))
+      ∙ ap (leavesOf (length payload)) (drive-same (fatesOf course) ∙ ap (λ (es : List written.Event). beside gauge buffer (run payload es (began config address payload work flash))) (events-at course))
       ∙ ap (λ (e : End). left (record { link = beside gauge buffer (ranIn config address payload work flash course) .link; end = e }) buffer (ranIn config address payload work flash course .work) (ranIn config address payload work flash course .flash)) (by (eqb (length payload) 0) refl)
     where
       by : (t : Bool) → eqb (length payload) 0 ≡ t
-          → leftOf (length payload) (beside gauge buffer (ranIn config address payload work flash course)) .run .end
+          → leavesOf (length payload) (beside gauge buffer (ranIn config address payload work flash course)) .run .end
           ≡ endIn (shows payload (ranIn config address payload work flash course))
       by true t =
           rw (run-empty config address payload work flash a (eqb-true _ _ t) (eventsAt course))
@@ -255,7 +255,7 @@ sound-both (byte ∷ course) further p q = by (ltb 2 byte) p (λ r. sound-both c
 module _ (config : Config) (address : ℕ) (payload work flash : List ℕ) (a : Accepted address payload work flash) (gauge : Gauge) (buffer : List ℕ) where
   pub runs-on : (course further : List ℕ) → soundOf course ≡ true → soundOf further ≡ true
       → ran config address payload buffer work flash gauge (course ++ further) ≡ runOf payload further (left-over (ran config address payload buffer work flash gauge course))
-  unfolding leftOf endedOf
+  unfolding leavesOf endedOf
   runs-on course further p q =
       let w : World = beside gauge buffer (began config address payload work flash) in
       let whole : length (driveOf payload (fatesOf course) w .flash) ≡ 8192 =
@@ -263,7 +263,7 @@ module _ (config : Config) (address : ℕ) (payload work flash : List ℕ) (a : 
       ∙ stopped config address payload work flash a (eventsIn (fatesOf course)) .bytes .size ∙ a .whole in
       ran-is config address payload work flash a gauge buffer (course ++ further)
       ∙ is-admitted payload w (course ++ further) (began-whole config address payload work flash a) (sound-both course further p q)
-      ∙ ap (leftOf (length payload)) (ap (λ (es : List Fate). driveOf payload es w) (fates-both course further) ∙ drive-both payload (fatesOf course) (fatesOf further) w)
+      ∙ ap (leavesOf (length payload)) (ap (λ (es : List Fate). driveOf payload es w) (fates-both course further) ∙ drive-both payload (fatesOf course) (fatesOf further) w)
       ∙ sym (ap (λ (l : Left). runOf payload further (left-over l)) (ran-is config address payload work flash a gauge buffer course ∙ is-admitted payload w course (began-whole config address payload work flash a) p)
       ∙ is-admitted payload (driveOf payload (fatesOf course) w) further whole q)
 

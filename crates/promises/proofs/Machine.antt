@@ -33,7 +33,7 @@ use Rattle.r5.specs.Plans.{writeDataflash}
 use Rattle.writing.specs.declared.call.WriteReported.the-variants as reported
 use Rattle.promises.specs.Events.{Cause, busError, timedOut, Event, acknowledged, failed, unheard, causeOf, heardAs, lentOf, flashAfter, ackedAfter}
 use Rattle.promises.specs.Host.{makes}
-use Rattle.promises.specs.Writes.{WriteWorld, sent, made, step}
+use Rattle.promises.specs.Writes.{WriteWorld, sent, transferMade, step}
 
 -- a failed transfer, with the answer that it would end the call with
 abbrev pub whyOf : Cause → Answer
@@ -113,9 +113,9 @@ module _ (config : Config) (address : ℕ) (payload : List ℕ) (n : ℕ) where
 
     -- what became of the frame is heard, whatever is lent beside a failure
     pub made-sent : (e : Event) (beside flash : List ℕ)
-        → made payload e beside (worldAt phase.Waiting i b t work flash)
+        → transferMade payload e beside (worldAt phase.Waiting i b t work flash)
         ≡ record { call = settleOf (callAt phase.Waiting i b t) (heardAs e); work = over (frameOf i) work; flash = flashAfter e (frameOf i) flash; acked = ackedAfter e i }
-    unfolding made sent makes
+    unfolding transferMade sent makes
     made-sent e beside flash =
         rw (shows-block, lays) (sym sent-is)
       where
@@ -155,6 +155,6 @@ module _ (config : Config) (address : ℕ) (payload : List ℕ) (n : ℕ) where
 
   -- and stays as it is
   pub made-ended : (e : Event) (beside : List ℕ) (a : Answer) (i : ℕ) (b : Budget) (t : Tally) (work flash : List ℕ)
-      → made payload e beside (worldAt (phase.Ended a) i b t work flash) ≡ worldAt (phase.Ended a) i b t work flash
-  unfolding made nextOf workAfter case_waiting_ended_ makes
+      → transferMade payload e beside (worldAt (phase.Ended a) i b t work flash) ≡ worldAt (phase.Ended a) i b t work flash
+  unfolding transferMade nextOf workAfter case_waiting_ended_ makes
   made-ended e beside a i b t work flash = refl

@@ -27,7 +27,7 @@ use Rattle.original.specs.Fed.{told, brings, Lending, reply, answered, shows_se
 use Rattle.original.specs.OriginalR5 as rust
 use Rattle.original.proofs.Equal.{equal}
 use Rattle.promises.specs.Events.{busError, timedOut, Event, acknowledged, failed, unheard, heardAs, each}
-use Rattle.promises.specs.OverOriginal.{outcomeIn, outcomesIn, transfersOf, laidOver, stopOf}
+use Rattle.promises.specs.OverOriginal.{outcomeIn, outcomesIn, madeIn, laidOver, stopOf}
 use Rattle.promises.specs.Writes.{WriteWorld, began, shows, step, run}
 use Rattle.promises.specs.Demand3.{endIn, Accepted}
 use Rattle.promises.proofs.Window.{within}
@@ -36,11 +36,11 @@ use Rattle.promises.proofs.Stopped.{Going, going-step, going, run-ended
 
 -- ---- an answer, in the Rust's words
 
-transfers-answered : (a : Answer) (log : Log) (os : List BusOutcome) → transfersOf (answered a log os) ≡ log .transfers
+transfers-answered : (a : Answer) (log : Log) (os : List BusOutcome) → madeIn (answered a log os) ≡ log .transfers
 unfolding answered if_then_else_
 transfers-answered a log os = by (eqb (numberOf a) 0)
   where
-    by : (t : Bool) → transfersOf (if t then Ok log os else Err a log os) ≡ log .transfers
+    by : (t : Bool) → madeIn (if t then Ok log os else Err a log os) ≡ log .transfers
     by true = refl
     by false = refl
 
@@ -88,7 +88,7 @@ module _ (config : Config) (address : ℕ) (payload : List ℕ) (work : List ℕ
   -- the call that is fed makes the transfers that the run lays over the flash, and stops as the run does
   abbrev Follows : List Event → WriteWorld → List Made → Type 0
   Follows es w done =
-      (ts : List Made) × (transfersOf (fed (w .call) done es) ≡ done ++ ts) × (run payload es w .flash ≡ laidOver es ts (w .flash))
+      (ts : List Made) × (madeIn (fed (w .call) done es) ≡ done ++ ts) × (run payload es w .flash ≡ laidOver es ts (w .flash))
       × (endIn ((shows) payload (run payload es w)) ≡ stopOf (fed (w .call) done es))
 
   none-laid : (es : List Event) (flash : List ℕ) → flash ≡ laidOver es [] flash
@@ -143,7 +143,7 @@ module _ (config : Config) (address : ℕ) (payload : List ℕ) (work : List ℕ
       let goes-on : fed (callAt config address payload (length work) phase.Waiting i b t) done (e ∷ es) ≡ fed (step payload e (worldAt config address payload (length work) phase.Waiting i b t now flash) .call) (done ++ (frame i b t ∷ [])) es =
       fed-on i b t e es done ∙ ap (λ (v : WriteWorld). fed (v .call) (done ++ (frame i b t ∷ [])) es) (sym s) in (
         frame i b t ∷ r .0,
-        ap transfersOf goes-on ∙ r .1 ∙ append-assoc done (frame i b t ∷ []) (r .0),
+        ap madeIn goes-on ∙ r .1 ∙ append-assoc done (frame i b t ∷ []) (r .0),
         r .2 ∙ ap (λ (v : WriteWorld). laidOver es (r .0) (v .flash)) s,
         r .3 ∙ ap stopOf (sym goes-on),
       )
@@ -202,12 +202,12 @@ module _ (config : Config) (address : ℕ) (payload work flash : List ℕ) (few 
 pub over-original : (config : Config) (address : ℕ) (payload work flash : List ℕ) → config .«max_bus_retries» ≤ 65535 → Accepted address payload work flash
     → (es : List Event)
     → (run payload es (began config address payload work flash) .flash
-    ≡ laidOver es (transfersOf (rust.writeDataflash config address payload begun (outcomesIn es))) flash)
+    ≡ laidOver es (madeIn (rust.writeDataflash config address payload begun (outcomesIn es))) flash)
     × (endIn ((shows) payload (run payload es (began config address payload work flash))) ≡ stopOf (rust.writeDataflash config address payload begun (outcomesIn es)))
 over-original config address payload work flash few a es =
     let o = fed-original config address payload work flash few a es in
     let f = follows-start config address payload work flash few a es in
-    let ts : f .0 ≡ transfersOf (original config address payload work flash few a es) = sym (f .1) ∙ ap transfersOf o in (
+    let ts : f .0 ≡ madeIn (original config address payload work flash few a es) = sym (f .1) ∙ ap madeIn o in (
       f .2 ∙ ap (λ (l : List Made). laidOver es l (start config address payload work flash few a es .flash)) ts ∙ ap (laidOver es _) (start-flash config address payload work flash few a es),
       f .3 ∙ ap stopOf o,
     )

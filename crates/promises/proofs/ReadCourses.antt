@@ -32,7 +32,7 @@ use Rattle.model_gauge.specs.declared.gauge.Fate.{Fate}
 use Rattle.model_gauge.specs.declared.gauge.Gauge.{Gauge}
 use Rattle.courses.specs.Pick.{case_sending_to_none_}
 use Rattle.courses.specs.Course.{fatesOf, soundOf, endOf}
-use Rattle.courses.specs.Run.{World, Left, left, takenOf, heardIn, stepOf, driveOf, endedOf, leftOf, runOf}
+use Rattle.courses.specs.Run.{World, Left, left, takenOf, heardIn, stepOf, driveOf, endedOf, leavesOf, runOf}
 use Rattle.courses.specs.declared.course.End.{End}
 use Rattle.courses.proofs.Cases.{at-write, at-read}
 use Rattle.answers.specs.Runs.{callR}
@@ -145,9 +145,9 @@ module _ (payload : List ℕ) (config : Config) (address : ℕ) (buffer work fla
   -- ---- how a run ends
 
   ended-at : (p : Phase) (h : Bool) (i : ℕ) (b : Budget) (t : Tally) (g : Gauge) (now work′ : List ℕ) → length now ≡ length buffer → length work′ ≡ length work
-      → leftOf (length payload) (inModel (readWorld config address (length buffer) (length work) p h i b t g now work′ flash)) .run .end
+      → leavesOf (length payload) (inModel (readWorld config address (length buffer) (length work) p h i b t g now work′ flash)) .run .end
       ≡ endIn (readShows (readWorld config address (length buffer) (length work) p h i b t g now work′ flash))
-  unfolding leftOf endedOf endOf phaseOf fitsOf reading.nextOf case_waiting_ended_ bus.fitsOf if_then_else_
+  unfolding leavesOf endedOf endOf phaseOf fitsOf reading.nextOf case_waiting_ended_ bus.fitsOf if_then_else_
   ended-at phase.Waiting true i b t g now work′ fits long =
       rw (shows-head config address (length buffer) (length work) i b t g now work′ flash fits long (a .room), eq-eqb (length now) (length buffer) fits, eq-eqb (length work′) (length work) long)
   ended-at phase.Waiting false i b t g now work′ fits long =
@@ -156,7 +156,7 @@ module _ (payload : List ℕ) (config : Config) (address : ℕ) (buffer work fla
 
   -- a run that left this ended as it shows
   abbrev EndsSo : ReadWorld → Type 0
-  EndsSo w = leftOf (length payload) (inModel w) .run .end ≡ endIn (readShows w)
+  EndsSo w = leavesOf (length payload) (inModel w) .run .end ≡ endIn (readShows w)
 
   -- a read starts as the events have it
   ran-is : (course : List ℕ) → readRan config address payload buffer work flash gauge course ≡ runOf payload course (inModel first)
@@ -166,10 +166,10 @@ module _ (payload : List ℕ) (config : Config) (address : ℕ) (buffer work fla
   -- A RUN OVER A COURSE IS THE RUN OVER ITS EVENTS
   pub same : (course : List ℕ) → soundOf course ≡ true
       → readRan config address payload buffer work flash gauge course ≡ readStoppedAt (readRanIn config address buffer work flash gauge course)
-  unfolding leftOf endedOf
+  unfolding leavesOf endedOf
   same course sound =
       ran-is course ∙ is-admitted payload (inModel first) course first-whole sound
-      ∙ ap (leftOf (length payload)) (drive-same (fatesOf course) ∙ ap (λ (es : List Event). inModel (readRun es first)) (events-at course))
+      ∙ ap (leavesOf (length payload)) (drive-same (fatesOf course) ∙ ap (λ (es : List Event). inModel (readRun es first)) (events-at course))
       ∙ ap (λ (e : End). left (record { link = inModel (readRanIn config address buffer work flash gauge course) .link; end = e }) (readRanIn config address buffer work flash gauge course .buffer) (readRanIn config address buffer work flash gauge course .work) (readRanIn config address buffer work flash gauge course .flash)) (by (eqb (length buffer) 0) refl)
     where
       by : (t : Bool) → eqb (length buffer) 0 ≡ t → EndsSo (readRanIn config address buffer work flash gauge course)
@@ -193,12 +193,12 @@ module _ (payload : List ℕ) (config : Config) (address : ℕ) (buffer work fla
 
   pub runs-on : (course further : List ℕ) → soundOf course ≡ true → soundOf further ≡ true
       → readRan config address payload buffer work flash gauge (course ++ further) ≡ runOf payload further (left-over (readRan config address payload buffer work flash gauge course))
-  unfolding leftOf endedOf
+  unfolding leavesOf endedOf
   runs-on course further p q =
       let w : World = inModel first in
       let whole : length (driveOf payload (fatesOf course) w .flash) ≡ 8192 =
       ap (λ (v : World). length (v .flash)) (drive-same (fatesOf course)) ∙ ap length (stopped config address buffer work flash a gauge (eventsIn (fatesOf course)) .kept) ∙ a .whole in
       ran-is (course ++ further) ∙ is-admitted payload w (course ++ further) first-whole (sound-both course further p q)
-      ∙ ap (leftOf (length payload)) (ap (λ (fs : List Fate). driveOf payload fs w) (fates-both course further) ∙ drive-both payload (fatesOf course) (fatesOf further) w)
+      ∙ ap (leavesOf (length payload)) (ap (λ (fs : List Fate). driveOf payload fs w) (fates-both course further) ∙ drive-both payload (fatesOf course) (fatesOf further) w)
       ∙ sym (ap (λ (l : Left). runOf payload further (left-over l)) (ran-is course ∙ is-admitted payload w course first-whole p)
       ∙ is-admitted payload (driveOf payload (fatesOf course) w) further whole q)

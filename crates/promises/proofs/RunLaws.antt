@@ -27,11 +27,11 @@ use Rattle.model_gauge.proofs.Laws.{whichever, read-stores}
 use Rattle.courses.specs.Pick.{case_sending_to_none_}
 use Rattle.courses.specs.Course.{fateOf, fatesOf, soundOf, endOf}
 use Rattle.courses.specs.Figures.{LentAgain}
-use Rattle.courses.specs.Run.{World, world, left, takenOf, heardIn, stepOf, driveOf, endedOf, leftOf, runOf}
+use Rattle.courses.specs.Run.{World, world, left, takenOf, heardIn, stepOf, driveOf, endedOf, leavesOf, runOf}
 use Rattle.courses.specs.declared.course.End.the-variants as end
 use Rattle.courses.specs.declared.run.Link.{Link}
 use Rattle.answers.proofs.Kept.{stored-length}
-use Rattle.promises.specs.RunLaws.{Means, heard, lost-before, lost-after, callOf, reportedTo, Shows, shows-write, shows-read, RunLaws}
+use Rattle.promises.specs.RunLaws.{Means, heard, lost-before, lost-after, callAfter, reportedTo, Shows, shows-write, shows-read, RunLaws}
 use Rattle.promises.proofs.RunRows.{again-fits}
 use Rattle.promises.proofs.CourseRows.{is-admitted}
 
@@ -75,7 +75,7 @@ none-sound = refl
 
 -- ---- a step
 
-pub is-taken-so : (r : Reported) → takenOf r ≡ callOf r
+pub is-taken-so : (r : Reported) → takenOf r ≡ callAfter r
 unfolding takenOf
 is-taken-so (reported.Refused a call) = refl
 is-taken-so (reported.Taken call) = refl
@@ -83,7 +83,7 @@ is-taken-so (reported.Taken call) = refl
 is-cut : (payload buffer work flash : List ℕ) (link : Link) → length flash ≡ 8192 → phaseOf (link .call) ≡ phase.Waiting
     → LentAgain (link .call) (length payload) (length buffer) (length work)
     → runOf payload [] (world link buffer work flash) ≡ left (record { link = link; end = end.Cut }) buffer work flash
-unfolding leftOf endedOf driveOf fatesOf endOf case_waiting_ended_ if_then_else_
+unfolding leavesOf endedOf driveOf fatesOf endOf case_waiting_ended_ if_then_else_
 is-cut payload buffer work flash link whole waits again =
     is-admitted payload (world link buffer work flash) [] whole none-sound ∙ rw (waits, again-fits (link .call) (length payload) (length buffer) (length work) again)
 
@@ -106,8 +106,8 @@ run-on : (payload rest : List ℕ) (w v : World) (byte : ℕ) (f : Fate) → Mea
 unfolding driveOf
 run-on payload rest w v byte f means whole whole′ sound step =
     is-admitted payload w (byte ∷ rest) whole (first-sound byte f means rest sound)
-    ∙ ap (λ (fs : List Fate). leftOf (length payload) (driveOf payload fs w)) (first-fate byte f means rest)
-    ∙ ap (λ (v : World). leftOf (length payload) (driveOf payload (fatesOf rest) v)) step
+    ∙ ap (λ (fs : List Fate). leavesOf (length payload) (driveOf payload fs w)) (first-fate byte f means rest)
+    ∙ ap (λ (v : World). leavesOf (length payload) (driveOf payload (fatesOf rest) v)) step
     ∙ sym (is-admitted payload v rest whole′ sound)
 
 -- THE LAWS OF A RUN

@@ -27,7 +27,7 @@ use Rattle.original.specs.OriginalR5 as rust
 use Rattle.promises.specs.Flash.{placeOf, store, blockFrame, Overlaid, Stands}
 use Rattle.promises.specs.Events.{Event, acknowledged}
 use Rattle.promises.specs.Host.{Doing, events, Allowed}
-use Rattle.promises.specs.OverOriginal.{outcomesIn, transfersOf, laidOver, stopOf}
+use Rattle.promises.specs.OverOriginal.{outcomesIn, madeIn, laidOver, stopOf}
 use Rattle.promises.specs.Writes.{WriteWorld, began, shows, handed, run, does, May, hosted, Alike}
 
 -- what one clean write leaves
@@ -118,7 +118,7 @@ pub record Demand3 : Type 0 where
   pub over-original : (config : Config) (address : ℕ) (payload work flash : List ℕ) → config .«max_bus_retries» ≤ 65535 → Accepted address payload work flash
       → (es : List Event)
       → (run payload es (began config address payload work flash) .flash
-      ≡ laidOver es (transfersOf (rust.writeDataflash config address payload begun (outcomesIn es))) flash)
+      ≡ laidOver es (madeIn (rust.writeDataflash config address payload begun (outcomesIn es))) flash)
       × (endIn (shows payload (run payload es (began config address payload work flash))) ≡ stopOf (rust.writeDataflash config address payload begun (outcomesIn es)))
   -- any host: whatever work buffer of that length it lends for each transfer, whatever lies in the reply beside a failure, and whatever it reports in between
   -- that is refused (8, 9 or 10), the call, the flash and the count are those of its transfers alone: none of that changes anything

@@ -23,10 +23,10 @@ outcomesIn [] = []
 outcomesIn (e ∷ es) = outcomeIn e ∷ outcomesIn es
 
 -- the transfers that a call made
-abbrev pub transfersOf : Came → List Made
-transfersOf (Ok log outcomes) = log .transfers
-transfersOf (Err a log outcomes) = log .transfers
-transfersOf (Waiting log) = log .transfers
+abbrev pub madeIn : Came → List Made
+madeIn (Ok log outcomes) = log .transfers
+madeIn (Err a log outcomes) = log .transfers
+madeIn (Waiting log) = log .transfers
 
 -- what becomes of each of them, laid over a flash; the last has no event yet where the call was cut
 abbrev pub laidOver : List Event → List Made → List ℕ → List ℕ

@@ -33,14 +33,14 @@ pub data Means : ℕ → Fate → Type 0 where
   lost-after : Means 2 fate.LostAfter
 
 -- the call after a report: the new one, or as it was where the report is refused
-abbrev pub callOf : Reported → Call
-callOf (reported.Refused a call) = call
-callOf (reported.Taken call) = call
+abbrev pub callAfter : Reported → Call
+callAfter (reported.Refused a call) = call
+callAfter (reported.Taken call) = call
 
 -- what a transfer came to is reported: the call, the gauge, the buffer, the work buffer and the flash
 abbrev pub reportedTo : (payload : List ℕ) → Effect → Call → (buffer shown : List ℕ) → World
 reportedTo payload e call buffer shown =
-    world (record { call = callOf (reportOf call (e .outcome) (e .reply) (length payload) (length buffer) (length shown)); gauge = e .gauge })
+    world (record { call = callAfter (reportOf call (e .outcome) (e .reply) (length payload) (length buffer) (length shown)); gauge = e .gauge })
     (bufferAfter call (e .outcome) (e .reply) buffer (length shown)) shown (e .flash)
 
 -- the transfer that a call shows: the bytes that it hands out, or a read

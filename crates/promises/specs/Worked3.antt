@@ -20,7 +20,7 @@ use Rattle.writing.specs.Writing.{planOf, startOf, ownBytes, dueBytes, shownOf,
 use Rattle.r5.specs.Plans.{writeDataflash}
 use Rattle.promises.specs.Events.{busError, timedOut, Event, acknowledged, failed, unheard, each}
 use Rattle.promises.specs.Host.{makes}
-use Rattle.promises.specs.Writes.{began, sent, shows, made, run}
+use Rattle.promises.specs.Writes.{began, sent, shows, transferMade, run}
 
 -- what the machine shows of 33 bytes at 4000 hex, with a PEC, over a flash of FF
 abbrev pub worked : List Event → Transfer
@@ -36,5 +36,5 @@ pub worked-runs :
     × (worked (failed (busError 5) ∷ []) ≡ transfer.Ended (answer.I2c 5))
     × (worked (unheard timedOut ∷ (acknowledged) ∷ []) ≡ transfer.Ended answer.Timeout)
     × (worked ((acknowledged) ∷ unheard timedOut ∷ []) ≡ transfer.Ended (answer.PartialDataFlashWrite 32))
-unfolding began startOf firstAddress admitted measured windowed inWindow planOf writeDataflash each made sent nextOf workAfter shownOf workShown dueBytes bytesAt blockBytes macBytes pairOf laidOf workLaid writeOf sealed over ownBytes isPlain isFlash frameCount fitsOf partOf reportOf repliedOf settleOf advanceOf failOf failedOf retryOf endOf gaveUp phaseAfter case_waiting_ended_ case_acknowledged_error_timeout_ case_retry_spent_ makes if_then_else_ nothing
+unfolding began startOf firstAddress admitted measured windowed inWindow planOf writeDataflash each transferMade sent nextOf workAfter shownOf workShown dueBytes bytesAt blockBytes macBytes pairOf laidOf workLaid writeOf sealed over ownBytes isPlain isFlash frameCount fitsOf partOf reportOf repliedOf settleOf advanceOf failOf failedOf retryOf endOf gaveUp phaseAfter case_waiting_ended_ case_acknowledged_error_timeout_ case_retry_spent_ makes if_then_else_ nothing
 worked-runs = (refl, refl, refl, refl, refl, refl)

@@ -47,14 +47,14 @@ abbrev pub handed : List ℕ → ℕ → WriteWorld → List ℕ
 handed payload n w = partOf (w .call) payload (workAfter (w .call) payload (w .work)) n
 
 -- one transfer, as the machine shows it. Where it shows no write, nothing goes out and nothing is heard
-unfoldable pub made : List ℕ → Event → (beside : List ℕ) → WriteWorld → WriteWorld
-made payload e beside w =
+unfoldable pub transferMade : List ℕ → Event → (beside : List ℕ) → WriteWorld → WriteWorld
+transferMade payload e beside w =
     let laid : List ℕ = workAfter (w .call) payload (w .work) in
     makes (λ n. sent payload e beside laid n w) (λ command count. holding laid w) (holding laid w) (shows payload w)
 
 -- with nothing lent beside it
 abbrev pub step : List ℕ → Event → WriteWorld → WriteWorld
-step payload e w = made payload e [] w
+step payload e w = transferMade payload e [] w
 
 -- a transfer for each event. Every point of stopping is the end of some list
 abbrev pub run : List ℕ → List Event → WriteWorld → WriteWorld
@@ -64,7 +64,7 @@ run payload es w = each (step payload) es w
 
 -- what a host does
 unfoldable pub does : List ℕ → Doing → WriteWorld → WriteWorld
-does payload (transfers e work beside) w = made payload e beside (holding work w)
+does payload (transfers e work beside) w = transferMade payload e beside (holding work w)
 does payload (reports o reply lent work) w =
     record { call = callW (reportOf (w .call) o (length reply) lent work); work = w .work; flash = w .flash; acked = w .acked }
 

@@ -149,7 +149,7 @@ length-laid pec f work = by (ltb (length f) (length work)) refl
 -- at most three bytes stand before the data of a reply
 pub lead-small : (ask : Ask) → leadOf ask ≤ 3
 unfolding leadOf if_then_else_
-lead-small ask = by (ask .headed)
+lead-small ask = by (ask .prefixed)
   where
     by : (t : Bool) → (if t then 3 else 0) ≤ 3
     by true = omega arith

@@ -13,15 +13,15 @@ use Rattle.protocol.specs.declared.reply.Heard.the-variants.{WrongLength
 
 -- a plain read: the reply is data, and the PEC covers the command that was sent
 unfoldable pub plainAsk : ℕ → ℕ → Bool → Ask
-plainAsk command wanted pec = record { command = command; covered = command; headed = false; wanted = wanted; pec = pec }
+plainAsk command wanted pec = record { command = command; covered = command; prefixed = false; wanted = wanted; pec = pec }
 
 -- a MAC or data-flash read: length and two address bytes come first and are not examined, and the PEC is worked out with 44
 unfoldable pub macAsk : ℕ → ℕ → Bool → Ask
-macAsk command wanted pec = record { command = command; covered = 0x44; headed = true; wanted = wanted; pec = pec }
+macAsk command wanted pec = record { command = command; covered = 0x44; prefixed = true; wanted = wanted; pec = pec }
 
 -- the bytes before the data
 unfoldable pub leadOf : Ask → ℕ
-leadOf ask = if ask .headed then 3 else 0
+leadOf ask = if ask .prefixed then 3 else 0
 
 -- the bytes before the data, and the PEC after it
 unfoldable pub aroundOf : Ask → ℕ

@@ -13,7 +13,7 @@ pub struct Ask {
     // The command byte that the PEC is worked out with.
     pub covered: u8,
     // Whether a length and two address bytes stand before the data.
-    pub headed: bool,
+    pub prefixed: bool,
     // How many bytes of data are wanted.
     pub wanted: usize,
     // Whether a PEC is asked for after them.
@@ -61,7 +61,7 @@ impl Ask {
         Ask {
             command,
             covered: command,
-            headed: false,
+            prefixed: false,
             wanted: count,
             pec,
         }
@@ -74,7 +74,7 @@ impl Ask {
         Ask {
             command,
             covered: MAC_CMD,
-            headed: true,
+            prefixed: true,
             wanted: count,
             pec,
         }
@@ -84,7 +84,7 @@ impl Ask {
     fn lead(self) -> usize
         ensures { λ r. ⌜ r ≡ leadOf self ⌝ }
     {
-        if self.headed { 3 } else { 0 }
+        if self.prefixed { 3 } else { 0 }
     }
 
     // How many bytes of a reply are not data: those before it, and the PEC.

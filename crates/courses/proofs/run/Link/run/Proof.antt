@@ -3,7 +3,7 @@
 use Prim.Native.Nat.{_-_}
 use borrow.Author.Needs.{needs}
 use Rattle.courses.proofs.Cases.{run-refused, run-admitted}
-use Rattle.courses.specs.Run.{leftOf, runOf}
+use Rattle.courses.specs.Run.{leavesOf, runOf}
 use Rattle.courses.proofs.run.Link.run.Statement.{statement}
 use Rattle.courses.proofs.run.Link.run.Tie as tie
 
@@ -39,7 +39,7 @@ same-length-3 : tie.Need-same-length-3
 same-length-3 c = search needs
 
 returns-2 : tie.Need-returns-2
-unfolding runOf leftOf
+unfolding runOf leavesOf
 returns-2 c = run-admitted _ _ _ _ _ (c .before .before .before .before .before .before .before .before .before .before .before .before .before .admit .ensures) (c .before .before .before .before .before .before .before .before .before .before .before .enum-told .given .1) (rw (← c .before .before .before .before .before .before .before .drive .ensures, c .ended .ensures))
 
 pub run-spec : {M : Type 1} → statement M
