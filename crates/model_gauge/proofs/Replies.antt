@@ -74,4 +74,5 @@ replied = record {
   flash = flash-still;
   reply = reply-said;
   whole = reply-long;
+  handed = λ e. refl;
 }

@@ -6,7 +6,7 @@ use mathlib.Core.List.{List, [], _∷_, _++_}
 use lib.ListN.{length, take, drop, replicate}
 use Rattle.smbus_pec.specs.Pec.{pecOf}
 use Rattle.engine.specs.Made.{read}
-use Rattle.model_gauge.specs.Gauge.{replyOf, taken, untaken, effectOf}
+use Rattle.model_gauge.specs.Gauge.{replyOf, Effect, taken, untaken, effectOf, handedBack}
 use Rattle.model_gauge.specs.declared.gauge.Fate.{Fate}
 use Rattle.model_gauge.specs.declared.gauge.Fate.the-variants as fate
 use Rattle.model_gauge.specs.declared.gauge.Gauge.{Gauge}
@@ -35,3 +35,5 @@ pub record Replies : Type 0 where
       → replyOf gauge flash ≡ said (gauge .pointer) flash ++ (pecOf 0 (0x16 ∷ 0x44 ∷ 0x17 ∷ said (gauge .pointer) flash) ∷ [])
   -- and has 36 bytes
   pub whole : (gauge : Gauge) (flash : List ℕ) → length (replyOf gauge flash) ≡ 36
+  -- what a write or a read hands back is what the host hears, how many bytes came and the gauge, as they are
+  pub handed : (e : Effect) → handedBack e ≡ record { outcome = e .outcome; replied = length (e .reply); gauge = e .gauge }
