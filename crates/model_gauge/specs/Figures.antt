@@ -11,7 +11,8 @@ use Rattle.protocol.specs.Window.{inWindow}
 use Rattle.engine.specs.Made.{Made, write, read}
 use Rattle.engine.specs.declared.bus.Outcome.the-variants as outcome
 use Rattle.model_gauge.specs.Frame.{wholeOf, formOf, readFrame}
-use Rattle.model_gauge.specs.Gauge.{newGauge, blockAt, replyFront, replyOf, movedOf, repliesTo, taken, untaken, heardFrame, heardRead, acts, effectOf}
+use Rattle.model_gauge.specs.Gauge.{newGauge, blockAt, replyFront, replyOf, movedOf, repliesTo, heardFrame, heardRead, acts, effectOf}
+use Rattle.model_gauge.specs.Effects.{acknowledged, refused}
 use Rattle.model_gauge.specs.declared.frame.Form.the-variants as form
 use Rattle.model_gauge.specs.declared.gauge.Fate.the-variants as fate
 use Rattle.model_gauge.specs.declared.gauge.Gauge.{Gauge}
@@ -38,11 +39,11 @@ past-end = 0x44 ∷ 4 ∷ 0xFF ∷ 0x5F ∷ 7 ∷ 7 ∷ []
 
 -- a frame that is heard sets the pointer to an address
 abbrev pub Points : List ℕ → ℕ → Type 0
-Points frame address = (gauge : Gauge) (flash : List ℕ) → effectOf fate.Heard (write frame) gauge flash ≡ taken [] (reading address) flash
+Points frame address = (gauge : Gauge) (flash : List ℕ) → effectOf fate.Heard (write frame) gauge flash ≡ acknowledged [] (reading address) flash
 
 -- a transfer that is heard is not taken
 abbrev pub Untaken : Made → Type 0
-Untaken made = (gauge : Gauge) (flash : List ℕ) → effectOf fate.Heard made gauge flash ≡ untaken gauge flash
+Untaken made = (gauge : Gauge) (flash : List ℕ) → effectOf fate.Heard made gauge flash ≡ refused gauge flash
 
 pub record Figures : Type 0 where
   -- a new gauge reads from 4000 on
@@ -64,7 +65,7 @@ pub record Figures : Type 0 where
   pub most : readFrame (sevens 34 32) ≡ form.BlockWrite 0x4000 32
   pub too-many : readFrame (sevens 35 33) ≡ form.Other
   -- what they store
-  pub one-stored : (gauge : Gauge) → effectOf fate.Heard (write (sevens 3 1)) gauge (replicate 40 0xFF) ≡ taken [] gauge (7 ∷ replicate 39 0xFF)
+  pub one-stored : (gauge : Gauge) → effectOf fate.Heard (write (sevens 3 1)) gauge (replicate 40 0xFF) ≡ acknowledged [] gauge (7 ∷ replicate 39 0xFF)
   pub most-stored : (gauge : Gauge) → effectOf fate.LostAfter (write (sevens 34 32)) gauge (replicate 40 0xFF) .flash ≡ replicate 32 7 ++ replicate 8 0xFF
   pub lost : (gauge : Gauge) → effectOf fate.LostBefore (write (sevens 34 32)) gauge (replicate 40 0xFF) .flash ≡ replicate 40 0xFF
   -- two bytes with the count of one, and with that of three

@@ -1,5 +1,6 @@
 pub mod Frame
 pub mod Gauge
+pub mod Effects
 pub mod Figures
 pub mod Untaken
 pub mod Lost

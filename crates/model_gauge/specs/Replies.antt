@@ -6,7 +6,8 @@ use mathlib.Core.List.{List, [], _∷_, _++_}
 use lib.ListN.{length, take, drop, replicate}
 use Rattle.smbus_pec.specs.Pec.{pecOf}
 use Rattle.engine.specs.Made.{read}
-use Rattle.model_gauge.specs.Gauge.{replyOf, Effect, taken, untaken, effectOf, handedBack}
+use Rattle.model_gauge.specs.Gauge.{replyOf, Effect, effectOf, handedBack}
+use Rattle.model_gauge.specs.Effects.{acknowledged, refused}
 use Rattle.model_gauge.specs.declared.gauge.Fate.{Fate}
 use Rattle.model_gauge.specs.declared.gauge.Fate.the-variants as fate
 use Rattle.model_gauge.specs.declared.gauge.Gauge.{Gauge}
@@ -18,12 +19,12 @@ said pointer flash = 0x22 ∷ pointer % 256 ∷ pointer / 256 ∷ take 32 (drop 
 -- a read that is heard is a bus error with code 0 and brings nothing, and whatever becomes of it the pointer stays
 abbrev pub Unreplied : ℕ → ℕ → Type 0
 Unreplied command count = (f : Fate) (gauge : Gauge) (flash : List ℕ)
-    → (effectOf fate.Heard (read command count) gauge flash ≡ untaken gauge flash) × (effectOf f (read command count) gauge flash .gauge ≡ gauge)
+    → (effectOf fate.Heard (read command count) gauge flash ≡ refused gauge flash) × (effectOf f (read command count) gauge flash .gauge ≡ gauge)
 
 pub record Replies : Type 0 where
   -- a read of 44 that asks for any number of bytes up to 36 is acknowledged, brings as many of the reply, and the pointer grows by 32, at most to 6000 hex
   pub asked : (count : ℕ) (gauge : Gauge) (flash : List ℕ) → count ≤ 36
-      → effectOf fate.Heard (read 0x44 count) gauge flash ≡ taken (take count (replyOf gauge flash)) (record { pointer = min (gauge .pointer + 32) 0x6000 }) flash
+      → effectOf fate.Heard (read 0x44 count) gauge flash ≡ acknowledged (take count (replyOf gauge flash)) (record { pointer = min (gauge .pointer + 32) 0x6000 }) flash
   -- one that asks for more is not replied to
   pub too-many : (count : ℕ) → 36 < count → Unreplied 0x44 count
   -- and neither is a read of any other command, whatever it asks for
