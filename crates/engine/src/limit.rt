@@ -54,7 +54,7 @@ fn commanded(input: usize, output: usize) -> Phase
 }
 
 impl Limit {
-    // What a length comes to, of data flash from this address on.
+    // What a length comes to; where there is a window, the transfer begins at this address.
     fn measure(self, start: u16, length: usize) -> Phase
         ensures { λ r. ⌜ r ≡ measured self start length ⌝ }
     {
@@ -79,7 +79,7 @@ impl Limit {
         }
     }
 
-    // A call with so many lent bytes and such a work buffer, of data flash from this address on: it waits, is done at once, or is refused.
+    // A call with so many lent bytes and such a work buffer waits, is done at once, or is refused; where there is a window, it begins at this address.
     pub fn admit(self, start: u16, length: usize, work: usize) -> Phase
         ensures { λ r. ⌜ r ≡ admitted self start length work ⌝ }
     {
