@@ -16,7 +16,6 @@ use Rattle.calls.specs.Call.{startOf}
 use Rattle.calls.specs.declared.kind.Kind.{Kind}
 use Rattle.calls.specs.declared.call.Call.{Call}
 use Rattle.calls.specs.declared.call.Reported.{Reported}
-use Rattle.requests.specs.Request.{configOf}
 use Rattle.dialogue.specs.Dialogue.{filled, byteCount, bytesIn, sayOf, lentOf, openOf, hearOf, hearBuffer, payloadIn, goOn, goBuffer}
 use Rattle.dialogue.specs.declared.Place.{Place}
 use Rattle.dialogue.proofs.Kept.{length-filled, length-heard}
@@ -38,15 +37,15 @@ drop-short k l = by (leb k (length l)) refl
         rw n (drop-length l ∙ sym (drop-of-length-le l {i = k} (omega arith)))
 
 -- a call that was started
-pub opened : (kind : Kind) (at n : ℕ) (line buffer after payload own : List ℕ) (config : Config) (call : Call) (rep : Reported)
-    → after ≡ filled n buffer → payload ≡ drop at line → own ≡ take n after → config ≡ configOf line
+pub opened : (kind : Kind) (config : Config) (at n : ℕ) (line buffer after payload own : List ℕ) (call : Call) (rep : Reported)
+    → after ≡ filled n buffer → payload ≡ drop at line → own ≡ take n after
     → call ≡ startOf kind config (length payload) (length own) 39 → rep ≡ lentOf call n (length after)
-    → sayOf rep (record { at = at; payload = length payload; buffer = n }) payload own ≡ openOf kind at n line buffer
+    → sayOf rep (record { at = at; payload = length payload; buffer = n }) payload own ≡ openOf kind config at n line buffer
 unfolding openOf
-opened kind at n line buffer after payload own config call rep a p o c s r =
+opened kind config at n line buffer after payload own call rep a p o s r =
     let m : length after ≡ length buffer = ap length a ∙ length-filled n buffer in
     let k : length own ≡ min n (length buffer) = ap length o ∙ rw (length-take, m) in
-    rw (r, s, k, m, c, p, o, a)
+    rw (r, s, k, m, p, o, a)
 
 -- a call that goes on, whose buffer is the first k bytes of those that are lent
 pub went-on : (call : Call) (place : Place) (line request buffer payload front ys : List ℕ) (rep : Reported) (k : ℕ)

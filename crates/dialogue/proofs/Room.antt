@@ -124,7 +124,7 @@ short-lines (line ∷ lines) c payload buffer rest p b =
 
 short-request : (q : Request) (bytes : List ℕ) (lines : List (List ℕ)) (rest : List ℕ) → Small (length bytes) q → AllShort (requestThen q bytes lines rest)
 unfolding requestThen callRun
-short-request (request.Call kind at n) bytes lines rest h =
+short-request (request.Call kind config at n) bytes lines rest h =
     let p : length (drop at bytes) ≤ 8192 = rw length-drop (h .0) in
     let fill : List ℕ = replicate n 0xA5 in
     let b : length fill ≤ 8192 = subst (λ (m : ℕ). m ≤ 8192) (sym (length-replicate n 0xA5)) (h .1) in

@@ -15,7 +15,7 @@ use Rattle.calls.specs.declared.call.Call.{Call}
 use Rattle.calls.specs.declared.call.Reported.{Reported}
 use Rattle.calls.specs.declared.call.Reported.the-variants as reported
 use Rattle.requests.specs.Outcome.{outcomeLine}
-use Rattle.requests.specs.Request.{bad, configOf, requestLine}
+use Rattle.requests.specs.Request.{bad, requestLine}
 use Rattle.requests.specs.declared.outcome.Told.{Told}
 use Rattle.requests.specs.declared.outcome.Told.the-variants as told
 use Rattle.requests.specs.declared.request.Request.{Request}
@@ -110,11 +110,11 @@ lent-enough call n lent h = rw (le-leb n lent h)
 begin-on : (q : Request) (l R Y B : List ℕ) (lines : List (List ℕ)) (rest : List ℕ) → Small (length l) q → ((at : ℕ) → take (length (drop at l)) (drop at R) ≡ drop at l)
     → 8193 ≤ length Y → 8192 ≤ length B → onward (dialogue.beginBy q l B) R Y (dialogue.fillBy q B) lines rest ≡ requestThen q l lines rest
 unfolding onward dialogue.beginBy dialogue.fillBy dialogue.openOf dialogue.sayOf dialogue.showOf dialogue.payloadIn thenSay requestThen callRun
-begin-on (request.Call kind at n) l R Y B lines rest small payload y b =
+begin-on (request.Call kind config at n) l R Y B lines rest small payload y b =
     let fits : n ≤ length B = omega (arith, small .1) in
     let e : min n (length B) ≡ n = omega arith in
     let k : n ≤ length (dialogue.filled n B) = rw length-filled fits in
-    let call : Call = calls.startOf kind (configOf l) (length (drop at l)) n 39 in
+    let call : Call = calls.startOf kind config (length (drop at l)) n 39 in
     let m = call-lines lines R Y (dialogue.filled n B) call (record { at = at; payload = length (drop at l); buffer = n }) rest y k in
     rw (e, lent-enough call n (length B) fits, m, payload at, filled-front n B fits)
 begin-on (request.Refused a) l R Y B lines rest small payload y b = refl

@@ -13,7 +13,7 @@ use Rattle.calls.specs.declared.call.Call.{Call}
 use Rattle.calls.specs.declared.call.Reported.{Reported}
 use Rattle.calls.specs.declared.call.Reported.the-variants as reported
 use Rattle.requests.specs.Outcome.{outcomeLine}
-use Rattle.requests.specs.Request.{configOf, requestLine}
+use Rattle.requests.specs.Request.{requestLine}
 use Rattle.requests.specs.declared.outcome.Told.{Told}
 use Rattle.requests.specs.declared.outcome.Told.the-variants as told
 use Rattle.requests.specs.declared.request.Request.{Request}
@@ -54,8 +54,8 @@ callRun call payload buffer lines rest = thenSay (lineShown call payload buffer)
 
 -- the call that a request line asks for, with its payload and a buffer of A5; the answer where it is refused
 unfoldable pub requestThen : Request → List ℕ → List (List ℕ) → List ℕ → List (List ℕ)
-requestThen (request.Call kind at n) bytes lines rest =
-    callRun (startOf kind (configOf bytes) (length (drop at bytes)) n 39) (drop at bytes) (replicate n 0xA5) lines rest
+requestThen (request.Call kind config at n) bytes lines rest =
+    callRun (startOf kind config (length (drop at bytes)) n 39) (drop at bytes) (replicate n 0xA5) lines rest
 requestThen (request.Refused a) bytes lines rest = endSaid a nothing [] ∷ []
 
 -- the bench

@@ -9,6 +9,7 @@ use Rattle.hex.specs.declared.Decoded.{Decoded}
 use Rattle.hex.specs.declared.Decoded.the-variants as decoded
 use Rattle.protocol.specs.Pick.{if_then_else_}
 use Rattle.protocol.specs.Bytes.{over}
+use Rattle.protocol.specs.declared.common.Config.{Config}
 use Rattle.protocol.specs.declared.error.Answer.the-variants as answer
 use Rattle.engine.specs.Budget.{nothing}
 use Rattle.engine.specs.declared.budget.Tally.{Tally}
@@ -20,7 +21,7 @@ use Rattle.calls.specs.declared.call.Call.{Call}
 use Rattle.calls.specs.declared.call.Reported.{Reported}
 use Rattle.calls.specs.declared.call.Reported.the-variants as reported
 use Rattle.requests.specs.Outcome.{outcomeLine}
-use Rattle.requests.specs.Request.{configOf, requestLine}
+use Rattle.requests.specs.Request.{requestLine}
 use Rattle.requests.specs.declared.outcome.Told.{Told}
 use Rattle.requests.specs.declared.outcome.Told.the-variants as told
 use Rattle.requests.specs.declared.request.Request.{Request}
@@ -110,17 +111,17 @@ unfoldable pub lentOf : Call → ℕ → ℕ → Reported
 lentOf call n lent = if leb n lent then reported.Taken call else reported.Refused answer.WrongBuffer call
 
 -- a call starts, with the rest of the line as its payload and a buffer of n bytes of those that are lent
-unfoldable pub openOf : Kind → ℕ → ℕ → List ℕ → List ℕ → Spoken
-openOf kind at n line buffer =
-    sayOf (lentOf (calls.startOf kind (configOf line) (length (drop at line)) (min n (length buffer)) 39) n (length buffer))
+unfoldable pub openOf : Kind → Config → ℕ → ℕ → List ℕ → List ℕ → Spoken
+openOf kind config at n line buffer =
+    sayOf (lentOf (calls.startOf kind config (length (drop at line)) (min n (length buffer)) 39) n (length buffer))
     (record { at = at; payload = length (drop at line); buffer = n }) (drop at line) (take n (filled n buffer))
 
 unfoldable pub beginBy : Request → List ℕ → List ℕ → Spoken
-beginBy (request.Call kind at n) line buffer = openOf kind at n line buffer
+beginBy (request.Call kind config at n) line buffer = openOf kind config at n line buffer
 beginBy (request.Refused a) line buffer = record { run = run.Fresh; saying = last (endSaid a nothing []) }
 
 unfoldable pub fillBy : Request → List ℕ → List ℕ
-fillBy (request.Call kind at n) buffer = filled n buffer
+fillBy (request.Call kind config at n) buffer = filled n buffer
 fillBy (request.Refused a) buffer = buffer
 
 -- the bytes of a request line begin a run, or are refused

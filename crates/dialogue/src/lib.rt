@@ -6,6 +6,7 @@ use engine::budget::Tally;
 use engine::bus::Transfer;
 use hex::Decoded;
 use protocol::bytes;
+use protocol::common::Config;
 use protocol::consts::LEAST_WORK_BUFFER;
 use protocol::error::Answer;
 use requests::fields;
@@ -137,14 +138,22 @@ fn lent(call: Call, len: usize, lent: usize) -> Reported
 }
 
 // A call starts. Its payload is the request line from `at` on, its buffer `len` bytes A5; where less is lent, what is lent is filled.
-fn open(kind: Kind, at: usize, len: usize, line: &[u8], buffer: &mut [u8], out: &mut [u8]) -> Turned
-    ensures { λ r. ⌜ (r ≡ turnedOf (openOf kind at len (now (line .entry)) (now (buffer .entry))) (length (now (out .entry)))) × (now (buffer .exit) ≡ filled len (now (buffer .entry))) × (now (out .exit) ≡ outPrinted (bytesSaid (openOf kind at len (now (line .entry)) (now (buffer .entry)) .saying)) (now (out .entry))) ⌝ }
+fn open(
+    kind: Kind,
+    config: Config,
+    at: usize,
+    len: usize,
+    line: &[u8],
+    buffer: &mut [u8],
+    out: &mut [u8],
+) -> Turned
+    ensures { λ r. ⌜ (r ≡ turnedOf (openOf kind config at len (now (line .entry)) (now (buffer .entry))) (length (now (out .entry)))) × (now (buffer .exit) ≡ filled len (now (buffer .entry))) × (now (out .exit) ≡ outPrinted (bytesSaid (openOf kind config at len (now (line .entry)) (now (buffer .entry)) .saying)) (now (out .entry))) ⌝ }
 {
     fill(buffer, len);
     let work = [0u8; LEAST_WORK_BUFFER];
     let payload = fields::rest(line, at);
     let own = bytes::front(buffer, len);
-    let call = Call::start(kind, request::config(line), payload, own, &work);
+    let call = Call::start(kind, config, payload, own, &work);
     let place = Place {
         at,
         payload: payload.len(),
@@ -158,7 +167,12 @@ fn begin(line: &[u8], buffer: &mut [u8], out: &mut [u8]) -> Turned
     ensures { λ r. ⌜ (r ≡ turnedOf (beginOf (now (line .entry)) (now (buffer .entry))) (length (now (out .entry)))) × (now (buffer .exit) ≡ beginBuffer (now (line .entry)) (now (buffer .entry))) × (now (out .exit) ≡ outPrinted (bytesSaid (beginOf (now (line .entry)) (now (buffer .entry)) .saying)) (now (out .entry))) ⌝ }
 {
     match request::read(line) {
-        Request::Call { kind, at, len } => open(kind, at, len, line, buffer, out),
+        Request::Call {
+            kind,
+            config,
+            at,
+            len,
+        } => open(kind, config, at, len, line, buffer, out),
         Request::Refused(answer) => Turned {
             run: Run::Fresh,
             said: Said::Last(printing::end(answer, Tally::new(), b"", out)),

@@ -6,8 +6,9 @@ use mathlib.Core.List.{List}
 use native.Mathlib.Omega.{arith}
 use lib.ListN.{length, drop, getD}
 use Rattle.protocol.specs.Pick.{if_then_else_}
+use Rattle.protocol.specs.declared.common.Config.{Config}
 use Rattle.calls.specs.declared.kind.Kind.{Kind}
-use Rattle.requests.specs.Request.{bad, callOf, exactOf, askedOf, requestLine}
+use Rattle.requests.specs.Request.{configOf, bad, calledOf, exactOf, askedOf, requestLine}
 use Rattle.requests.specs.declared.request.Request.{Request}
 
 module _ (P : Request → Type 0) (none : P bad) where
@@ -17,36 +18,38 @@ module _ (P : Request → Type 0) (none : P bad) where
   either true x y p q = p
   either false x y p q = q
 
+  -- a payload of exactly so many bytes, or not
+  exact : (c : Config) (n : ℕ) (k : Kind) (at payload size : ℕ) → P (calledOf k c at size n) → P (exactOf k c at payload size n)
+  unfolding exactOf
+  exact c n k at payload size p = either _ _ _ p none
+
   -- at most six bytes of arguments stand before a payload
-  every-kind : (args : List ℕ) → ((k : Kind) (at size : ℕ) → at ≤ 6 → P (callOf k at size (length args))) → (n : ℕ) → P (askedOf n args)
-  unfolding askedOf exactOf
-  every-kind args call n =
+  every-kind : (c : Config) (args : List ℕ) → ((k : Kind) (at size : ℕ) → at ≤ 6 → P (calledOf k c at size (length args))) → (n : ℕ) → P (askedOf n c args)
+  unfolding askedOf
+  every-kind c args call n =
       either _ _ _ (call _ _ _ (omega arith))
-      (either _ _ _ (exact _ _ _ _ (omega arith))
+      (either _ _ _ (exact _ _ _ _ _ _ (call _ _ _ (omega arith)))
       (either _ _ _ (call _ _ _ (omega arith))
-      (either _ _ _ (exact _ _ _ _ (omega arith))
+      (either _ _ _ (exact _ _ _ _ _ _ (call _ _ _ (omega arith)))
       (either _ _ _ (call _ _ _ (omega arith))
-      (either _ _ _ (exact _ _ _ _ (omega arith))
+      (either _ _ _ (exact _ _ _ _ _ _ (call _ _ _ (omega arith)))
       (either _ _ _ (call _ _ _ (omega arith))
-      (either _ _ _ (exact _ _ _ _ (omega arith))
+      (either _ _ _ (exact _ _ _ _ _ _ (call _ _ _ (omega arith)))
       (either _ _ _ (call _ _ _ (omega arith))
-      (either _ _ _ (exact _ _ _ _ (omega arith))
+      (either _ _ _ (exact _ _ _ _ _ _ (call _ _ _ (omega arith)))
       (either _ _ _ (call _ _ _ (omega arith))
-      (either _ _ _ (exact _ _ _ _ (omega arith))
+      (either _ _ _ (exact _ _ _ _ _ _ (call _ _ _ (omega arith)))
       (either _ _ _ (call _ _ _ (omega arith))
-      (either _ _ _ (exact _ _ _ _ (omega arith))
-      (either _ _ _ (exact _ _ _ _ (omega arith))
+      (either _ _ _ (exact _ _ _ _ _ _ (call _ _ _ (omega arith)))
+      (either _ _ _ (exact _ _ _ _ _ _ (call _ _ _ (omega arith)))
       (either _ _ _ (call _ _ _ (omega arith))
-      (either _ _ _ (exact _ _ _ _ (omega arith))
+      (either _ _ _ (exact _ _ _ _ _ _ (call _ _ _ (omega arith)))
       (either _ _ _ (call _ _ _ (omega arith))
-      (either _ _ _ (exact _ _ _ _ (omega arith))
-      (either _ _ _ (exact _ _ _ _ (omega arith))
+      (either _ _ _ (exact _ _ _ _ _ _ (call _ _ _ (omega arith)))
+      (either _ _ _ (exact _ _ _ _ _ _ (call _ _ _ (omega arith)))
       (either _ _ _ (call _ _ _ (omega arith))
       none))))))))))))))))))))
-    where
-      exact : (k : Kind) (at payload size : ℕ) → at ≤ 6 → P (exactOf k at payload size (length args))
-      exact k at payload size h = either _ _ _ none (either _ _ _ (call k at size h) none)
 
-  pub every-request : (line : List ℕ) → ((k : Kind) (at size : ℕ) → at ≤ 6 → P (callOf k at size (length (drop 4 line)))) → P (requestLine line)
+  pub every-request : (line : List ℕ) → ((k : Kind) (at size : ℕ) → at ≤ 6 → P (calledOf k (configOf line) at size (length (drop 4 line)))) → P (requestLine line)
   unfolding requestLine
-  every-request line call = either _ _ _ none (either _ _ _ none (every-kind (drop 4 line) call (getD line 0 0)))
+  every-request line call = either _ _ _ none (either _ _ _ none (every-kind (configOf line) (drop 4 line) call (getD line 0 0)))

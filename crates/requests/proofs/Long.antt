@@ -11,7 +11,7 @@ use Rattle.protocol.specs.Pick.{if_then_else_}
 use Rattle.protocol.proofs.Cases.{cases}
 use Rattle.calls.specs.declared.kind.Kind.{Kind}
 use Rattle.requests.specs.Outcome.{acknowledgedLine, errorLine, timeoutLine, outcomeLine}
-use Rattle.requests.specs.Request.{bad, callOf, requestLine}
+use Rattle.requests.specs.Request.{configOf, bad, calledOf, requestLine}
 use Rattle.requests.specs.declared.outcome.Told.the-variants as told
 use Rattle.requests.specs.declared.request.Request.the-variants as request
 use Rattle.requests.proofs.Every.{every-request}
@@ -24,16 +24,16 @@ either false x y z p q = q
 
 -- the longest request line is that of a command, of 8,202 bytes
 pub long-request : (line : List ℕ) → 8202 < length line → requestLine line ≡ bad
-unfolding callOf
+unfolding calledOf
 long-request line h = every-request (λ r. r ≡ bad) refl line (λ k at size few. long k at size few)
   where
     n : length (drop 4 line) ≡ length line - 4
     n = length-drop 4 line
 
-    long : (k : Kind) (at size : ℕ) → at ≤ 6 → callOf k at size (length (drop 4 line)) ≡ bad
+    long : (k : Kind) (at size : ℕ) → at ≤ 6 → calledOf k (configOf line) at size (length (drop 4 line)) ≡ bad
     long k at size few =
         let p : 8192 < length (drop 4 line) - at = omega (arith, n) in
-        let q : (if ltb 8192 (length (drop 4 line) - at) then bad else request.Call k (4 + at) size) ≡ bad = sym (search cases) in
+        let q : (if ltb 8192 (length (drop 4 line) - at) then bad else request.Call k (configOf line) (4 + at) size) ≡ bad = sym (search cases) in
         either (ltb 8192 size) _ _ _ refl (either (ltb (length (drop 4 line)) at) _ _ _ refl q)
 
 long-acknowledged : (n : ℕ) → 8193 < n → acknowledgedLine n ≡ told.Bad

@@ -10,14 +10,14 @@ use lib.Dec.{ltb}
 use borrow.Author.Tests.{ltb-false}
 use Rattle.protocol.specs.Pick.{if_then_else_}
 use Rattle.calls.specs.declared.kind.Kind.{Kind}
-use Rattle.requests.specs.Request.{bad, callOf, requestLine}
+use Rattle.requests.specs.Request.{configOf, bad, calledOf, requestLine}
 use Rattle.requests.specs.declared.request.Request.{Request}
 use Rattle.requests.specs.declared.request.Request.the-variants as request
 use Rattle.requests.proofs.Every.{every-request}
 
 -- of a line of n bytes; what is no request counts as small
 abbrev pub Small : ℕ → Request → Type 0
-Small n (request.Call k at size) = (n - at ≤ 8192) × (size ≤ 8192)
+Small n (request.Call k c at size) = (n - at ≤ 8192) × (size ≤ 8192)
 Small n (request.Refused a) = Unit {0}
 
 -- where the test is false, the other one
@@ -27,10 +27,10 @@ otherwise n true y q = tt
 otherwise n false y q = q refl
 
 pub small-request : (line : List ℕ) → Small (length line) (requestLine line)
-unfolding callOf
+unfolding calledOf
 small-request line = every-request (Small (length line)) tt line (λ k at size few. small k at size)
   where
-    small : (k : Kind) (at size : ℕ) → Small (length line) (callOf k at size (length (drop 4 line)))
+    small : (k : Kind) (at size : ℕ) → Small (length line) (calledOf k (configOf line) at size (length (drop 4 line)))
     small k at size =
         otherwise (length line) (ltb 8192 size) _ (λ s. otherwise (length line) (ltb (length (drop 4 line)) at) _ (λ e. otherwise (length line) (ltb 8192 (length (drop 4 line) - at)) _
         (λ p. (omega (arith, ltb-false 8192 (length (drop 4 line) - at) p, length-drop 4 line), ltb-false 8192 size s))))

@@ -2,7 +2,7 @@
 -- Assumes nothing.
 use Prim.Native.Nat.{ℕ}
 use mathlib.Core.Path.{_≡_, refl}
-use mathlib.Core.Bool.{true, false}
+use mathlib.Core.Bool.{Bool, true, false}
 use mathlib.Core.List.{List, [], _∷_}
 use lib.ListN.{replicate}
 use Rattle.protocol.specs.Pick.{if_then_else_}
@@ -10,7 +10,7 @@ use Rattle.protocol.specs.declared.common.Config.{Config}
 use Rattle.engine.specs.declared.bus.Outcome.the-variants as outcome
 use Rattle.calls.specs.declared.kind.Kind.the-variants as kind
 use Rattle.requests.specs.Fields.{pairAt, quadAt}
-use Rattle.requests.specs.Request.{configOf, bad, callOf, exactOf, askedOf, requestLine}
+use Rattle.requests.specs.Request.{configOf, bad, calledOf, exactOf, askedOf, requestLine}
 use Rattle.requests.specs.Outcome.{acknowledgedLine, errorLine, timeoutLine, outcomeLine}
 use Rattle.requests.specs.declared.outcome.Told.{Told}
 use Rattle.requests.specs.declared.outcome.Told.the-variants as told
@@ -22,8 +22,14 @@ pub data Figure : Type 0 where
   asks : List ℕ → Request → Figure
   -- an outcome line's bytes, and what it says
   says : List ℕ → Told → Figure
-  -- a request line's bytes, and its settings
-  sets : List ℕ → Config → Figure
+
+-- retries, the PEC of writes and that of reads
+abbrev settings : ℕ → Bool → Bool → Config
+settings n w r = record { «max_bus_retries» = n; «pec_write» = w; «pec_read» = r }
+
+-- no PEC and no retries
+abbrev plain : Config
+plain = settings 0 false false
 
 -- a kind, no flags, no retries, and its arguments
 abbrev line : ℕ → List ℕ → List ℕ
@@ -31,36 +37,36 @@ line kind arguments = kind ∷ 0x00 ∷ 0x00 ∷ 0x00 ∷ arguments
 
 abbrev pub figures : List Figure
 figures =
-    asks (line 0x01 (0x34 ∷ 0x12 ∷ 0xAA ∷ 0xBB ∷ [])) (request.Call (kind.WriteDataflash 0x1234) 6 0)
-    ∷ asks (line 0x02 (0x34 ∷ 0x12 ∷ 0x02 ∷ 0x01 ∷ [])) (request.Call (kind.ReadDataflash 0x1234) 8 0x0102)
-    ∷ asks (line 0x03 (0x12 ∷ 0xAA ∷ [])) (request.Call (kind.WriteRegister 0x12) 5 0)
-    ∷ asks (line 0x04 (0x12 ∷ 0x02 ∷ 0x01 ∷ [])) (request.Call (kind.ReadRegister 0x12) 7 0x0102)
-    ∷ asks (line 0x05 (0x78 ∷ 0x56 ∷ 0x34 ∷ 0x12 ∷ 0x02 ∷ 0x01 ∷ 0xAA ∷ [])) (request.Call (kind.DispatchCommand 0x12345678) 10 0x0102)
-    ∷ asks (line 0x06 (0x12 ∷ 0x02 ∷ 0x01 ∷ [])) (request.Call (kind.ReadBuffer 0x12) 7 0x0102)
-    ∷ asks (line 0x07 (0x12 ∷ 0xAA ∷ [])) (request.Call (kind.WriteBuffer 0x12) 5 0)
-    ∷ asks (line 0x08 []) (request.Call kind.ReadSecurityKeys 4 28)
-    ∷ asks (line 0x09 (0xAA ∷ [])) (request.Call kind.WriteSecurityKeys 4 0)
-    ∷ asks (line 0x0A []) (request.Call kind.ReadAuthenticationKey 4 16)
-    ∷ asks (line 0x0B (0xAA ∷ [])) (request.Call kind.WriteAuthenticationKey 4 0)
-    ∷ asks (line 0x0C (0x12 ∷ 0x02 ∷ 0x01 ∷ [])) (request.Call (kind.ReadRegisterUnchecked 0x12) 7 0x0102)
-    ∷ asks (line 0x0D (0x12 ∷ 0xAA ∷ [])) (request.Call (kind.WriteRegisterUnchecked 0x12) 5 0)
-    ∷ asks (line 0x0E (0x34 ∷ 0x12 ∷ 0x78 ∷ 0x56 ∷ [])) (request.Call (kind.SendAccessKey 0x1234 0x5678) 8 0)
-    ∷ asks (line 0x0F (0x02 ∷ 0x01 ∷ [])) (request.Call kind.ReadMfgInfoC 6 0x0102)
-    ∷ asks (line 0x10 (0x34 ∷ 0x12 ∷ 0x78 ∷ 0x56 ∷ 0xAA ∷ [])) (request.Call (kind.WriteMfgInfoC 0x1234 0x5678) 8 0)
-    ∷ asks (line 0x11 (0x02 ∷ 0x01 ∷ [])) (request.Call kind.ReadMfgInfo 6 0x0102)
-    ∷ asks (line 0x12 (0xAA ∷ [])) (request.Call kind.WriteMfgInfo 4 0)
-    ∷ asks (line 0x13 []) (request.Call kind.ReadChargingVoltageOverride 4 10)
-    ∷ asks (line 0x14 (replicate 10 0xAA)) (request.Call kind.WriteChargingVoltageOverride 4 0)
-    ∷ asks (line 0x15 (0xAA ∷ [])) (request.Call kind.WriteWithRetries 4 0)
+    asks (line 0x01 (0x34 ∷ 0x12 ∷ 0xAA ∷ 0xBB ∷ [])) (request.Call (kind.WriteDataflash 0x1234) plain 6 0)
+    ∷ asks (line 0x02 (0x34 ∷ 0x12 ∷ 0x02 ∷ 0x01 ∷ [])) (request.Call (kind.ReadDataflash 0x1234) plain 8 0x0102)
+    ∷ asks (line 0x03 (0x12 ∷ 0xAA ∷ [])) (request.Call (kind.WriteRegister 0x12) plain 5 0)
+    ∷ asks (line 0x04 (0x12 ∷ 0x02 ∷ 0x01 ∷ [])) (request.Call (kind.ReadRegister 0x12) plain 7 0x0102)
+    ∷ asks (line 0x05 (0x78 ∷ 0x56 ∷ 0x34 ∷ 0x12 ∷ 0x02 ∷ 0x01 ∷ 0xAA ∷ [])) (request.Call (kind.DispatchCommand 0x12345678) plain 10 0x0102)
+    ∷ asks (line 0x06 (0x12 ∷ 0x02 ∷ 0x01 ∷ [])) (request.Call (kind.ReadBuffer 0x12) plain 7 0x0102)
+    ∷ asks (line 0x07 (0x12 ∷ 0xAA ∷ [])) (request.Call (kind.WriteBuffer 0x12) plain 5 0)
+    ∷ asks (line 0x08 []) (request.Call kind.ReadSecurityKeys plain 4 28)
+    ∷ asks (line 0x09 (0xAA ∷ [])) (request.Call kind.WriteSecurityKeys plain 4 0)
+    ∷ asks (line 0x0A []) (request.Call kind.ReadAuthenticationKey plain 4 16)
+    ∷ asks (line 0x0B (0xAA ∷ [])) (request.Call kind.WriteAuthenticationKey plain 4 0)
+    ∷ asks (line 0x0C (0x12 ∷ 0x02 ∷ 0x01 ∷ [])) (request.Call (kind.ReadRegisterUnchecked 0x12) plain 7 0x0102)
+    ∷ asks (line 0x0D (0x12 ∷ 0xAA ∷ [])) (request.Call (kind.WriteRegisterUnchecked 0x12) plain 5 0)
+    ∷ asks (line 0x0E (0x34 ∷ 0x12 ∷ 0x78 ∷ 0x56 ∷ [])) (request.Call (kind.SendAccessKey 0x1234 0x5678) plain 8 0)
+    ∷ asks (line 0x0F (0x02 ∷ 0x01 ∷ [])) (request.Call kind.ReadMfgInfoC plain 6 0x0102)
+    ∷ asks (line 0x10 (0x34 ∷ 0x12 ∷ 0x78 ∷ 0x56 ∷ 0xAA ∷ [])) (request.Call (kind.WriteMfgInfoC 0x1234 0x5678) plain 8 0)
+    ∷ asks (line 0x11 (0x02 ∷ 0x01 ∷ [])) (request.Call kind.ReadMfgInfo plain 6 0x0102)
+    ∷ asks (line 0x12 (0xAA ∷ [])) (request.Call kind.WriteMfgInfo plain 4 0)
+    ∷ asks (line 0x13 []) (request.Call kind.ReadChargingVoltageOverride plain 4 10)
+    ∷ asks (line 0x14 (replicate 10 0xAA)) (request.Call kind.WriteChargingVoltageOverride plain 4 0)
+    ∷ asks (line 0x15 (0xAA ∷ [])) (request.Call kind.WriteWithRetries plain 4 0)
     -- no such kind, a third flag, a header cut short
     ∷ asks (line 0x00 []) bad
     ∷ asks (line 0x16 []) bad
-    ∷ asks (0x08 ∷ 0x03 ∷ 0x00 ∷ 0x00 ∷ []) (request.Call kind.ReadSecurityKeys 4 28)
+    ∷ asks (0x08 ∷ 0x03 ∷ 0x00 ∷ 0x00 ∷ []) (request.Call kind.ReadSecurityKeys (settings 0 true true) 4 28)
     ∷ asks (0x08 ∷ 0x04 ∷ 0x00 ∷ 0x00 ∷ []) bad
     ∷ asks (0x08 ∷ 0x00 ∷ 0x00 ∷ []) bad
     -- arguments that are missing, or too many
     ∷ asks (line 0x01 (0x34 ∷ [])) bad
-    ∷ asks (line 0x01 (0x34 ∷ 0x12 ∷ [])) (request.Call (kind.WriteDataflash 0x1234) 6 0)
+    ∷ asks (line 0x01 (0x34 ∷ 0x12 ∷ [])) (request.Call (kind.WriteDataflash 0x1234) plain 6 0)
     ∷ asks (line 0x02 (0x34 ∷ 0x12 ∷ 0x02 ∷ [])) bad
     ∷ asks (line 0x02 (0x34 ∷ 0x12 ∷ 0x02 ∷ 0x01 ∷ 0x00 ∷ [])) bad
     ∷ asks (line 0x08 (0x00 ∷ [])) bad
@@ -77,17 +83,17 @@ figures =
     ∷ asks (line 0x10 (0x34 ∷ 0x12 ∷ 0x78 ∷ [])) bad
     ∷ asks (line 0x11 (0x02 ∷ 0x01 ∷ 0x00 ∷ [])) bad
     -- a payload, an input or a read length of 8,192 bytes, and of one more
-    ∷ asks (line 0x01 (0x34 ∷ 0x12 ∷ replicate 8192 0xAA)) (request.Call (kind.WriteDataflash 0x1234) 6 0)
+    ∷ asks (line 0x01 (0x34 ∷ 0x12 ∷ replicate 8192 0xAA)) (request.Call (kind.WriteDataflash 0x1234) plain 6 0)
     ∷ asks (line 0x01 (0x34 ∷ 0x12 ∷ replicate 8193 0xAA)) bad
-    ∷ asks (line 0x02 (0x34 ∷ 0x12 ∷ 0x00 ∷ 0x20 ∷ [])) (request.Call (kind.ReadDataflash 0x1234) 8 8192)
+    ∷ asks (line 0x02 (0x34 ∷ 0x12 ∷ 0x00 ∷ 0x20 ∷ [])) (request.Call (kind.ReadDataflash 0x1234) plain 8 8192)
     ∷ asks (line 0x02 (0x34 ∷ 0x12 ∷ 0x01 ∷ 0x20 ∷ [])) bad
-    ∷ asks (line 0x05 (0x78 ∷ 0x56 ∷ 0x34 ∷ 0x12 ∷ 0x00 ∷ 0x20 ∷ [])) (request.Call (kind.DispatchCommand 0x12345678) 10 8192)
+    ∷ asks (line 0x05 (0x78 ∷ 0x56 ∷ 0x34 ∷ 0x12 ∷ 0x00 ∷ 0x20 ∷ [])) (request.Call (kind.DispatchCommand 0x12345678) plain 10 8192)
     ∷ asks (line 0x05 (0x78 ∷ 0x56 ∷ 0x34 ∷ 0x12 ∷ 0x01 ∷ 0x20 ∷ [])) bad
-    ∷ asks (line 0x15 (replicate 8192 0xAA)) (request.Call kind.WriteWithRetries 4 0)
+    ∷ asks (line 0x15 (replicate 8192 0xAA)) (request.Call kind.WriteWithRetries plain 4 0)
     ∷ asks (line 0x15 (replicate 8193 0xAA)) bad
-    ∷ asks (line 0x05 (0x78 ∷ 0x56 ∷ 0x34 ∷ 0x12 ∷ 0x00 ∷ 0x00 ∷ replicate 8192 0xAA)) (request.Call (kind.DispatchCommand 0x12345678) 10 0)
+    ∷ asks (line 0x05 (0x78 ∷ 0x56 ∷ 0x34 ∷ 0x12 ∷ 0x00 ∷ 0x00 ∷ replicate 8192 0xAA)) (request.Call (kind.DispatchCommand 0x12345678) plain 10 0)
     ∷ asks (line 0x05 (0x78 ∷ 0x56 ∷ 0x34 ∷ 0x12 ∷ 0x00 ∷ 0x00 ∷ replicate 8193 0xAA)) bad
-    ∷ asks (line 0x06 (0x12 ∷ 0x00 ∷ 0x20 ∷ [])) (request.Call (kind.ReadBuffer 0x12) 7 8192)
+    ∷ asks (line 0x06 (0x12 ∷ 0x00 ∷ 0x20 ∷ [])) (request.Call (kind.ReadBuffer 0x12) plain 7 8192)
     ∷ asks (line 0x06 (0x12 ∷ 0x01 ∷ 0x20 ∷ [])) bad
     -- outcomes
     ∷ says (0x00 ∷ []) (told.Outcome outcome.Acknowledged)
@@ -101,10 +107,10 @@ figures =
     ∷ says (0x03 ∷ []) told.Bad
     ∷ says [] told.Bad
     -- settings: the retries low byte first, bit 0 the PEC of writes, bit 1 that of reads
-    ∷ sets (0x08 ∷ 0x01 ∷ 0x02 ∷ 0x01 ∷ []) (record { «max_bus_retries» = 0x0102; «pec_write» = true; «pec_read» = false })
-    ∷ sets (0x08 ∷ 0x02 ∷ 0xFF ∷ 0xFF ∷ []) (record { «max_bus_retries» = 65535; «pec_write» = false; «pec_read» = true })
-    ∷ sets (0x08 ∷ 0x03 ∷ 0x00 ∷ 0x00 ∷ []) (record { «max_bus_retries» = 0; «pec_write» = true; «pec_read» = true })
-    ∷ sets (0x08 ∷ 0x00 ∷ 0x00 ∷ 0x00 ∷ []) (record { «max_bus_retries» = 0; «pec_write» = false; «pec_read» = false })
+    ∷ asks (0x08 ∷ 0x01 ∷ 0x02 ∷ 0x01 ∷ []) (request.Call kind.ReadSecurityKeys (settings 0x0102 true false) 4 28)
+    ∷ asks (0x08 ∷ 0x02 ∷ 0xFF ∷ 0xFF ∷ []) (request.Call kind.ReadSecurityKeys (settings 65535 false true) 4 28)
+    ∷ asks (0x08 ∷ 0x03 ∷ 0x00 ∷ 0x00 ∷ []) (request.Call kind.ReadSecurityKeys (settings 0 true true) 4 28)
+    ∷ asks (0x08 ∷ 0x00 ∷ 0x00 ∷ 0x00 ∷ []) (request.Call kind.ReadSecurityKeys (settings 0 false false) 4 28)
     ∷ []
 
 -- the definitions give each figure
@@ -112,8 +118,7 @@ abbrev pub Hold : List Figure → Type 0
 Hold [] = Unit {0}
 Hold (asks s r ∷ more) = (requestLine s ≡ r) × Hold more
 Hold (says s t ∷ more) = (outcomeLine s ≡ t) × Hold more
-Hold (sets s c ∷ more) = (configOf s ≡ c) × Hold more
 
 pub figures-hold : Hold figures
-unfolding pairAt quadAt configOf callOf exactOf askedOf requestLine acknowledgedLine errorLine timeoutLine outcomeLine if_then_else_
+unfolding pairAt quadAt configOf calledOf exactOf askedOf requestLine acknowledgedLine errorLine timeoutLine outcomeLine if_then_else_
 figures-hold = (refl, (refl, (refl, (refl, (refl, (refl, (refl, (refl, (refl, (refl, (refl, (refl, (refl, (refl, (refl, (refl, (refl, (refl, (refl, (refl, (refl, (refl, (refl, (refl, (refl, (refl, (refl, (refl, (refl, (refl, (refl, (refl, (refl, (refl, (refl, (refl, (refl, (refl, (refl, (refl, (refl, (refl, (refl, (refl, (refl, (refl, (refl, (refl, (refl, (refl, (refl, (refl, (refl, (refl, (refl, (refl, (refl, (refl, (refl, (refl, (refl, (refl, (refl, (refl, (refl, (refl, (refl, (refl, (refl, tt)))))))))))))))))))))))))))))))))))))))))))))))))))))))))))))))))))))

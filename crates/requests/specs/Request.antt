@@ -26,38 +26,38 @@ abbrev pub bad : Request
 bad = request.Refused answer.BadLine
 
 -- a buffer of so many bytes, and a payload that is what follows `at` of n bytes of arguments: each at most 8,192
-unfoldable pub callOf : Kind → ℕ → ℕ → ℕ → Request
-callOf k at size n = if ltb 8192 size then bad else if ltb n at then bad else if ltb 8192 (n - at) then bad else request.Call k (4 + at) size
+unfoldable pub calledOf : Kind → Config → ℕ → ℕ → ℕ → Request
+calledOf k c at size n = if ltb 8192 size then bad else if ltb n at then bad else if ltb 8192 (n - at) then bad else request.Call k c (4 + at) size
 
 -- the same with a payload of exactly so many bytes
-unfoldable pub exactOf : Kind → ℕ → ℕ → ℕ → ℕ → Request
-exactOf k at payload size n = if ltb n at then bad else if eqb (n - at) payload then callOf k at size n else bad
+unfoldable pub exactOf : Kind → Config → ℕ → ℕ → ℕ → ℕ → Request
+exactOf k c at payload size n = if eqb n (at + payload) then calledOf k c at size n else bad
 
 -- the kinds by their numbers: the arguments before the payload, the payload where its length is fixed, and the buffer
-unfoldable pub askedOf : ℕ → List ℕ → Request
-askedOf k args =
-    if eqb k 0x01 then callOf (kind.WriteDataflash (pairAt 0 args)) 2 0 (length args) else
-    if eqb k 0x02 then exactOf (kind.ReadDataflash (pairAt 0 args)) 4 0 (pairAt 2 args) (length args) else
-    if eqb k 0x03 then callOf (kind.WriteRegister (getD args 0 0)) 1 0 (length args) else
-    if eqb k 0x04 then exactOf (kind.ReadRegister (getD args 0 0)) 3 0 (pairAt 1 args) (length args) else
-    if eqb k 0x05 then callOf (kind.DispatchCommand (quadAt 0 args)) 6 (pairAt 4 args) (length args) else
-    if eqb k 0x06 then exactOf (kind.ReadBuffer (getD args 0 0)) 3 0 (pairAt 1 args) (length args) else
-    if eqb k 0x07 then callOf (kind.WriteBuffer (getD args 0 0)) 1 0 (length args) else
-    if eqb k 0x08 then exactOf kind.ReadSecurityKeys 0 0 28 (length args) else
-    if eqb k 0x09 then callOf kind.WriteSecurityKeys 0 0 (length args) else
-    if eqb k 0x0A then exactOf kind.ReadAuthenticationKey 0 0 16 (length args) else
-    if eqb k 0x0B then callOf kind.WriteAuthenticationKey 0 0 (length args) else
-    if eqb k 0x0C then exactOf (kind.ReadRegisterUnchecked (getD args 0 0)) 3 0 (pairAt 1 args) (length args) else
-    if eqb k 0x0D then callOf (kind.WriteRegisterUnchecked (getD args 0 0)) 1 0 (length args) else
-    if eqb k 0x0E then exactOf (kind.SendAccessKey (pairAt 0 args) (pairAt 2 args)) 4 0 0 (length args) else
-    if eqb k 0x0F then exactOf kind.ReadMfgInfoC 2 0 (pairAt 0 args) (length args) else
-    if eqb k 0x10 then callOf (kind.WriteMfgInfoC (pairAt 0 args) (pairAt 2 args)) 4 0 (length args) else
-    if eqb k 0x11 then exactOf kind.ReadMfgInfo 2 0 (pairAt 0 args) (length args) else
-    if eqb k 0x12 then callOf kind.WriteMfgInfo 0 0 (length args) else
-    if eqb k 0x13 then exactOf kind.ReadChargingVoltageOverride 0 0 10 (length args) else
-    if eqb k 0x14 then exactOf kind.WriteChargingVoltageOverride 0 10 0 (length args) else
-    if eqb k 0x15 then callOf kind.WriteWithRetries 0 0 (length args) else bad
+unfoldable pub askedOf : ℕ → Config → List ℕ → Request
+askedOf k c args =
+    if eqb k 0x01 then calledOf (kind.WriteDataflash (pairAt 0 args)) c 2 0 (length args) else
+    if eqb k 0x02 then exactOf (kind.ReadDataflash (pairAt 0 args)) c 4 0 (pairAt 2 args) (length args) else
+    if eqb k 0x03 then calledOf (kind.WriteRegister (getD args 0 0)) c 1 0 (length args) else
+    if eqb k 0x04 then exactOf (kind.ReadRegister (getD args 0 0)) c 3 0 (pairAt 1 args) (length args) else
+    if eqb k 0x05 then calledOf (kind.DispatchCommand (quadAt 0 args)) c 6 (pairAt 4 args) (length args) else
+    if eqb k 0x06 then exactOf (kind.ReadBuffer (getD args 0 0)) c 3 0 (pairAt 1 args) (length args) else
+    if eqb k 0x07 then calledOf (kind.WriteBuffer (getD args 0 0)) c 1 0 (length args) else
+    if eqb k 0x08 then exactOf kind.ReadSecurityKeys c 0 0 28 (length args) else
+    if eqb k 0x09 then calledOf kind.WriteSecurityKeys c 0 0 (length args) else
+    if eqb k 0x0A then exactOf kind.ReadAuthenticationKey c 0 0 16 (length args) else
+    if eqb k 0x0B then calledOf kind.WriteAuthenticationKey c 0 0 (length args) else
+    if eqb k 0x0C then exactOf (kind.ReadRegisterUnchecked (getD args 0 0)) c 3 0 (pairAt 1 args) (length args) else
+    if eqb k 0x0D then calledOf (kind.WriteRegisterUnchecked (getD args 0 0)) c 1 0 (length args) else
+    if eqb k 0x0E then exactOf (kind.SendAccessKey (pairAt 0 args) (pairAt 2 args)) c 4 0 0 (length args) else
+    if eqb k 0x0F then exactOf kind.ReadMfgInfoC c 2 0 (pairAt 0 args) (length args) else
+    if eqb k 0x10 then calledOf (kind.WriteMfgInfoC (pairAt 0 args) (pairAt 2 args)) c 4 0 (length args) else
+    if eqb k 0x11 then exactOf kind.ReadMfgInfo c 2 0 (pairAt 0 args) (length args) else
+    if eqb k 0x12 then calledOf kind.WriteMfgInfo c 0 0 (length args) else
+    if eqb k 0x13 then exactOf kind.ReadChargingVoltageOverride c 0 0 10 (length args) else
+    if eqb k 0x14 then exactOf kind.WriteChargingVoltageOverride c 0 10 0 (length args) else
+    if eqb k 0x15 then calledOf kind.WriteWithRetries c 0 0 (length args) else bad
 
--- kind, flags of bits 0 and 1 only, retries, arguments
+-- kind, flags of bits 0 and 1 only, retries, arguments: what the kind asks for under those settings
 unfoldable pub requestLine : List ℕ → Request
-requestLine line = if ltb (length line) 4 then bad else if ltb 3 (getD line 1 0) then bad else askedOf (getD line 0 0) (drop 4 line)
+requestLine line = if ltb (length line) 4 then bad else if ltb 3 (getD line 1 0) then bad else askedOf (getD line 0 0) (configOf line) (drop 4 line)

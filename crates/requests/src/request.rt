@@ -10,8 +10,9 @@ use protocol::consts::CHRG_VOLTAGE_OVERRIDE_SIZE_BYTES;
 use protocol::consts::SECURITY_KEYS_R5_DATA_LEN_BYTES;
 use protocol::error::Answer;
 ghost use mathlib.Core.Path.{_≡_};
+ghost use Prim.Native.Nat.{_<_};
 ghost use lib.ListN.{length};
-ghost use Rattle.requests.specs.Request.{configOf, callOf, exactOf, askedOf, requestLine};
+ghost use Rattle.requests.specs.Request.{configOf, calledOf, exactOf, askedOf, requestLine};
 
 // A payload, an input, a buffer and a reply have at most so many bytes.
 pub const MOST_BYTES: usize = 8192;
@@ -27,27 +28,20 @@ pub const LONGEST_REQUEST: usize = HEADER_BYTES + INPUT_AT + MOST_BYTES;
 
 // What a request line asks for.
 pub enum Request {
-    // A call: its payload, or a command's input, is the line from byte `at` on, and its buffer has `len` bytes, none where it reads nothing.
-    Call { kind: Kind, at: usize, len: usize },
+    // A call with its settings: its payload, or a command's input, is the line from byte `at` on, and its buffer has `len` bytes, none where it reads nothing.
+    Call {
+        kind: Kind,
+        config: Config,
+        at: usize,
+        len: usize,
+    },
     // Nothing: the answer is why.
     Refused(Answer),
 }
 
-// The settings that a request line gives.
-pub fn config(line: &[u8]) -> Config
-    ensures { λ r. ⌜ r ≡ configOf (now (line .entry)) ⌝ }
-{
-    let flags = byte(line, 1);
-    Config {
-        max_bus_retries: pair(line, 2),
-        pec_write: flags % 2 == 1,
-        pec_read: flags / 2 % 2 == 1,
-    }
-}
-
 // A call with a buffer of `len` bytes, whose payload is what follows `at` bytes of its arguments; each has at most `MOST_BYTES`.
-fn call(kind: Kind, at: usize, len: usize, args: &[u8]) -> Request
-    ensures { λ r. ⌜ r ≡ callOf kind at len (length (now (args .entry))) ⌝ }
+fn call(kind: Kind, config: Config, at: usize, len: usize, args: &[u8]) -> Request
+    ensures { λ r. ⌜ r ≡ calledOf kind config at len (length (now (args .entry))) ⌝ }
 {
     if MOST_BYTES < len {
         return Request::Refused(Answer::BadLine);
@@ -60,41 +54,42 @@ fn call(kind: Kind, at: usize, len: usize, args: &[u8]) -> Request
     }
     Request::Call {
         kind,
+        config,
         at: HEADER_BYTES + at,
         len,
     }
 }
 
 // A call whose payload has exactly so many bytes.
-fn exact(kind: Kind, at: usize, payload: usize, len: usize, args: &[u8]) -> Request
-    ensures { λ r. ⌜ r ≡ exactOf kind at payload len (length (now (args .entry))) ⌝ }
+fn exact(kind: Kind, config: Config, at: usize, payload: usize, len: usize, args: &[u8]) -> Request
+    requires { ⌜ at < 256 ⌝ ∗ ⌜ payload < 256 ⌝ }
+    ensures { λ r. ⌜ r ≡ exactOf kind config at payload len (length (now (args .entry))) ⌝ }
 {
-    if args.len() < at {
-        return Request::Refused(Answer::BadLine);
-    }
-    if args.len() - at == payload {
-        call(kind, at, len, args)
+    if args.len() == at + payload {
+        call(kind, config, at, len, args)
     } else {
         Request::Refused(Answer::BadLine)
     }
 }
 
-// What a kind asks for, by its number and its arguments.
-fn asked(kind: u8, args: &[u8]) -> Request
-    ensures { λ r. ⌜ r ≡ askedOf kind (now (args .entry)) ⌝ }
+// What a kind asks for, by its number, the settings and its arguments.
+fn asked(kind: u8, config: Config, args: &[u8]) -> Request
+    ensures { λ r. ⌜ r ≡ askedOf kind config (now (args .entry)) ⌝ }
 {
     match kind {
-        0x01 => call(Kind::WriteDataflash(pair(args, 0)), 2, 0, args),
+        0x01 => call(Kind::WriteDataflash(pair(args, 0)), config, 2, 0, args),
         0x02 => exact(
             Kind::ReadDataflash(pair(args, 0)),
+            config,
             4,
             0,
             pair(args, 2) as usize,
             args,
         ),
-        0x03 => call(Kind::WriteRegister(byte(args, 0)), 1, 0, args),
+        0x03 => call(Kind::WriteRegister(byte(args, 0)), config, 1, 0, args),
         0x04 => exact(
             Kind::ReadRegister(byte(args, 0)),
+            config,
             3,
             0,
             pair(args, 1) as usize,
@@ -102,66 +97,94 @@ fn asked(kind: u8, args: &[u8]) -> Request
         ),
         0x05 => call(
             Kind::DispatchCommand(quad(args, 0)),
+            config,
             INPUT_AT,
             pair(args, 4) as usize,
             args,
         ),
         0x06 => exact(
             Kind::ReadBuffer(byte(args, 0)),
+            config,
             3,
             0,
             pair(args, 1) as usize,
             args,
         ),
-        0x07 => call(Kind::WriteBuffer(byte(args, 0)), 1, 0, args),
+        0x07 => call(Kind::WriteBuffer(byte(args, 0)), config, 1, 0, args),
         0x08 => exact(
             Kind::ReadSecurityKeys,
+            config,
             0,
             0,
             SECURITY_KEYS_R5_DATA_LEN_BYTES,
             args,
         ),
-        0x09 => call(Kind::WriteSecurityKeys, 0, 0, args),
+        0x09 => call(Kind::WriteSecurityKeys, config, 0, 0, args),
         0x0A => exact(
             Kind::ReadAuthenticationKey,
+            config,
             0,
             0,
             AUTH_KEY_DATA_LEN_BYTES,
             args,
         ),
-        0x0B => call(Kind::WriteAuthenticationKey, 0, 0, args),
+        0x0B => call(Kind::WriteAuthenticationKey, config, 0, 0, args),
         0x0C => exact(
             Kind::ReadRegisterUnchecked(byte(args, 0)),
+            config,
             3,
             0,
             pair(args, 1) as usize,
             args,
         ),
-        0x0D => call(Kind::WriteRegisterUnchecked(byte(args, 0)), 1, 0, args),
+        0x0D => call(
+            Kind::WriteRegisterUnchecked(byte(args, 0)),
+            config,
+            1,
+            0,
+            args,
+        ),
         0x0E => exact(
             Kind::SendAccessKey {
                 lower: pair(args, 0),
                 upper: pair(args, 2),
             },
+            config,
             4,
             0,
             0,
             args,
         ),
-        0x0F => exact(Kind::ReadMfgInfoC, 2, 0, pair(args, 0) as usize, args),
+        0x0F => exact(
+            Kind::ReadMfgInfoC,
+            config,
+            2,
+            0,
+            pair(args, 0) as usize,
+            args,
+        ),
         0x10 => call(
             Kind::WriteMfgInfoC {
                 lower: pair(args, 0),
                 upper: pair(args, 2),
             },
+            config,
             4,
             0,
             args,
         ),
-        0x11 => exact(Kind::ReadMfgInfo, 2, 0, pair(args, 0) as usize, args),
-        0x12 => call(Kind::WriteMfgInfo, 0, 0, args),
+        0x11 => exact(
+            Kind::ReadMfgInfo,
+            config,
+            2,
+            0,
+            pair(args, 0) as usize,
+            args,
+        ),
+        0x12 => call(Kind::WriteMfgInfo, config, 0, 0, args),
         0x13 => exact(
             Kind::ReadChargingVoltageOverride,
+            config,
             0,
             0,
             CHRG_VOLTAGE_OVERRIDE_SIZE_BYTES,
@@ -169,13 +192,26 @@ fn asked(kind: u8, args: &[u8]) -> Request
         ),
         0x14 => exact(
             Kind::WriteChargingVoltageOverride,
+            config,
             0,
             CHRG_VOLTAGE_OVERRIDE_SIZE_BYTES,
             0,
             args,
         ),
-        0x15 => call(Kind::WriteWithRetries, 0, 0, args),
+        0x15 => call(Kind::WriteWithRetries, config, 0, 0, args),
         _ => Request::Refused(Answer::BadLine),
+    }
+}
+
+// The settings that a request line gives.
+fn config(line: &[u8]) -> Config
+    ensures { λ r. ⌜ r ≡ configOf (now (line .entry)) ⌝ }
+{
+    let flags = byte(line, 1);
+    Config {
+        max_bus_retries: pair(line, 2),
+        pec_write: flags % 2 == 1,
+        pec_read: flags / 2 % 2 == 1,
     }
 }
 
@@ -189,5 +225,5 @@ pub fn read(line: &[u8]) -> Request
     if 3 < byte(line, 1) {
         return Request::Refused(Answer::BadLine);
     }
-    asked(byte(line, 0), rest(line, HEADER_BYTES))
+    asked(byte(line, 0), config(line), rest(line, HEADER_BYTES))
 }

@@ -34,7 +34,7 @@ length-reply (run.Call call place) line Y = length-decoded line Y
 
 length-begin : (q : Request) (B : List ℕ) → length (dialogue.fillBy q B) ≡ length B
 unfolding dialogue.fillBy
-length-begin (request.Call kind at n) B = length-filled n B
+length-begin (request.Call kind config at n) B = length-filled n B
 length-begin (request.Refused a) B = refl
 
 pub length-buffer : (r : Run) (line R Y B : List ℕ) → length (dialogue.bufferAfter r line R Y B) ≡ length B

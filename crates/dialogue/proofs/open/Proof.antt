@@ -14,9 +14,6 @@ rest-requires c κs = search needs
 front-requires : tie.Need-front-requires
 front-requires c κs = search needs
 
-config-requires : tie.Need-config-requires
-config-requires c κs = search needs
-
 slice-aggregate-start : tie.Need-slice-aggregate-start
 slice-aggregate-start c = search needs
 
@@ -38,9 +35,9 @@ same-length-2 c = search needs
 returns : tie.Need-returns
 returns c =
     let s = c .before .before .say .ensures in
-    let f = c .before .before .before .before .before .before .before .before .before .before .before .before .before .fill .ensures in
-    let a = c .before .before .before .before .before .before .before .before .before .before .before .before .before .before .before .before .before .before .args in
-    let g = opened (a .kind) (a .at) (a .len) (a .line .now) (a .buffer .now) _ _ _ _ _ _ f (c .before .before .before .before .before .before .before .before .before .before .rest .ensures) (c .before .before .before .before .before .before .before .before .front .ensures) (c .before .before .before .before .before .before .before .config .ensures) (c .before .before .before .before .before .start .ensures) (c .before .before .before .before .lent .ensures) in
+    let f = c .before .before .before .before .before .before .before .before .before .before .before .before .fill .ensures in
+    let a = c .before .before .before .before .before .before .before .before .before .before .before .before .before .before .before .before .before .args in
+    let g = opened (a .kind) (a .config) (a .at) (a .len) (a .line .now) (a .buffer .now) _ _ _ _ _ f (c .before .before .before .before .before .before .before .before .before .rest .ensures) (c .before .before .before .before .before .before .before .front .ensures) (c .before .before .before .before .before .start .ensures) (c .before .before .before .before .lent .ensures) in
     rw (← g) (s .0, f, s .1)
 
 pub open-spec : {M : Type 1} → statement M
@@ -50,7 +47,6 @@ open-spec =
     fill-requires
     rest-requires
     front-requires
-    config-requires
     slice-aggregate-start
     start-requires
     lent-requires

@@ -6,23 +6,19 @@ use Rattle.requests.specs.Request.{exactOf}
 use Rattle.requests.proofs.request.exact.Statement.{statement}
 use Rattle.requests.proofs.request.exact.Tie as tie
 
-returns : tie.Need-returns
-unfolding exactOf
-returns c = search cases
-
-sub-if2 : tie.Need-sub-if2
-sub-if2 c = search needs
+add-if1 : tie.Need-add-if1
+add-if1 c = search needs
 
 call-requires : tie.Need-call-requires
 call-requires c κs = search needs
+
+returns : tie.Need-returns
+unfolding exactOf
+returns c = search cases
 
 returns-2 : tie.Need-returns-2
 unfolding exactOf
 returns-2 c = search cases
 
-returns-3 : tie.Need-returns-3
-unfolding exactOf
-returns-3 c = search cases
-
 pub exact-spec : {M : Type 1} → statement M
-exact-spec = tie.close (tie.spec returns sub-if2 call-requires returns-2 returns-3)
+exact-spec = tie.close (tie.spec add-if1 call-requires returns returns-2)

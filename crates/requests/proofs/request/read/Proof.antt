@@ -4,7 +4,7 @@ use mathlib.Core.Path.{_≡_, _∙_}
 use lib.ListN.{drop, getD}
 use borrow.Author.Needs.{needs}
 use Rattle.protocol.proofs.Cases.{cases}
-use Rattle.requests.specs.Request.{askedOf, requestLine}
+use Rattle.requests.specs.Request.{configOf, askedOf, requestLine}
 use Rattle.requests.proofs.Laws.{yes-lt-of, not-lt-of}
 use Rattle.requests.proofs.request.read.Statement.{statement}
 use Rattle.requests.proofs.request.read.Tie as tie
@@ -23,6 +23,9 @@ returns-2 c = search (cases, yes-lt-of)
 byte-requires-2 : tie.Need-byte-requires-2
 byte-requires-2 c κs = search needs
 
+config-requires : tie.Need-config-requires
+config-requires c κs = search needs
+
 rest-requires : tie.Need-rest-requires
 rest-requires c κs = search needs
 
@@ -32,8 +35,8 @@ asked-requires c κs = search needs
 returns-3 : tie.Need-returns-3
 unfolding requestLine
 returns-3 c =
-    let line = c .before .before .before .before .before .before .before .args .line .now in
-    let same : c .asked .result ≡ askedOf (getD line 0 0) (drop 4 line) = c .asked .ensures ∙ rw (c .before .rest .ensures, c .before .before .byte2 .ensures) in
+    let line = c .before .before .before .before .before .before .before .before .args .line .now in
+    let same : c .asked .result ≡ askedOf (getD line 0 0) (configOf line) (drop 4 line) = c .asked .ensures ∙ rw (c .before .rest .ensures, c .before .before .config .ensures, c .before .before .before .byte2 .ensures) in
     search (cases, not-lt-of)
 
 pub read-spec : {M : Type 1} → statement M
@@ -44,6 +47,7 @@ read-spec =
     byte-requires
     returns-2
     byte-requires-2
+    config-requires
     rest-requires
     asked-requires
     returns-3)
