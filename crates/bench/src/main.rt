@@ -5,7 +5,7 @@ use protocol::bytes;
 use session::BUFFER_BYTES;
 use session::HELD_BYTES;
 use session::OUT_BYTES;
-use session::REPLY_BYTES;
+use session::OUTCOME_BYTES;
 use session::REQUEST_BYTES;
 use session::Session;
 ghost use mathlib.Core.Path.{_≡_};
@@ -53,29 +53,29 @@ fn take(
     n: usize,
     held: &mut [u8; HELD_BYTES],
     request: &mut [u8; REQUEST_BYTES],
-    reply: &mut [u8; REPLY_BYTES],
+    outcome: &mut [u8; OUTCOME_BYTES],
     buffer: &mut [u8; BUFFER_BYTES],
     out: &mut [u8; OUT_BYTES],
 ) -> Session
-    ensures { λ r. ⌜ desk r (now (held .exit)) (now (request .exit)) (now (reply .exit)) (now (buffer .exit)) (now (out .exit)) ≡ takeOf (front n (now (chunk .entry))) (desk session (now (held .entry)) (now (request .entry)) (now (reply .entry)) (now (buffer .entry)) (now (out .entry))) ⌝ }
+    ensures { λ r. ⌜ desk r (now (held .exit)) (now (request .exit)) (now (outcome .exit)) (now (buffer .exit)) (now (out .exit)) ≡ takeOf (front n (now (chunk .entry))) (desk session (now (held .entry)) (now (request .entry)) (now (outcome .entry)) (now (buffer .entry)) (now (out .entry))) ⌝ }
 {
     session::take(
         session,
         bytes::front(chunk, n),
         held,
         request,
-        reply,
+        outcome,
         buffer,
         out,
     )
 }
 
-// The bound on its turns, which no input reaches, is what the prover sees the loop end by.
+// Its turns are counted down from a number that no input reaches, since every loop has to be proved to end.
 fn main() {
     let mut chunk = io::large_buffer();
     let mut held = [0u8; HELD_BYTES];
     let mut request = [0u8; REQUEST_BYTES];
-    let mut reply = [0u8; REPLY_BYTES];
+    let mut outcome = [0u8; OUTCOME_BYTES];
     let mut buffer = [0u8; BUFFER_BYTES];
     let mut out = [0u8; OUT_BYTES];
     let mut session = session::start();
@@ -89,7 +89,7 @@ fn main() {
                 n,
                 &mut held,
                 &mut request,
-                &mut reply,
+                &mut outcome,
                 &mut buffer,
                 &mut out,
             );

@@ -16,7 +16,7 @@ use Rattle.calls.specs.Call.{startOf}
 use Rattle.calls.specs.declared.kind.Kind.{Kind}
 use Rattle.calls.specs.declared.call.Call.{Call}
 use Rattle.calls.specs.declared.call.Reported.{Reported}
-use Rattle.dialogue.specs.Dialogue.{filled, byteCount, bytesIn, sayOf, lentOf, openOf, hearOf, hearBuffer, payloadIn, goOn, goBuffer}
+use Rattle.dialogue.specs.Dialogue.{filled, byteCount, bytesIn, sayOf, roomFor, openOf, hearOf, hearBuffer, payloadIn, goOn, goBuffer}
 use Rattle.dialogue.specs.declared.Place.{Place}
 use Rattle.dialogue.proofs.Kept.{length-filled, length-heard}
 
@@ -39,7 +39,7 @@ drop-short k l = by (leb k (length l)) refl
 -- a call that was started
 pub opened : (kind : Kind) (config : Config) (at n : ℕ) (line buffer after payload own : List ℕ) (call : Call) (rep : Reported)
     → after ≡ filled n buffer → payload ≡ drop at line → own ≡ take n after
-    → call ≡ startOf kind config (length payload) (length own) 39 → rep ≡ lentOf call n (length after)
+    → call ≡ startOf kind config (length payload) (length own) 39 → rep ≡ roomFor call n (length after)
     → sayOf rep (record { at = at; payload = length payload; buffer = n }) payload own ≡ openOf kind config at n line buffer
 unfolding openOf
 opened kind config at n line buffer after payload own call rep a p o s r =

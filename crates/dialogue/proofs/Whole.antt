@@ -85,7 +85,7 @@ module _ (R Y B : List ℕ) (place : Place) (lines : List (List ℕ)) (rest : Li
 -- a call from its first outcome on
 call-lines : (lines : List (List ℕ)) (R Y B : List ℕ) (call : Call) (place : Place) (rest : List ℕ) → 8193 ≤ length Y → place .buffer ≤ length B
     → machineOf (run.Call call place) R Y B lines rest ≡ callLines call (dialogue.payloadIn place R) (take (place .buffer) B) lines rest
-unfolding machineOf callLines dialogue.closeOf dialogue.answerOf dialogue.requestAfter dialogue.replyAfter dialogue.bufferAfter onward
+unfolding machineOf callLines dialogue.closeOf dialogue.answerOf dialogue.requestAfter dialogue.outcomeAfter dialogue.bufferAfter onward
 call-lines [] R Y B call place rest h fits = refl
 call-lines (line ∷ lines) R Y B call place rest h fits =
     let h′ : 8193 ≤ length (outDecoded line Y) = rw length-decoded h in
@@ -102,9 +102,9 @@ asked-line line R h =
     (λ p. inr (ap requestLine (p .0), long-request (lineBytes line) (omega (arith, p .1))))
     (decoded-line line R)
 
-lent-enough : (call : Call) (n lent : ℕ) → n ≤ lent → dialogue.lentOf call n lent ≡ reported.Taken call
-unfolding dialogue.lentOf if_then_else_
-lent-enough call n lent h = rw (le-leb n lent h)
+room-enough : (call : Call) (n room : ℕ) → n ≤ room → dialogue.roomFor call n room ≡ reported.Taken call
+unfolding dialogue.roomFor if_then_else_
+room-enough call n room h = rw (le-leb n room h)
 
 -- a run from its request on
 begin-on : (q : Request) (l R Y B : List ℕ) (lines : List (List ℕ)) (rest : List ℕ) → Small (length l) q → ((at : ℕ) → take (length (drop at l)) (drop at R) ≡ drop at l)
@@ -116,7 +116,7 @@ begin-on (request.Call kind config at n) l R Y B lines rest small payload y b =
     let k : n ≤ length (dialogue.filled n B) = rw length-filled fits in
     let call : Call = calls.startOf kind config (length (drop at l)) n 39 in
     let m = call-lines lines R Y (dialogue.filled n B) call (record { at = at; payload = length (drop at l); buffer = n }) rest y k in
-    rw (e, lent-enough call n (length B) fits, m, payload at, filled-front n B fits)
+    rw (e, room-enough call n (length B) fits, m, payload at, filled-front n B fits)
 begin-on (request.Refused a) l R Y B lines rest small payload y b = refl
 
 -- the payload of the bytes that were decoded
@@ -137,9 +137,9 @@ begin-on-line l m R Y B lines rest payload y b (inr q) =
     rw (q .0, q .1) (begin-on bad l R Y B lines rest tt payload y b)
 
 -- the whole bench: whatever the lent bytes hold at first
-pub whole : (lines : List (List ℕ)) (rest request reply buffer : List ℕ) → 8202 ≤ length request → 8193 ≤ length reply → 8192 ≤ length buffer
-    → machineOf run.Fresh request reply buffer lines rest ≡ benchOf lines rest
-unfolding machineOf benchOf dialogue.closeOf dialogue.answerOf dialogue.requestAfter dialogue.replyAfter dialogue.bufferAfter onward
+pub whole : (lines : List (List ℕ)) (rest request outcome buffer : List ℕ) → 8202 ≤ length request → 8193 ≤ length outcome → 8192 ≤ length buffer
+    → machineOf run.Fresh request outcome buffer lines rest ≡ benchOf lines rest
+unfolding machineOf benchOf dialogue.closeOf dialogue.answerOf dialogue.requestAfter dialogue.outcomeAfter dialogue.bufferAfter onward
 whole [] rest R Y B r y b = refl
 whole (line ∷ lines) rest R Y B r y b =
     begin-on-line (dialogue.bytesIn line R) (lineBytes line) (outDecoded line R) Y B lines rest (decoded-payload line R) y b (asked-line line R r)

@@ -107,13 +107,13 @@ sayOf (reported.Refused a call) place payload buffer = record { run = run.Call c
 sayOf (reported.Taken call) place payload buffer = showOf call place payload buffer
 
 -- 8 where less is lent than a buffer of n bytes
-unfoldable pub lentOf : Call → ℕ → ℕ → Reported
-lentOf call n lent = if leb n lent then reported.Taken call else reported.Refused answer.WrongBuffer call
+unfoldable pub roomFor : Call → ℕ → ℕ → Reported
+roomFor call n room = if leb n room then reported.Taken call else reported.Refused answer.WrongBuffer call
 
 -- a call starts, with the rest of the line as its payload and a buffer of n bytes of those that are lent
 unfoldable pub openOf : Kind → Config → ℕ → ℕ → List ℕ → List ℕ → Spoken
 openOf kind config at n line buffer =
-    sayOf (lentOf (calls.startOf kind config (length (drop at line)) (min n (length buffer)) 39) n (length buffer))
+    sayOf (roomFor (calls.startOf kind config (length (drop at line)) (min n (length buffer)) 39) n (length buffer))
     (record { at = at; payload = length (drop at line); buffer = n }) (drop at line) (take n (filled n buffer))
 
 unfoldable pub beginBy : Request → List ℕ → List ℕ → Spoken
@@ -161,20 +161,20 @@ goBuffer call place line buffer = hearBuffer call line (take (place .buffer) buf
 
 -- a line: a request where the run is fresh, and else an outcome
 unfoldable pub answerOf : Run → List ℕ → List ℕ → List ℕ → List ℕ → Spoken
-answerOf run.Fresh line request reply buffer = beginOf (bytesIn line request) buffer
-answerOf (run.Call call place) line request reply buffer = goOn call place (bytesIn line reply) request buffer
+answerOf run.Fresh line request outcome buffer = beginOf (bytesIn line request) buffer
+answerOf (run.Call call place) line request outcome buffer = goOn call place (bytesIn line outcome) request buffer
 
 unfoldable pub requestAfter : Run → List ℕ → List ℕ → List ℕ
 requestAfter run.Fresh line request = outDecoded line request
 requestAfter (run.Call call place) line request = request
 
-unfoldable pub replyAfter : Run → List ℕ → List ℕ → List ℕ
-replyAfter run.Fresh line reply = reply
-replyAfter (run.Call call place) line reply = outDecoded line reply
+unfoldable pub outcomeAfter : Run → List ℕ → List ℕ → List ℕ
+outcomeAfter run.Fresh line outcome = outcome
+outcomeAfter (run.Call call place) line outcome = outDecoded line outcome
 
 unfoldable pub bufferAfter : Run → List ℕ → List ℕ → List ℕ → List ℕ → List ℕ
-bufferAfter run.Fresh line request reply buffer = beginBuffer (bytesIn line request) buffer
-bufferAfter (run.Call call place) line request reply buffer = goBuffer call place (bytesIn line reply) buffer
+bufferAfter run.Fresh line request outcome buffer = beginBuffer (bytesIn line request) buffer
+bufferAfter (run.Call call place) line request outcome buffer = goBuffer call place (bytesIn line outcome) buffer
 
 -- no outcomes are left, or so many bytes of a last line that lacks its line feed; one that is too long to be held is as bad
 unfoldable pub lastOf : Tally → ℕ → List ℕ → List ℕ

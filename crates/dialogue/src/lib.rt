@@ -18,7 +18,7 @@ ghost use mathlib.Core.Path.{_≡_};
 ghost use lib.ListN.{length};
 ghost use Rattle.hex.specs.Hex.{outDecoded};
 ghost use Rattle.printing.specs.Printing.{printedOf, outPrinted};
-ghost use Rattle.dialogue.specs.Dialogue.{byteCount, filled, sizeOf, saidOf, bytesSaid, tellOf, showOf, turnedOf, sayOf, hearOf, hearBuffer, goOn, goBuffer, lentOf, openOf, beginOf, beginBuffer, answerOf, requestAfter, replyAfter, bufferAfter, lastOf, closeOf};
+ghost use Rattle.dialogue.specs.Dialogue.{byteCount, filled, sizeOf, saidOf, bytesSaid, tellOf, showOf, turnedOf, sayOf, hearOf, hearBuffer, goOn, goBuffer, roomFor, openOf, beginOf, beginBuffer, answerOf, requestAfter, outcomeAfter, bufferAfter, lastOf, closeOf};
 
 // Where a call's payload and buffer stand: the payload has `payload` bytes of the request line from byte `at` on, the buffer is the first `buffer` bytes
 // of what is lent.
@@ -103,12 +103,12 @@ fn show(call: Call, place: Place, payload: &[u8], buffer: &[u8], out: &mut [u8])
 {
     let mut work = [0u8; LEAST_WORK_BUFFER];
     let shown = call.next(payload, buffer, &mut work);
-    let after = shown.call;
+    let same = shown.call;
     let transfer = shown.transfer;
-    let frame = after.to_send(payload, &work, size(transfer));
-    let said = tell(transfer, frame, after.tally(), buffer, out);
+    let frame = same.to_send(payload, &work, size(transfer));
+    let said = tell(transfer, frame, same.tally(), buffer, out);
     Turned {
-        run: Run::Call { call: after, place },
+        run: Run::Call { call: same, place },
         said,
     }
 }
@@ -127,10 +127,10 @@ fn say(reported: Reported, place: Place, payload: &[u8], buffer: &[u8], out: &mu
 }
 
 // A call that was started, stopped with 8 where less is lent than its buffer of `len` bytes.
-fn lent(call: Call, len: usize, lent: usize) -> Reported
-    ensures { λ r. ⌜ r ≡ lentOf call len lent ⌝ }
+fn lent(call: Call, len: usize, room: usize) -> Reported
+    ensures { λ r. ⌜ r ≡ roomFor call len room ⌝ }
 {
-    if len <= lent {
+    if len <= room {
         Reported::Taken(call)
     } else {
         Reported::Refused(Answer::WrongBuffer, call)
@@ -210,16 +210,16 @@ fn go_on(
 }
 
 // A line of input, and the line that answers it at the front of `out`: a request where the run is fresh, and else an outcome. The bytes of the request
-// line are kept in `request`, those of an outcome line go through `reply`. Nothing follows the last line of a run.
+// line are kept in `request`, those of an outcome line go through `outcome`. Nothing follows the last line of a run.
 pub fn answer(
     run: Run,
     line: &[u8],
     request: &mut [u8],
-    reply: &mut [u8],
+    outcome: &mut [u8],
     buffer: &mut [u8],
     out: &mut [u8],
 ) -> Turned
-    ensures { λ r. ⌜ (r ≡ turnedOf (answerOf run (now (line .entry)) (now (request .entry)) (now (reply .entry)) (now (buffer .entry))) (length (now (out .entry)))) × (now (request .exit) ≡ requestAfter run (now (line .entry)) (now (request .entry))) × (now (reply .exit) ≡ replyAfter run (now (line .entry)) (now (reply .entry))) × (now (buffer .exit) ≡ bufferAfter run (now (line .entry)) (now (request .entry)) (now (reply .entry)) (now (buffer .entry))) × (now (out .exit) ≡ outPrinted (bytesSaid (answerOf run (now (line .entry)) (now (request .entry)) (now (reply .entry)) (now (buffer .entry)) .saying)) (now (out .entry))) ⌝ }
+    ensures { λ r. ⌜ (r ≡ turnedOf (answerOf run (now (line .entry)) (now (request .entry)) (now (outcome .entry)) (now (buffer .entry))) (length (now (out .entry)))) × (now (request .exit) ≡ requestAfter run (now (line .entry)) (now (request .entry))) × (now (outcome .exit) ≡ outcomeAfter run (now (line .entry)) (now (outcome .entry))) × (now (buffer .exit) ≡ bufferAfter run (now (line .entry)) (now (request .entry)) (now (outcome .entry)) (now (buffer .entry))) × (now (out .exit) ≡ outPrinted (bytesSaid (answerOf run (now (line .entry)) (now (request .entry)) (now (outcome .entry)) (now (buffer .entry)) .saying)) (now (out .entry))) ⌝ }
 {
     match run {
         Run::Fresh => {
@@ -227,8 +227,8 @@ pub fn answer(
             begin(bytes::front(request, n), buffer, out)
         }
         Run::Call { call, place } => {
-            let n = decode(line, reply);
-            go_on(call, place, bytes::front(reply, n), request, buffer, out)
+            let n = decode(line, outcome);
+            go_on(call, place, bytes::front(outcome, n), request, buffer, out)
         }
     }
 }

@@ -10,7 +10,7 @@ use lib.Dec.{ltb, eqb}
 use borrow.Author.Tests.{ltb-true, ltb-false, eqb-false}
 use Rattle.protocol.specs.Pick.{if_then_else_}
 use Rattle.hex.specs.BothWays.{AllBytes, BothWays}
-use Rattle.hex.specs.Hex.{valueOf, pairOf, bytesOf, decodedOf, digitOf, hexOf}
+use Rattle.hex.specs.Hex.{valueOf, byteOf, bytesOf, decodedOf, digitOf, hexOf}
 use Rattle.hex.specs.declared.Decoded.the-variants as decoded
 use Rattle.hex.proofs.Cases.{cases}
 use Rattle.hex.proofs.Laws.{length-hex}
@@ -43,8 +43,8 @@ value-digit v h = by (ltb v 10) refl
     by false e = value-large v (ltb-false v 10 e) h
 
 -- a byte is the pair of its digits
-byte-pair : (b : ℕ) → b < 256 → b ≡ pairOf (digitOf (b / 16)) (digitOf (b % 16))
-unfolding pairOf
+byte-pair : (b : ℕ) → b < 256 → b ≡ byteOf (digitOf (b / 16)) (digitOf (b % 16))
+unfolding byteOf
 byte-pair b h =
     let high : b / 16 ≡ valueOf (digitOf (b / 16)) = value-digit (b / 16) (omega arith) in
     let low : b % 16 ≡ valueOf (digitOf (b % 16)) = value-digit (b % 16) (omega arith) in
@@ -63,7 +63,7 @@ bytes-hex : (s : List ℕ) → AllBytes s → bytesOf (hexOf s) ≡ s
 unfolding bytesOf hexOf
 bytes-hex [] h = refl
 bytes-hex (b ∷ s) h =
-    let e : b ≡ pairOf (digitOf (b / 16)) (digitOf (b % 16)) = byte-pair b (h 0) in
+    let e : b ≡ byteOf (digitOf (b / 16)) (digitOf (b % 16)) = byte-pair b (h 0) in
     rw (← e) (sym (good b s (bytesOf (hexOf s)) (omega (arith, h 0)) (sym (bytes-hex s (λ k. h (suc k))))))
 
 digit-small : (v : ℕ) → v < 10 → v + 48 ≡ digitOf v
@@ -98,8 +98,8 @@ digit-value d = by₁ (ltb d 48) refl
     by₁ false e h = by₂ (ltb d 58) refl (ltb-false d 48 e) h
 
 -- a good pair's digits
-pair-digits : (high low : ℕ) → pairOf high low ≤ 255 → (digitOf (pairOf high low / 16) ≡ high) × (digitOf (pairOf high low % 16) ≡ low)
-unfolding pairOf if_then_else_
+pair-digits : (high low : ℕ) → byteOf high low ≤ 255 → (digitOf (byteOf high low / 16) ≡ high) × (digitOf (byteOf high low % 16) ≡ low)
+unfolding byteOf if_then_else_
 pair-digits high low = by₁ (ltb 15 (valueOf high)) refl
   where
     by₂ : (t : Bool) → ltb 15 (valueOf low) ≡ t → valueOf high ≤ 15 → (if t then 256 else valueOf high * 16 + valueOf low) ≤ 255
@@ -122,13 +122,13 @@ hex-bytes : (s : List ℕ) → length s ≡ length (bytesOf s) * 2 → hexOf (by
 unfolding bytesOf hexOf if_then_else_
 hex-bytes [] h = refl
 hex-bytes (d ∷ []) h = absurd (omega arith)
-hex-bytes (high ∷ low ∷ s) h = by (λ k. hex-bytes s k) (ltb 255 (pairOf high low)) refl h
+hex-bytes (high ∷ low ∷ s) h = by (λ k. hex-bytes s k) (ltb 255 (byteOf high low)) refl h
   where
-    by : (length s ≡ length (bytesOf s) * 2 → hexOf (bytesOf s) ≡ s) → (t : Bool) → ltb 255 (pairOf high low) ≡ t → suc (suc (length s)) ≡ length (if t then [] else pairOf high low ∷ bytesOf s) * 2
-        → hexOf (if t then [] else pairOf high low ∷ bytesOf s) ≡ high ∷ low ∷ s
+    by : (length s ≡ length (bytesOf s) * 2 → hexOf (bytesOf s) ≡ s) → (t : Bool) → ltb 255 (byteOf high low) ≡ t → suc (suc (length s)) ≡ length (if t then [] else byteOf high low ∷ bytesOf s) * 2
+        → hexOf (if t then [] else byteOf high low ∷ bytesOf s) ≡ high ∷ low ∷ s
     by rest true e h = absurd (omega arith)
     by rest false e h =
-        let p : (digitOf (pairOf high low / 16) ≡ high) × (digitOf (pairOf high low % 16) ≡ low) = pair-digits high low (ltb-false 255 (pairOf high low) e) in
+        let p : (digitOf (byteOf high low / 16) ≡ high) × (digitOf (byteOf high low % 16) ≡ low) = pair-digits high low (ltb-false 255 (byteOf high low) e) in
         let q : hexOf (bytesOf s) ≡ s = rest (omega arith) in
         rw (p .0, p .1, q)
 
@@ -137,9 +137,9 @@ pub length-bytes : (s : List ℕ) → length (bytesOf s) * 2 ≤ length s
 unfolding bytesOf if_then_else_
 length-bytes [] = omega arith
 length-bytes (d ∷ []) = omega arith
-length-bytes (high ∷ low ∷ s) = by (length-bytes s) (ltb 255 (pairOf high low))
+length-bytes (high ∷ low ∷ s) = by (length-bytes s) (ltb 255 (byteOf high low))
   where
-    by : length (bytesOf s) * 2 ≤ length s → (t : Bool) → length (if t then [] else pairOf high low ∷ bytesOf s) * 2 ≤ suc (suc (length s))
+    by : length (bytesOf s) * 2 ≤ length s → (t : Bool) → length (if t then [] else byteOf high low ∷ bytesOf s) * 2 ≤ suc (suc (length s))
     by rest true = omega arith
     by rest false = omega arith
 
@@ -165,11 +165,11 @@ bytes-small : (s : List ℕ) → AllBytes (bytesOf s)
 unfolding bytesOf if_then_else_
 bytes-small [] k = omega arith
 bytes-small (d ∷ []) k = omega arith
-bytes-small (high ∷ low ∷ s) k = by (bytes-small s) (ltb 255 (pairOf high low)) refl k
+bytes-small (high ∷ low ∷ s) k = by (bytes-small s) (ltb 255 (byteOf high low)) refl k
   where
-    by : AllBytes (bytesOf s) → (t : Bool) → ltb 255 (pairOf high low) ≡ t → AllBytes (if t then [] else pairOf high low ∷ bytesOf s)
+    by : AllBytes (bytesOf s) → (t : Bool) → ltb 255 (byteOf high low) ≡ t → AllBytes (if t then [] else byteOf high low ∷ bytesOf s)
     by rest true e k = omega arith
-    by rest false e zero = omega (arith, ltb-false 255 (pairOf high low) e)
+    by rest false e zero = omega (arith, ltb-false 255 (byteOf high low) e)
     by rest false e (suc k) = rest k
 
 -- encoding what was accepted gives the digits

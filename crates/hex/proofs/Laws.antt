@@ -10,7 +10,7 @@ use lib.ListN.{length, take, drop, getD, set, length-append, take-append-drop}
 use lib.Seq.{length-take-le, drop-cons, take-suc, take-suc-set, drop-drop, set-at, append-snoc}
 use borrow.Author.Tests.{lt-ltb, le-ltb}
 use Rattle.protocol.specs.Pick.{if_then_else_}
-use Rattle.hex.specs.Hex.{pairOf, bytesOf, digitOf, hexOf}
+use Rattle.hex.specs.Hex.{byteOf, bytesOf, digitOf, hexOf}
 
 -- two values that calls gave, as a byte
 pub same-byte : (u l a b : ℕ) → u ≡ a → l ≡ b → u * 16 + l ≡ a * 16 + b
@@ -24,20 +24,20 @@ two s i h =
     let e : (i + 1) * 2 ≡ suc (suc (i * 2)) = omega arith in
     rw (e, add-one, drop-cons s (i * 2) 0 h₀, drop-cons s (suc (i * 2)) 0 h₁)
 
-pub good-pair : (s : List ℕ) (i : ℕ) → i * 2 + 1 < length s → pairOf (getD s (i * 2) 0) (getD s (i * 2 + 1) 0) ≤ 255
-    → bytesOf (drop (i * 2) s) ≡ pairOf (getD s (i * 2) 0) (getD s (i * 2 + 1) 0) ∷ bytesOf (drop ((i + 1) * 2) s)
+pub good-pair : (s : List ℕ) (i : ℕ) → i * 2 + 1 < length s → byteOf (getD s (i * 2) 0) (getD s (i * 2 + 1) 0) ≤ 255
+    → bytesOf (drop (i * 2) s) ≡ byteOf (getD s (i * 2) 0) (getD s (i * 2 + 1) 0) ∷ bytesOf (drop ((i + 1) * 2) s)
 unfolding bytesOf if_then_else_
-good-pair s i h g = ap bytesOf (two s i h) ∙ rw (le-ltb 255 (pairOf (getD s (i * 2) 0) (getD s (i * 2 + 1) 0)) g)
+good-pair s i h g = ap bytesOf (two s i h) ∙ rw (le-ltb 255 (byteOf (getD s (i * 2) 0) (getD s (i * 2 + 1) 0)) g)
 
-pub bad-pair : (s : List ℕ) (i : ℕ) → i * 2 + 1 < length s → 255 < pairOf (getD s (i * 2) 0) (getD s (i * 2 + 1) 0) → bytesOf (drop (i * 2) s) ≡ []
+pub bad-pair : (s : List ℕ) (i : ℕ) → i * 2 + 1 < length s → 255 < byteOf (getD s (i * 2) 0) (getD s (i * 2 + 1) 0) → bytesOf (drop (i * 2) s) ≡ []
 unfolding bytesOf if_then_else_
-bad-pair s i h g = ap bytesOf (two s i h) ∙ rw (lt-ltb 255 (pairOf (getD s (i * 2) 0) (getD s (i * 2 + 1) 0)) g)
+bad-pair s i h g = ap bytesOf (two s i h) ∙ rw (lt-ltb 255 (byteOf (getD s (i * 2) 0) (getD s (i * 2 + 1) 0)) g)
 
 -- a turn of `decode`: one byte more is laid
-pub decode-turn : (s out : List ℕ) (i b : ℕ) → i * 2 + 1 < length s → i < length out → b ≡ pairOf (getD s (i * 2) 0) (getD s (i * 2 + 1) 0) → b ≤ 255
+pub decode-turn : (s out : List ℕ) (i b : ℕ) → i * 2 + 1 < length s → i < length out → b ≡ byteOf (getD s (i * 2) 0) (getD s (i * 2 + 1) 0) → b ≤ 255
     → bytesOf s ≡ take i out ++ bytesOf (drop (i * 2) s) → bytesOf s ≡ take (i + 1) (set out i b) ++ bytesOf (drop ((i + 1) * 2) s)
 decode-turn s out i b h k e g q =
-    let g′ : pairOf (getD s (i * 2) 0) (getD s (i * 2 + 1) 0) ≤ 255 = rw e at g in
+    let g′ : byteOf (getD s (i * 2) 0) (getD s (i * 2 + 1) 0) ≤ 255 = rw e at g in
     let p : bytesOf (drop (i * 2) s) ≡ b ∷ bytesOf (drop ((i + 1) * 2) s) = rw e (good-pair s i h g′) in
     let t : take (i + 1) (set out i b) ≡ take i out ++ (b ∷ []) = rw add-one (take-suc-set out i b k) in
     q ∙ rw (p, t) (sym (append-snoc (take i out) b (bytesOf (drop ((i + 1) * 2) s))))

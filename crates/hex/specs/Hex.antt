@@ -19,8 +19,8 @@ valueOf d =
     if ltb d 71 then d - 55 else 16
 
 -- the byte of two digits, the high one first; 256 where one is none
-unfoldable pub pairOf : ℕ → ℕ → ℕ
-pairOf high low =
+unfoldable pub byteOf : ℕ → ℕ → ℕ
+byteOf high low =
     if ltb 15 (valueOf high) then 256 else
     if ltb 15 (valueOf low) then 256 else
     valueOf high * 16 + valueOf low
@@ -29,7 +29,7 @@ pairOf high low =
 unfoldable pub bytesOf : List ℕ → List ℕ
 bytesOf [] = []
 bytesOf (d ∷ []) = []
-bytesOf (high ∷ low ∷ s) = if ltb 255 (pairOf high low) then [] else pairOf high low ∷ bytesOf s
+bytesOf (high ∷ low ∷ s) = if ltb 255 (byteOf high low) then [] else byteOf high low ∷ bytesOf s
 
 -- what digits come to where there is room for so many bytes
 unfoldable pub decodedOf : List ℕ → ℕ → Decoded

@@ -1,7 +1,7 @@
 // Upper-case hexadecimal: digits to bytes and bytes to digits, over lent slices.
 ghost use mathlib.Core.Path.{_≡_};
 ghost use lib.ListN.{length};
-ghost use Rattle.hex.specs.Hex.{valueOf, pairOf, digitOf, decodedOf, outDecoded, encodedOf, outEncoded};
+ghost use Rattle.hex.specs.Hex.{valueOf, byteOf, digitOf, decodedOf, outDecoded, encodedOf, outEncoded};
 
 // What digits come to.
 pub enum Decoded {
@@ -40,7 +40,7 @@ fn value(digit: u8) -> u16
 
 // The byte of two digits, the high one first, or 256 where one is none.
 fn pair(high: u8, low: u8) -> u16
-    ensures { λ r. ⌜ r ≡ pairOf high low ⌝ }
+    ensures { λ r. ⌜ r ≡ byteOf high low ⌝ }
 {
     let upper = value(high);
     let lower = value(low);

@@ -15,15 +15,15 @@ beforeFeed [] = []
 beforeFeed (b ∷ s) = if eqb b 10 then [] else b ∷ beforeFeed s
 
 -- what k bytes from `from` on, of a chunk of n, come to beside those that are held
-unfoldable pub judgeOf : ℕ → ℕ → ℕ → ℕ → ℕ → Took
-judgeOf n from k room have =
+unfoldable pub tookBy : ℕ → ℕ → ℕ → ℕ → ℕ → Took
+tookBy n from k room have =
     if ltb room (have + k) then took.Long else
     if leb (n - from) k then took.More (have + k) else
     if eqb have 0 then took.Here k (from + k + 1) else took.Held (have + k) (from + k + 1)
 
 -- a line is whole at a line feed, and has no room where it is longer than what it is held in
 unfoldable pub tookOf : List ℕ → ℕ → ℕ → ℕ → Took
-tookOf chunk from room have = judgeOf (length chunk) from (length (beforeFeed (drop from chunk))) room have
+tookOf chunk from room have = tookBy (length chunk) from (length (beforeFeed (drop from chunk))) room have
 
 -- the bytes go after those that are held, as far as there is room; a line that lies whole in its chunk is not copied
 unfoldable pub keptOf : Took → List ℕ → List ℕ → ℕ → List ℕ

@@ -1,8 +1,8 @@
 // Input that comes in chunks of any size, put together to lines. A line that lies whole in a chunk is not copied.
 use protocol::bytes;
 ghost use mathlib.Core.Path.{_≡_};
-ghost use lib.ListN.{length, drop};
-ghost use Rattle.lines.specs.Lines.{beforeFeed, judgeOf, keptOf, tookOf, heldAfter};
+ghost use lib.ListN.{length, take as front, drop};
+ghost use Rattle.lines.specs.Lines.{beforeFeed, tookBy, keptOf, tookOf, heldAfter};
 
 // What a chunk brings.
 pub enum Took {
@@ -30,9 +30,9 @@ fn run(chunk: &[u8], from: usize) -> usize
     i - from
 }
 
-// What n bytes of a chunk from `from` on come to, beside the `have` that are held.
-fn judge(chunk: usize, from: usize, n: usize, room: usize, have: usize) -> Took
-    ensures { λ r. ⌜ r ≡ judgeOf chunk from n room have ⌝ }
+// What n bytes of a chunk of `size` from `from` on come to, beside the `have` that are held.
+fn judge(size: usize, from: usize, n: usize, room: usize, have: usize) -> Took
+    ensures { λ r. ⌜ r ≡ tookBy size from n room have ⌝ }
 {
     if room < have {
         return Took::Long;
@@ -40,10 +40,10 @@ fn judge(chunk: usize, from: usize, n: usize, room: usize, have: usize) -> Took
     if room - have < n {
         return Took::Long;
     }
-    if chunk <= from {
+    if size <= from {
         return Took::More(have + n);
     }
-    if chunk - from <= n {
+    if size - from <= n {
         return Took::More(have + n);
     }
     let next = from + n + 1;
@@ -57,13 +57,14 @@ fn judge(chunk: usize, from: usize, n: usize, room: usize, have: usize) -> Took
     }
 }
 
-// Puts the bytes of a line after the `have` that are held, unless the line lies whole in its chunk.
-fn keep(took: Took, line: &[u8], held: &mut [u8], have: usize)
-    ensures { λ _. ⌜ now (held .exit) ≡ keptOf took (now (line .entry)) (now (held .entry)) have ⌝ }
+// Puts n bytes of a chunk from `from` on after the `have` that are held, unless a line lies whole in its chunk.
+fn keep(took: Took, chunk: &[u8], from: usize, n: usize, held: &mut [u8], have: usize)
+    ensures { λ _. ⌜ now (held .exit) ≡ keptOf took (front n (drop from (now (chunk .entry)))) (now (held .entry)) have ⌝ }
 {
     if let Took::Here { len, next } = took {
         return;
     }
+    let line = bytes::block(chunk, from, n);
     bytes::store_block(held, have, line, line.len());
 }
 
@@ -73,6 +74,6 @@ pub fn take(chunk: &[u8], from: usize, held: &mut [u8], have: usize) -> Took
 {
     let n = run(chunk, from);
     let took = judge(chunk.len(), from, n, held.len(), have);
-    keep(took, bytes::block(chunk, from, n), held, have);
+    keep(took, chunk, from, n, held, have);
     took
 }

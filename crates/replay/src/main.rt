@@ -12,7 +12,7 @@ use protocol::bytes;
 use requests::fields;
 use session::BUFFER_BYTES;
 use session::LINE_BYTES;
-use session::REPLY_BYTES;
+use session::OUTCOME_BYTES;
 use session::REQUEST_BYTES;
 
 // A case that runs: the call, whether it is over, and whether all that was printed is what the list has.
@@ -30,7 +30,7 @@ struct Ran {
 }
 
 // How many cases were run, how many differ, the number of the first of these and how many bytes its words have.
-struct Tally {
+struct Score {
     cases: u64,
     differ: u64,
     first: u64,
@@ -38,10 +38,10 @@ struct Tally {
 }
 
 // Where the program stands.
-struct Session {
+struct Replay {
     input: Reader,
     expected: Reader,
-    tally: Tally,
+    score: Score,
     on: bool,
 }
 
@@ -56,13 +56,13 @@ fn turned(
     input: Reader,
     line: &[u8],
     request: &mut [u8],
-    reply: &mut [u8],
+    outcome: &mut [u8],
     buffer: &mut [u8],
     out: &mut [u8],
 ) -> Turned {
     let text = fields::rest(bytes::front(line, input.len), 2);
     if input.tag == b'I' {
-        dialogue::answer(run, text, request, reply, buffer, out)
+        dialogue::answer(run, text, request, outcome, buffer, out)
     } else {
         let n = dialogue::close(run, left(input, text), buffer, out);
         Turned {
@@ -111,12 +111,12 @@ fn step(
     expected: Reader,
     wanted: &[u8],
     request: &mut [u8],
-    reply: &mut [u8],
+    outcome: &mut [u8],
     buffer: &mut [u8],
     out: &mut [u8],
 ) -> Case {
     let before = case.run;
-    let turned = turned(before, input, put, request, reply, buffer, out);
+    let turned = turned(before, input, put, request, outcome, buffer, out);
     let run = turned.run;
     let said = turned.said;
     judged(
@@ -152,7 +152,7 @@ fn run_case(
     wanted_chunk: &mut [u8; 65536],
     wanted: &mut [u8; 65536],
     request: &mut [u8; REQUEST_BYTES],
-    reply: &mut [u8; REPLY_BYTES],
+    outcome: &mut [u8; OUTCOME_BYTES],
     buffer: &mut [u8; BUFFER_BYTES],
     out: &mut [u8; LINE_BYTES],
 ) -> Ran {
@@ -167,7 +167,7 @@ fn run_case(
     while turns > 0 && !case.over {
         a = reader::seek(a, b'I', put_chunk, put);
         b = reader::seek(b, b'O', wanted_chunk, wanted);
-        case = step(case, a, put, b, wanted, request, reply, buffer, out);
+        case = step(case, a, put, b, wanted, request, outcome, buffer, out);
         turns -= 1;
     }
     Ran {
@@ -198,58 +198,58 @@ fn more(n: u64) -> u64 {
 }
 
 // One case more.
-fn counted(tally: Tally, same: bool, words: usize) -> Tally {
-    let cases = more(tally.cases);
+fn counted(score: Score, same: bool, words: usize) -> Score {
+    let cases = more(score.cases);
     if same {
-        Tally {
+        Score {
             cases,
-            differ: tally.differ,
-            first: tally.first,
-            words: tally.words,
+            differ: score.differ,
+            first: score.first,
+            words: score.words,
         }
-    } else if tally.differ == 0 {
-        Tally {
+    } else if score.differ == 0 {
+        Score {
             cases,
             differ: 1,
             first: cases,
             words,
         }
     } else {
-        Tally {
+        Score {
             cases,
-            differ: more(tally.differ),
-            first: tally.first,
-            words: tally.words,
+            differ: more(score.differ),
+            first: score.first,
+            words: score.words,
         }
     }
 }
 
 // The next case, or the end of the list. The words of each case are kept until one differs.
 fn next_case(
-    session: Session,
+    here: Replay,
     put_chunk: &mut [u8; 65536],
     put: &mut [u8; 65536],
     wanted_chunk: &mut [u8; 65536],
     wanted: &mut [u8; 65536],
     request: &mut [u8; REQUEST_BYTES],
-    reply: &mut [u8; REPLY_BYTES],
+    outcome: &mut [u8; OUTCOME_BYTES],
     buffer: &mut [u8; BUFFER_BYTES],
     out: &mut [u8; LINE_BYTES],
     words: &mut [u8; 4096],
-) -> Session {
-    let tally = session.tally;
-    let input = reader::seek(session.input, b'#', put_chunk, put);
-    let expected = reader::seek(session.expected, b'#', wanted_chunk, wanted);
+) -> Replay {
+    let score = here.score;
+    let input = reader::seek(here.input, b'#', put_chunk, put);
+    let expected = reader::seek(here.expected, b'#', wanted_chunk, wanted);
     let len = input.len;
     if input.tag == reader::END {
-        return Session {
+        return Replay {
             input,
             expected,
-            tally,
+            score,
             on: false,
         };
     }
-    if tally.differ == 0 {
+    if score.differ == 0 {
         bytes::copy_block(words, bytes::front(put, len), 4096);
     }
     let ran = ended(
@@ -261,7 +261,7 @@ fn next_case(
             wanted_chunk,
             wanted,
             request,
-            reply,
+            outcome,
             buffer,
             out,
         ),
@@ -270,44 +270,44 @@ fn next_case(
     );
     let a = ran.input;
     let b = ran.expected;
-    Session {
+    Replay {
         input: a,
         expected: b,
-        tally: counted(tally, ran.same, len),
+        score: counted(score, ran.same, len),
         on: true,
     }
 }
 
 // Prints the counts, and the first case that differs.
-fn print(tally: Tally, words: &[u8; 4096]) {
-    io::print_decimal(STDOUT_FILENO, tally.cases);
+fn print(score: Score, words: &[u8; 4096]) {
+    io::print_decimal(STDOUT_FILENO, score.cases);
     io::write_all(STDOUT_FILENO, b" cases, ");
-    io::print_decimal(STDOUT_FILENO, tally.differ);
+    io::print_decimal(STDOUT_FILENO, score.differ);
     io::write_all(STDOUT_FILENO, b" differ\n");
-    if 0 < tally.differ {
+    if 0 < score.differ {
         io::write_all(STDOUT_FILENO, b"the first is case ");
-        io::print_decimal(STDOUT_FILENO, tally.first);
+        io::print_decimal(STDOUT_FILENO, score.first);
         io::write_all(STDOUT_FILENO, b": ");
-        io::write_all(STDOUT_FILENO, bytes::front(words, tally.words));
+        io::write_all(STDOUT_FILENO, bytes::front(words, score.words));
         io::write_all(STDOUT_FILENO, b"\n");
     }
 }
 
 // Replays the list that two descriptors are open on.
-fn replay(first: i32, second: i32) {
+fn run_list(first: i32, second: i32) {
     let mut put_chunk = io::large_buffer();
     let mut put = io::large_buffer();
     let mut wanted_chunk = io::large_buffer();
     let mut wanted = io::large_buffer();
     let mut request = [0u8; REQUEST_BYTES];
-    let mut reply = [0u8; REPLY_BYTES];
+    let mut outcome = [0u8; OUTCOME_BYTES];
     let mut buffer = [0u8; BUFFER_BYTES];
     let mut out = [0u8; LINE_BYTES];
     let mut words = io::buffer();
-    let mut session = Session {
+    let mut here = Replay {
         input: reader::open(first),
         expected: reader::open(second),
-        tally: Tally {
+        score: Score {
             cases: 0,
             differ: 0,
             first: 0,
@@ -316,22 +316,22 @@ fn replay(first: i32, second: i32) {
         on: true,
     };
     let mut turns = u64::MAX;
-    while turns > 0 && session.on {
-        session = next_case(
-            session,
+    while turns > 0 && here.on {
+        here = next_case(
+            here,
             &mut put_chunk,
             &mut put,
             &mut wanted_chunk,
             &mut wanted,
             &mut request,
-            &mut reply,
+            &mut outcome,
             &mut buffer,
             &mut out,
             &mut words,
         );
         turns -= 1;
     }
-    print(session.tally, &words);
+    print(here.score, &words);
 }
 
 fn main() {
@@ -347,7 +347,7 @@ fn main() {
         os::fail(&path[..length]);
         return;
     }
-    replay(first, second);
+    run_list(first, second);
     libc::close(first);
     libc::close(second);
 }

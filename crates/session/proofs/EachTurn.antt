@@ -13,7 +13,7 @@ use borrow.Author.Tests.{lt-ltb, le-leb, ltb-true, ltb-false, leb-true, leb-fals
 use Rattle.protocol.specs.Pick.{if_then_else_}
 use Rattle.protocol.specs.Bytes.{storedAt}
 use Rattle.printing.specs.Printing.{feedBytes, printedOf, outPrinted}
-use Rattle.lines.specs.Lines.{beforeFeed, judgeOf, tookOf, keptOf, heldAfter, linesFrom, restFrom}
+use Rattle.lines.specs.Lines.{beforeFeed, tookBy, tookOf, keptOf, heldAfter, linesFrom, restFrom}
 use Rattle.lines.specs.declared.Took.{Took}
 use Rattle.lines.specs.declared.Took.the-variants as took
 use Rattle.lines.proofs.Laws.{take-before}
@@ -25,10 +25,10 @@ use Rattle.dialogue.specs.declared.Run.{Run}
 use Rattle.dialogue.proofs.Kept.{length-stored}
 use Rattle.dialogue.proofs.Machine.{machineOf}
 use Rattle.dialogue.proofs.Room.{Short, AllShort, printed-whole}
-use Rattle.session.specs.Session.{Desk, desk, heldBytes, longestLine, Sized, moreOf, saidSession, spokenSession, laidOut, closing, laidOf, lineOf, turnBy, turnOf, goesOn, turnsOf, atByte, takeOf}
+use Rattle.session.specs.Session.{Desk, desk, heldBytes, longestLine, Sized, usedUp, saidSession, spokenSession, laidOut, closing, laidDesk, lineOf, turnBy, turnOf, goesOn, turnsOf, atByte, takeOf}
 use Rattle.session.specs.Output.{written}
 use Rattle.session.proofs.Laws.{goes-on-inside}
-use Rattle.session.proofs.Kept.{length-request, length-reply, length-buffer, length-laid}
+use Rattle.session.proofs.Kept.{length-request, length-outcome, length-buffer, length-laid}
 use Rattle.session.proofs.Long.{long-says, close-some, long-input}
 
 -- the sizes and what is held of a line are as they should be, and the run goes on
@@ -39,7 +39,7 @@ pub record Good (w : Desk) : Type 0 where
 
 -- what the machine gives from a desk on, for the lines that are left
 abbrev pub shown : Desk → List (List ℕ) → List ℕ → List (List ℕ)
-shown w lines rest = machineOf (w .session .run) (w .request) (w .reply) (w .buffer) lines rest
+shown w lines rest = machineOf (w .session .run) (w .request) (w .outcome) (w .buffer) lines rest
 
 -- what came of a line before
 abbrev pub before : Desk → List ℕ
@@ -47,7 +47,7 @@ before w = take (w .session .have) (w .held)
 
 -- a line that has no room is answered
 abbrev tooLong : ℕ → List ℕ → Desk → Desk
-tooLong n H w = laidOf (closing (w .session .run) 1 (w .buffer)) n (w .session .laid) H (w .request) (w .reply) (w .buffer) (w .out)
+tooLong n H w = laidDesk (closing (w .session .run) 1 (w .buffer)) n (w .session .laid) H (w .request) (w .outcome) (w .buffer) (w .out)
 
 said-size : (say : Saying) (room : ℕ) (r : Run) (at laid : ℕ) → saidSession (saidOf say room) r at laid .laid ≡ laid + printedOf (bytesSaid say) room
 unfolding saidSession saidOf bytesSaid
@@ -106,12 +106,12 @@ module _ (view : List (List ℕ) → List (List ℕ) → List ℕ) (Ends : List 
       turn-line : (line H : List ℕ) (next : ℕ) (lines : List (List ℕ)) (rest : List ℕ) → length H ≡ heldBytes → w .session .at < next → next ≤ length chunk
           → lines ≡ linesFrom [] (drop next chunk ++ t) → rest ≡ restFrom [] (drop next chunk ++ t) → AllShort (shown w (line ∷ lines) rest) → Ends rest
           → G (lineOf line next H w) ≡ written w ++ view (line ∷ lines) (shown w (line ∷ lines) rest)
-      unfolding lineOf laidOf spokenSession laidOut machineOf written
+      unfolding lineOf laidDesk spokenSession laidOut machineOf written
       turn-line line H next lines rest h lt le p q a z =
-          let s = dialogue.answerOf (w .session .run) line (w .request) (w .reply) (w .buffer) in
+          let s = dialogue.answerOf (w .session .run) line (w .request) (w .outcome) (w .buffer) in
           let R = dialogue.requestAfter (w .session .run) line (w .request) in
-          let Y = dialogue.replyAfter (w .session .run) line (w .reply) in
-          let B = dialogue.bufferAfter (w .session .run) line (w .request) (w .reply) (w .buffer) in
+          let Y = dialogue.outcomeAfter (w .session .run) line (w .outcome) in
+          let B = dialogue.bufferAfter (w .session .run) line (w .request) (w .outcome) (w .buffer) in
           said-lays (s .saying) (s .run) next (w .session .laid) H R Y B (w .out) line lines _ fits a
           (λ k m.
           go _
@@ -119,8 +119,8 @@ module _ (view : List (List ℕ) → List (List ℕ) → List ℕ) (Ends : List 
             sized = record {
               held = h;
               request = length-request (w .session .run) line (w .request) ∙ good .sized .request;
-              reply = length-reply (w .session .run) line (w .reply) ∙ good .sized .reply;
-              buffer = length-buffer (w .session .run) line (w .request) (w .reply) (w .buffer) ∙ good .sized .buffer;
+              outcome = length-outcome (w .session .run) line (w .outcome) ∙ good .sized .outcome;
+              buffer = length-buffer (w .session .run) line (w .request) (w .outcome) (w .buffer) ∙ good .sized .buffer;
               out = length-laid (w .session .laid) (bytesSaid (s .saying)) (w .out) (omega arith) ∙ good .sized .out;
             };
             room = omega arith;
@@ -131,17 +131,17 @@ module _ (view : List (List ℕ) → List (List ℕ) → List ℕ) (Ends : List 
       -- the chunk is used up
       turn-more : (H : List ℕ) (k : ℕ) → length H ≡ heldBytes → k ≤ heldBytes → take k H ≡ before w ++ drop (w .session .at) chunk
           → length (drop (w .session .at) chunk) ≤ length (beforeFeed (drop (w .session .at) chunk))
-          → Lays (λ v. G (desk (moreOf (v .session .run) k (length chunk) (v .session .laid)) H (v .request) (v .reply) (v .buffer) (v .out))) w (drop (w .session .at) chunk ++ t)
-      unfolding moreOf written
+          → Lays (λ v. G (desk (usedUp (v .session .run) k (length chunk) (v .session .laid)) H (v .request) (v .outcome) (v .buffer) (v .out))) w (drop (w .session .at) chunk ++ t)
+      unfolding usedUp written
       turn-more H k h le e none-left lines rest p q a z =
           let s = drop (w .session .at) chunk in
           let m = lines-more s (before w) none-left in
           let d : drop (length chunk) chunk ++ t ≡ t = rw drop-length in
           let x : linesFrom (before w) (s ++ t) ≡ linesFrom (take k H) (drop (length chunk) chunk ++ t) = rw (lines-append s t (before w), m .0, m .1, e, d) in
           let y : restFrom (before w) (s ++ t) ≡ restFrom (take k H) (drop (length chunk) chunk ++ t) = rw (rest-append s t (before w), m .1, e, d) in
-          go (desk (record { run = w .session .run; have = k; at = length chunk; laid = w .session .laid; on = true }) H (w .request) (w .reply) (w .buffer) (w .out))
+          go (desk (record { run = w .session .run; have = k; at = length chunk; laid = w .session .laid; on = true }) H (w .request) (w .outcome) (w .buffer) (w .out))
           (record {
-            sized = record { held = h; request = good .sized .request; reply = good .sized .reply; buffer = good .sized .buffer; out = good .sized .out };
+            sized = record { held = h; request = good .sized .request; outcome = good .sized .outcome; buffer = good .sized .buffer; out = good .sized .out };
             room = le;
             on = refl;
           })
@@ -150,9 +150,9 @@ module _ (view : List (List ℕ) → List (List ℕ) → List ℕ) (Ends : List 
       -- a line has no room
       closed : (H : List ℕ) (n : ℕ) → Short (dialogue.closeOf (w .session .run) 1 (w .buffer))
           → G (tooLong n H w) ≡ written w ++ feedBytes (dialogue.closeOf (w .session .run) 1 (w .buffer))
-      unfolding laidOf spokenSession laidOut closing written saidSession saidOf bytesSaid
+      unfolding laidDesk spokenSession laidOut closing written saidSession saidOf bytesSaid
       closed H n short =
-          off _ refl ∙ written-said (last (dialogue.closeOf (w .session .run) 1 (w .buffer))) (w .session .run) n (w .session .laid) H (w .request) (w .reply) (w .buffer) (w .out) short fits
+          off _ refl ∙ written-said (last (dialogue.closeOf (w .session .run) 1 (w .buffer))) (w .session .run) n (w .session .laid) H (w .request) (w .outcome) (w .buffer) (w .out) short fits
 
       -- its line feed never comes
       long-rest : (H : List ℕ) (n : ℕ) (rest : List ℕ) → heldBytes < length rest → AllShort (shown w [] rest) → Ends rest
@@ -170,8 +170,8 @@ module _ (view : List (List ℕ) → List (List ℕ) → List ℕ) (Ends : List 
       long-line H n line lines rest m a =
           let x : List ℕ = dialogue.closeOf (w .session .run) 1 (w .buffer) in
           let r : length (w .request) * 2 < length line = omega (arith, good .sized .request) in
-          let y : length (w .reply) * 2 < length line = omega (arith, good .sized .reply) in
-          let k : shown w (line ∷ lines) rest ≡ x ∷ [] = rw (long-says (w .session .run) line (w .request) (w .reply) (w .buffer) r y) in
+          let y : length (w .outcome) * 2 < length line = omega (arith, good .sized .outcome) in
+          let k : shown w (line ∷ lines) rest ≡ x ∷ [] = rw (long-says (w .session .run) line (w .request) (w .outcome) (w .buffer) r y) in
           let short : AllShort (x ∷ []) = subst AllShort k a in
           closed H n (short .0) ∙ ap (λ (l : List ℕ). written w ++ l) (sym (ap (view (line ∷ lines)) k ∙ step line x lines [] ∙ rw (none lines) (append-nil (feedBytes x))))
 
@@ -208,7 +208,7 @@ module _ (view : List (List ℕ) → List (List ℕ) → List ℕ) (Ends : List 
 
       -- one turn
       turn : Lays (λ v. G (turnOf chunk v)) w (drop (w .session .at) chunk ++ t)
-      unfolding turnOf turnBy heldAfter keptOf tookOf judgeOf if_then_else_
+      unfolding turnOf turnBy heldAfter keptOf tookOf tookBy if_then_else_
       turn lines rest p q a z =
           by (ltb (length (w .held)) (w .session .have + k)) refl (leb (length chunk - w .session .at) k) refl (eqb (w .session .have) 0) refl
         where
@@ -286,11 +286,11 @@ module _ (view : List (List ℕ) → List (List ℕ) → List ℕ) (Ends : List 
     take-gives w good start inside lines rest p q a z = by (length chunk) refl
       where
         fresh : Desk
-        fresh = desk (atByte (w .session) (w .session .at)) (w .held) (w .request) (w .reply) (w .buffer) (w .out)
+        fresh = desk (atByte (w .session) (w .session .at)) (w .held) (w .request) (w .outcome) (w .buffer) (w .out)
 
         ready : Good fresh
         ready = record {
-          sized = record { held = good .sized .held; request = good .sized .request; reply = good .sized .reply; buffer = good .sized .buffer; out = good .sized .out };
+          sized = record { held = good .sized .held; request = good .sized .request; outcome = good .sized .outcome; buffer = good .sized .buffer; out = good .sized .out };
           room = good .room;
           on = good .on;
         }

@@ -27,10 +27,10 @@ unfolding dialogue.requestAfter
 length-request run.Fresh line R = length-decoded line R
 length-request (run.Call call place) line R = refl
 
-pub length-reply : (r : Run) (line Y : List ℕ) → length (dialogue.replyAfter r line Y) ≡ length Y
-unfolding dialogue.replyAfter
-length-reply run.Fresh line Y = refl
-length-reply (run.Call call place) line Y = length-decoded line Y
+pub length-outcome : (r : Run) (line Y : List ℕ) → length (dialogue.outcomeAfter r line Y) ≡ length Y
+unfolding dialogue.outcomeAfter
+length-outcome run.Fresh line Y = refl
+length-outcome (run.Call call place) line Y = length-decoded line Y
 
 length-begin : (q : Request) (B : List ℕ) → length (dialogue.fillBy q B) ≡ length B
 unfolding dialogue.fillBy

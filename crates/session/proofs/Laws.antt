@@ -12,15 +12,15 @@ use borrow.Author.Tests.{ltb-true, leb-true, leb-false, le-leb, lt-leb}
 use Rattle.protocol.specs.Pick.{if_then_else_}
 use Rattle.printing.specs.Printing.{feedBytes, printedOf}
 use Rattle.printing.proofs.Laws.{length-feed}
-use Rattle.lines.specs.Lines.{beforeFeed, judgeOf, tookOf, heldAfter}
+use Rattle.lines.specs.Lines.{beforeFeed, tookBy, tookOf, heldAfter}
 use Rattle.lines.specs.declared.Took.{Took}
 use Rattle.lines.specs.declared.Took.the-variants as took
-use Rattle.dialogue.specs.Dialogue.{Saying, asked, last, Spoken, saidOf, turnedOf, answerOf, requestAfter, replyAfter, bufferAfter}
+use Rattle.dialogue.specs.Dialogue.{Saying, asked, last, Spoken, saidOf, turnedOf, answerOf, requestAfter, outcomeAfter, bufferAfter}
 use Rattle.dialogue.specs.declared.Run.{Run}
 use Rattle.dialogue.specs.declared.Said.the-variants as said
 use Rattle.dialogue.specs.declared.Turned.{Turned}
 use Rattle.session.specs.declared.Session.{Session}
-use Rattle.session.specs.Session.{Desk, desk, longestLine, moreOf, saidSession, spokenSession, laidOut, closing, laidOf, lineOf, turnBy, turnOf, goesOn, turnsOf}
+use Rattle.session.specs.Session.{Desk, desk, longestLine, usedUp, saidSession, spokenSession, laidOut, closing, laidDesk, lineOf, turnBy, turnOf, goesOn, turnsOf}
 
 -- what is after the laid bytes is all that is lent
 all-after : (out : List ℕ) (laid : ℕ) → take (length out - laid) (drop laid out) ≡ drop laid out
@@ -59,43 +59,43 @@ last-room (last s) room n e = let q : n ≡ printedOf s room = cc in omega (arit
 
 -- what a line that is answered gives
 abbrev Answered : Desk → List ℕ → ℕ → Session → List ℕ → List ℕ → List ℕ → List ℕ → Type 0
-Answered w line next r request reply buffer out =
-    (r ≡ spokenSession (answerOf (w .session .run) line (w .request) (w .reply) (w .buffer)) next (w .session .laid) (length (w .out)))
+Answered w line next r request outcome buffer out =
+    (r ≡ spokenSession (answerOf (w .session .run) line (w .request) (w .outcome) (w .buffer)) next (w .session .laid) (length (w .out)))
     × (request ≡ requestAfter (w .session .run) line (w .request))
-    × (reply ≡ replyAfter (w .session .run) line (w .reply))
-    × (buffer ≡ bufferAfter (w .session .run) line (w .request) (w .reply) (w .buffer))
-    × (out ≡ laidOut (answerOf (w .session .run) line (w .request) (w .reply) (w .buffer)) (w .session .laid) (w .out))
+    × (outcome ≡ outcomeAfter (w .session .run) line (w .outcome))
+    × (buffer ≡ bufferAfter (w .session .run) line (w .request) (w .outcome) (w .buffer))
+    × (out ≡ laidOut (answerOf (w .session .run) line (w .request) (w .outcome) (w .buffer)) (w .session .laid) (w .out))
 
-line-answered : (w : Desk) (line : List ℕ) (next : ℕ) (r : Session) (held request reply buffer out : List ℕ) → Answered w line next r request reply buffer out
-    → desk r held request reply buffer out ≡ lineOf line next held w
-unfolding lineOf laidOf
-line-answered w line next r held request reply buffer out a = rw (a .0, a .1, a .2, a .3, a .4)
+line-answered : (w : Desk) (line : List ℕ) (next : ℕ) (r : Session) (held request outcome buffer out : List ℕ) → Answered w line next r request outcome buffer out
+    → desk r held request outcome buffer out ≡ lineOf line next held w
+unfolding lineOf laidDesk
+line-answered w line next r held request outcome buffer out a = rw (a .0, a .1, a .2, a .3, a .4)
 
 module _ (chunk : List ℕ) (w : Desk) (u : Took) (held : List ℕ)
     (took-as : u ≡ tookOf chunk (w .session .at) (length (w .held)) (w .session .have)) (held-as : held ≡ heldAfter chunk (w .session .at) (w .held) (w .session .have)) where
   -- a line lay whole in the chunk
-  pub took-here : (r : Session) (line request reply buffer out : List ℕ) (len next : ℕ) → u ≡ took.Here len next → line ≡ take len (drop (w .session .at) chunk)
-      → Answered w line next r request reply buffer out → desk r held request reply buffer out ≡ turnOf chunk w
+  pub took-here : (r : Session) (line request outcome buffer out : List ℕ) (len next : ℕ) → u ≡ took.Here len next → line ≡ take len (drop (w .session .at) chunk)
+      → Answered w line next r request outcome buffer out → desk r held request outcome buffer out ≡ turnOf chunk w
   unfolding turnOf turnBy
-  took-here r line request reply buffer out len next e l a = rw (← took-as, e, ← held-as, ← l) (line-answered w line next r held request reply buffer out a)
+  took-here r line request outcome buffer out len next e l a = rw (← took-as, e, ← held-as, ← l) (line-answered w line next r held request outcome buffer out a)
 
   -- a line was whole with what was held
-  pub took-held : (r : Session) (line request reply buffer out : List ℕ) (len next : ℕ) → u ≡ took.Held len next → line ≡ take len held
-      → Answered w line next r request reply buffer out → desk r held request reply buffer out ≡ turnOf chunk w
+  pub took-held : (r : Session) (line request outcome buffer out : List ℕ) (len next : ℕ) → u ≡ took.Held len next → line ≡ take len held
+      → Answered w line next r request outcome buffer out → desk r held request outcome buffer out ≡ turnOf chunk w
   unfolding turnOf turnBy
-  took-held r line request reply buffer out len next e l a = rw (← took-as, e, ← held-as, ← l) (line-answered w line next r held request reply buffer out a)
+  took-held r line request outcome buffer out len next e l a = rw (← took-as, e, ← held-as, ← l) (line-answered w line next r held request outcome buffer out a)
 
   -- the chunk was used up
-  pub took-more : (r : Session) (have : ℕ) → u ≡ took.More have → r ≡ moreOf (w .session .run) have (length chunk) (w .session .laid)
-      → desk r held (w .request) (w .reply) (w .buffer) (w .out) ≡ turnOf chunk w
+  pub took-more : (r : Session) (have : ℕ) → u ≡ took.More have → r ≡ usedUp (w .session .run) have (length chunk) (w .session .laid)
+      → desk r held (w .request) (w .outcome) (w .buffer) (w .out) ≡ turnOf chunk w
   unfolding turnOf turnBy
   took-more r have e p = rw (← took-as, e, ← held-as, p)
 
   -- a line had no room
   pub took-long : (r : Session) (out : List ℕ) → u ≡ took.Long
       → (r ≡ spokenSession (closing (w .session .run) 1 (w .buffer)) (length chunk) (w .session .laid) (length (w .out))) × (out ≡ laidOut (closing (w .session .run) 1 (w .buffer)) (w .session .laid) (w .out))
-      → desk r held (w .request) (w .reply) (w .buffer) out ≡ turnOf chunk w
-  unfolding turnOf turnBy laidOf
+      → desk r held (w .request) (w .outcome) (w .buffer) out ≡ turnOf chunk w
+  unfolding turnOf turnBy laidDesk
   took-long r out e p = rw (← took-as, e, ← held-as, p .0, p .1)
 
 at-said : (s : Saying) (room : ℕ) (r : Run) (at laid : ℕ) → saidSession (saidOf s room) r at laid .at ≡ at
@@ -105,7 +105,7 @@ at-said (last s) room r at laid = refl
 
 -- a turn goes past a line feed, or to the end of the chunk
 pub turn-uses : (chunk : List ℕ) (w : Desk) → w .session .at < length chunk → w .session .at < turnOf chunk w .session .at
-unfolding turnOf turnBy lineOf laidOf spokenSession moreOf tookOf judgeOf if_then_else_
+unfolding turnOf turnBy lineOf laidDesk spokenSession usedUp tookOf tookBy if_then_else_
 turn-uses chunk w h =
     by (ltb (length (w .held)) (w .session .have + length (beforeFeed (drop (w .session .at) chunk))))
     (leb (length chunk - w .session .at) (length (beforeFeed (drop (w .session .at) chunk)))) (eqb (w .session .have) 0)

@@ -75,9 +75,9 @@ module _ (view : List (List ℕ) → List (List ℕ) → List ℕ) (Ends : List 
       sym (is-true (w .session .on) _ _ _ (good .on) (sym e))
   chunks-give (chunk ∷ chunks) w good lines rest p q a z =
       takes-give (length chunk) chunk (concat chunks) (chunksOut final chunks) (off-chunks chunks) (λ v g. chunks-give chunks v g)
-      (desk (atByte (w .session) 0) (w .held) (w .request) (w .reply) (w .buffer) (w .out))
+      (desk (atByte (w .session) 0) (w .held) (w .request) (w .outcome) (w .buffer) (w .out))
       (record {
-        sized = record { held = good .sized .held; request = good .sized .request; reply = good .sized .reply; buffer = good .sized .buffer; out = good .sized .out };
+        sized = record { held = good .sized .held; request = good .sized .request; outcome = good .sized .outcome; buffer = good .sized .buffer; out = good .sized .out };
         room = good .room;
         on = good .on;
       })
@@ -94,7 +94,7 @@ module _ (view : List (List ℕ) → List (List ℕ) → List ℕ) (Ends : List 
       let n : w .session .have ≡ 0 = ap (λ (s : Session). s .have) e in
       let o : w .session .on ≡ true = ap (λ (s : Session). s .on) e in
       let m : shown w lines rest ≡ benchOf lines rest =
-      rw r (whole lines rest (w .request) (w .reply) (w .buffer) (omega (arith, sized .request)) (omega (arith, sized .reply)) (omega (arith, sized .buffer))) in
+      rw r (whole lines rest (w .request) (w .outcome) (w .buffer) (omega (arith, sized .request)) (omega (arith, sized .outcome)) (omega (arith, sized .buffer))) in
       chunks-give chunks w (record { sized = sized; room = omega arith; on = o }) lines rest (rw h) (rw h) (subst AllShort (sym m) (all-short lines rest)) z ∙ ap (view lines) m
 
 -- the last line, where the input has ended
@@ -105,7 +105,7 @@ close-end w rest good z e a =
     let x = dialogue.closeOf (w .session .run) (w .session .have) (w .buffer) in
     let short : Short x = rw n at (a .0) in
     rw (n, good .on)
-    (written-said (last x) (w .session .run) (w .session .at) 0 (w .held) (w .request) (w .reply) (w .buffer) (w .out) short (omega (arith, good .sized .out)) ∙ sym (append-nil (feedBytes x)))
+    (written-said (last x) (w .session .run) (w .session .at) 0 (w .held) (w .request) (w .outcome) (w .buffer) (w .out) short (omega (arith, good .sized .out)) ∙ sym (append-nil (feedBytes x)))
 
 step-so-far : (n : ℕ) (line x : List ℕ) (lines more : List (List ℕ)) → feeds (take (length (line ∷ lines) + n) (x ∷ more)) ≡ feedBytes x ++ feeds (take (length lines + n) more)
 unfolding feeds
@@ -158,7 +158,7 @@ unfolding takeOf turnsOf atByte goesOn if_then_else_
 take-uses chunk w sized o inside = by (length chunk) refl
   where
     fresh : Desk
-    fresh = desk (atByte (w .session) (w .session .at)) (w .held) (w .request) (w .reply) (w .buffer) (w .out)
+    fresh = desk (atByte (w .session) (w .session .at)) (w .held) (w .request) (w .outcome) (w .buffer) (w .out)
 
     room : 0 + longestLine ≤ length (w .out)
     room = omega (arith, sized .out)

@@ -46,7 +46,7 @@ chunkOut (suc takes) chunk d more =
 unfoldable pub chunksOut : (Desk → List ℕ) → List (List ℕ) → Desk → List ℕ
 chunksOut final [] d = if d .session .on then final d else []
 chunksOut final (chunk ∷ chunks) d =
-    chunkOut (length chunk) chunk (desk (atByte (d .session) 0) (d .held) (d .request) (d .reply) (d .buffer) (d .out)) (chunksOut final chunks)
+    chunkOut (length chunk) chunk (desk (atByte (d .session) 0) (d .held) (d .request) (d .outcome) (d .buffer) (d .out)) (chunksOut final chunks)
 
 -- what the program writes for an input that comes in these chunks, each a read of its own. A read that brings nothing is the end; an empty chunk changes
 -- nothing

@@ -11,7 +11,7 @@ use Rattle.lines.specs.Lines.{tookOf, heldAfter}
 use Rattle.lines.specs.declared.Took.{Took}
 use Rattle.lines.specs.declared.Took.the-variants as took
 use Rattle.printing.specs.Printing.{outPrinted}
-use Rattle.dialogue.specs.Dialogue.{last, bytesSaid, saidOf, Spoken, answerOf, requestAfter, replyAfter, bufferAfter, closeOf}
+use Rattle.dialogue.specs.Dialogue.{last, bytesSaid, saidOf, Spoken, answerOf, requestAfter, outcomeAfter, bufferAfter, closeOf}
 use Rattle.dialogue.specs.declared.Run.{Run}
 use Rattle.dialogue.specs.declared.Run.the-variants as run
 use Rattle.dialogue.specs.declared.Said.{Said}
@@ -23,12 +23,12 @@ pub record Desk : Type 0 where
   pub session : Session
   pub held : List ℕ
   pub request : List ℕ
-  pub reply : List ℕ
+  pub outcome : List ℕ
   pub buffer : List ℕ
   pub out : List ℕ
 
 abbrev pub desk : Session → List ℕ → List ℕ → List ℕ → List ℕ → List ℕ → Desk
-desk s held request reply buffer out = record { session = s; held = held; request = request; reply = reply; buffer = buffer; out = out }
+desk s held request outcome buffer out = record { session = s; held = held; request = request; outcome = outcome; buffer = buffer; out = out }
 
 -- the digits of the longest line that is valid, a request's of 8,202 bytes
 abbrev pub heldBytes : ℕ
@@ -46,7 +46,7 @@ outBytes = 65536
 pub record Sized (d : Desk) : Type 0 where
   pub held : length (d .held) ≡ heldBytes
   pub request : length (d .request) ≡ 8202
-  pub reply : length (d .reply) ≡ 8193
+  pub outcome : length (d .outcome) ≡ 8193
   pub buffer : length (d .buffer) ≡ 8192
   pub out : length (d .out) ≡ outBytes
 
@@ -59,8 +59,8 @@ unfoldable pub atByte : Session → ℕ → Session
 atByte s at = record { run = s .run; have = s .have; at = at; laid = 0; on = s .on }
 
 -- a chunk of n bytes that is used up, with so many bytes laid
-unfoldable pub moreOf : Run → ℕ → ℕ → ℕ → Session
-moreOf r have n laid = record { run = r; have = have; at = n; laid = laid; on = true }
+unfoldable pub usedUp : Run → ℕ → ℕ → ℕ → Session
+usedUp r have n laid = record { run = r; have = have; at = n; laid = laid; on = true }
 
 -- after a transfer the run goes on, after the last line it does not
 unfoldable pub saidSession : Said → Run → ℕ → ℕ → Session
@@ -79,16 +79,16 @@ unfoldable pub closing : Run → ℕ → List ℕ → Spoken
 closing r left buffer = record { run = r; saying = last (closeOf r left buffer) }
 
 -- the line that is spoken is laid
-unfoldable pub laidOf : Spoken → ℕ → ℕ → List ℕ → List ℕ → List ℕ → List ℕ → List ℕ → Desk
-laidOf s at laid held request reply buffer out = desk (spokenSession s at laid (length out)) held request reply buffer (laidOut s laid out)
+unfoldable pub laidDesk : Spoken → ℕ → ℕ → List ℕ → List ℕ → List ℕ → List ℕ → List ℕ → Desk
+laidDesk s at laid held request outcome buffer out = desk (spokenSession s at laid (length out)) held request outcome buffer (laidOut s laid out)
 
 -- a whole line is answered
 unfoldable pub lineOf : List ℕ → ℕ → List ℕ → Desk → Desk
 lineOf line at held d =
-    laidOf (answerOf (d .session .run) line (d .request) (d .reply) (d .buffer)) at (d .session .laid) held
+    laidDesk (answerOf (d .session .run) line (d .request) (d .outcome) (d .buffer)) at (d .session .laid) held
     (requestAfter (d .session .run) line (d .request))
-    (replyAfter (d .session .run) line (d .reply))
-    (bufferAfter (d .session .run) line (d .request) (d .reply) (d .buffer))
+    (outcomeAfter (d .session .run) line (d .outcome))
+    (bufferAfter (d .session .run) line (d .request) (d .outcome) (d .buffer))
     (d .out)
 
 -- what a turn comes to, by what the chunk brought
@@ -96,9 +96,9 @@ unfoldable pub turnBy : Took → List ℕ → List ℕ → Desk → Desk
 turnBy (took.Here len next) chunk held d = lineOf (take len (drop (d .session .at) chunk)) next held d
 turnBy (took.Held len next) chunk held d = lineOf (take len held) next held d
 turnBy (took.More have) chunk held d =
-    desk (moreOf (d .session .run) have (length chunk) (d .session .laid)) held (d .request) (d .reply) (d .buffer) (d .out)
+    desk (usedUp (d .session .run) have (length chunk) (d .session .laid)) held (d .request) (d .outcome) (d .buffer) (d .out)
 turnBy took.Long chunk held d =
-    laidOf (closing (d .session .run) 1 (d .buffer)) (length chunk) (d .session .laid) held (d .request) (d .reply) (d .buffer) (d .out)
+    laidDesk (closing (d .session .run) 1 (d .buffer)) (length chunk) (d .session .laid) held (d .request) (d .outcome) (d .buffer) (d .out)
 
 -- one turn of a chunk
 unfoldable pub turnOf : List ℕ → Desk → Desk
@@ -118,7 +118,7 @@ turnsOf (suc turns) chunk d =
 -- the lines of a chunk, once what was laid before is written; a turn for each byte is enough
 unfoldable pub takeOf : List ℕ → Desk → Desk
 takeOf chunk d =
-    turnsOf (length chunk) chunk (desk (atByte (d .session) (d .session .at)) (d .held) (d .request) (d .reply) (d .buffer) (d .out))
+    turnsOf (length chunk) chunk (desk (atByte (d .session) (d .session .at)) (d .held) (d .request) (d .outcome) (d .buffer) (d .out))
 
 -- the input has ended: a last line, unless the run is over
 unfoldable pub endSession : Session → List ℕ → ℕ → Session
@@ -129,5 +129,5 @@ endOut s buffer out = if s .on then laidOut (closing (s .run) (s .have) buffer) 
 
 unfoldable pub endOf : Desk → Desk
 endOf d =
-    desk (endSession (d .session) (d .buffer) (length (d .out))) (d .held) (d .request) (d .reply) (d .buffer)
+    desk (endSession (d .session) (d .buffer) (length (d .out))) (d .held) (d .request) (d .outcome) (d .buffer)
     (endOut (d .session) (d .buffer) (d .out))

@@ -152,7 +152,7 @@ unfolding bitStep bitSteps byteStep pecOf if_then_else_ bytes.over bytes.blockIn
     case_refused_fault_headed_block_ parts.hasHead parts.headBytes parts.firstAddress parts.readCount parts.blockAsk parts.askOf parts.mostOf
     reading.plainPlan reading.macPlan reading.startOf reading.dueAsk reading.shownHead reading.workHead reading.shownOf reading.workShown reading.nextOf reading.workAfter reading.headedOf reading.advanceOf reading.retryOf reading.endOf reading.failOf reading.heardHead reading.verdictOf reading.heardBlock reading.acknowledgedOf reading.weighOf reading.judgeOf reading.storedOf reading.reportOf reading.bufferAfter
     interface.plainLimit interface.writeWithRetries interface.writeRegister interface.readRegister interface.commandPec interface.commandReads interface.dispatchCommand interface.readBuffer interface.writeBuffer
-    r5.macRead r5.macWrite r5.sendAccessKey r5.writeMfgInfoC r5.wholeAsk r5.readMfgInfoC r5.writeMfgInfo r5.readMfgInfo r5.readDataflash r5.writeDataflash hex.valueOf hex.pairOf hex.bytesOf hex.digitOf hex.hexOf lines.linesFrom lines.restFrom
+    r5.macRead r5.macWrite r5.sendAccessKey r5.writeMfgInfoC r5.wholeAsk r5.readMfgInfoC r5.writeMfgInfo r5.readMfgInfo r5.readDataflash r5.writeDataflash hex.valueOf hex.byteOf hex.bytesOf hex.digitOf hex.hexOf lines.linesFrom lines.restFrom
     fields.pairAt fields.quadAt request.configOf request.calledOf request.exactOf request.askedOf request.requestLine outcome.acknowledgedLine outcome.errorLine outcome.timeoutLine outcome.outcomeLine
     kind.planOf calls.startWith calls.startOf calls.nextOf calls.workAfter calls.partOf calls.wroteOf calls.gotOf calls.reportOf calls.bufferAfter calls.tallyOf
     printing.feedBytes printing.quadOf printing.writeSaid printing.readSaid printing.endSaid printing.cutSaid dialogue.sizeOf dialogue.tellOf dialogue.zeros dialogue.lineShown dialogue.lastOf

@@ -12,7 +12,7 @@ ghost use mathlib.Core.Path.{_≡_};
 ghost use Prim.Native.Nat.{_+_, _≤_};
 ghost use lib.ListN.{length};
 ghost use lib.Dec.{leb};
-ghost use Rattle.dialogue.specs.Dialogue.{answerOf, requestAfter, replyAfter, bufferAfter};
+ghost use Rattle.dialogue.specs.Dialogue.{answerOf, requestAfter, outcomeAfter, bufferAfter};
 ghost use Rattle.session.specs.Session.{desk, longestLine, Sized, startOf, atByte, goesOn, spokenSession, laidOut, closing, turnOf, turnsOf, takeOf, endSession, endOut};
 
 // The sizes of what is lent. Each has room for the longest that it may hold: a line's digits, the bytes of a request and of an outcome, a call's buffer,
@@ -21,7 +21,7 @@ pub const HELD_BYTES: usize = LONGEST_REQUEST * 2;
 
 pub const REQUEST_BYTES: usize = LONGEST_REQUEST;
 
-pub const REPLY_BYTES: usize = LONGEST_OUTCOME;
+pub const OUTCOME_BYTES: usize = LONGEST_OUTCOME;
 
 pub const BUFFER_BYTES: usize = MOST_BYTES;
 
@@ -70,7 +70,7 @@ fn at_byte(session: Session, at: usize) -> Session
     }
 }
 
-// A new chunk, which is read from its first byte on. What was laid is written.
+// A new chunk, which is read from its first byte on. The caller has written what was laid.
 pub fn next_chunk(session: Session) -> Session
     ensures { λ r. ⌜ r ≡ atByte session 0 ⌝ }
 {
@@ -106,14 +106,14 @@ fn answer(
     at: usize,
     laid: usize,
     request: &mut [u8],
-    reply: &mut [u8],
+    outcome: &mut [u8],
     buffer: &mut [u8],
     out: &mut [u8],
 ) -> Session
     requires { ⌜ laid ≤ length (now out) ⌝ }
-    ensures { λ r. ⌜ (r ≡ spokenSession (answerOf run (now (line .entry)) (now (request .entry)) (now (reply .entry)) (now (buffer .entry))) at laid (length (now (out .entry)))) × (now (request .exit) ≡ requestAfter run (now (line .entry)) (now (request .entry))) × (now (reply .exit) ≡ replyAfter run (now (line .entry)) (now (reply .entry))) × (now (buffer .exit) ≡ bufferAfter run (now (line .entry)) (now (request .entry)) (now (reply .entry)) (now (buffer .entry))) × (now (out .exit) ≡ laidOut (answerOf run (now (line .entry)) (now (request .entry)) (now (reply .entry)) (now (buffer .entry))) laid (now (out .entry))) ⌝ }
+    ensures { λ r. ⌜ (r ≡ spokenSession (answerOf run (now (line .entry)) (now (request .entry)) (now (outcome .entry)) (now (buffer .entry))) at laid (length (now (out .entry)))) × (now (request .exit) ≡ requestAfter run (now (line .entry)) (now (request .entry))) × (now (outcome .exit) ≡ outcomeAfter run (now (line .entry)) (now (outcome .entry))) × (now (buffer .exit) ≡ bufferAfter run (now (line .entry)) (now (request .entry)) (now (outcome .entry)) (now (buffer .entry))) × (now (out .exit) ≡ laidOut (answerOf run (now (line .entry)) (now (request .entry)) (now (outcome .entry)) (now (buffer .entry))) laid (now (out .entry))) ⌝ }
 {
-    let turned = dialogue::answer(run, line, request, reply, buffer, &mut out[laid..]);
+    let turned = dialogue::answer(run, line, request, outcome, buffer, &mut out[laid..]);
     let after = turned.run;
     let said = turned.said;
     match said {
@@ -155,12 +155,12 @@ fn turn(
     chunk: &[u8],
     held: &mut [u8],
     request: &mut [u8],
-    reply: &mut [u8],
+    outcome: &mut [u8],
     buffer: &mut [u8],
     out: &mut [u8],
 ) -> Session
     requires { ⌜ session .laid ≤ length (now out) ⌝ }
-    ensures { λ r. ⌜ desk r (now (held .exit)) (now (request .exit)) (now (reply .exit)) (now (buffer .exit)) (now (out .exit)) ≡ turnOf (now (chunk .entry)) (desk session (now (held .entry)) (now (request .entry)) (now (reply .entry)) (now (buffer .entry)) (now (out .entry))) ⌝ }
+    ensures { λ r. ⌜ desk r (now (held .exit)) (now (request .exit)) (now (outcome .exit)) (now (buffer .exit)) (now (out .exit)) ≡ turnOf (now (chunk .entry)) (desk session (now (held .entry)) (now (request .entry)) (now (outcome .entry)) (now (buffer .entry)) (now (out .entry))) ⌝ }
 {
     let run = session.run;
     let at = session.at;
@@ -168,11 +168,11 @@ fn turn(
     match lines::take(chunk, at, held, session.have) {
         Took::Here { len, next } => {
             let line = bytes::block(chunk, at, len);
-            answer(run, line, next, laid, request, reply, buffer, out)
+            answer(run, line, next, laid, request, outcome, buffer, out)
         }
         Took::Held { len, next } => {
             let line = bytes::front(held, len);
-            answer(run, line, next, laid, request, reply, buffer, out)
+            answer(run, line, next, laid, request, outcome, buffer, out)
         }
         Took::More(have) => Session {
             run,
@@ -191,38 +191,38 @@ fn turns(
     chunk: &[u8],
     held: &mut [u8],
     request: &mut [u8],
-    reply: &mut [u8],
+    outcome: &mut [u8],
     buffer: &mut [u8],
     out: &mut [u8],
 ) -> Session
-    ensures { λ r. ⌜ desk r (now (held .exit)) (now (request .exit)) (now (reply .exit)) (now (buffer .exit)) (now (out .exit)) ≡ turnsOf (length (now (chunk .entry))) (now (chunk .entry)) (desk session (now (held .entry)) (now (request .entry)) (now (reply .entry)) (now (buffer .entry)) (now (out .entry))) ⌝ }
+    ensures { λ r. ⌜ desk r (now (held .exit)) (now (request .exit)) (now (outcome .exit)) (now (buffer .exit)) (now (out .exit)) ≡ turnsOf (length (now (chunk .entry))) (now (chunk .entry)) (desk session (now (held .entry)) (now (request .entry)) (now (outcome .entry)) (now (buffer .entry)) (now (out .entry))) ⌝ }
 {
     let mut here = session;
     while goes_on(here.on, here.at, chunk.len(), here.laid, out.len()) {
-        here = turn(here, chunk, held, request, reply, buffer, out);
+        here = turn(here, chunk, held, request, outcome, buffer, out);
     }
     here
 }
 
-// The lines of a chunk from where it goes on, up to the end of the run, while the longest line has room in `out` after what is laid. What was laid before
-// is written.
+// The lines of a chunk from where it goes on, up to the end of the run, while the longest line has room in `out` after what is laid. The caller has
+// written what was laid before.
 pub fn take(
     session: Session,
     chunk: &[u8],
     held: &mut [u8; HELD_BYTES],
     request: &mut [u8; REQUEST_BYTES],
-    reply: &mut [u8; REPLY_BYTES],
+    outcome: &mut [u8; OUTCOME_BYTES],
     buffer: &mut [u8; BUFFER_BYTES],
     out: &mut [u8; OUT_BYTES],
 ) -> Session
-    ensures { λ r. ⌜ (desk r (now (held .exit)) (now (request .exit)) (now (reply .exit)) (now (buffer .exit)) (now (out .exit)) ≡ takeOf (now (chunk .entry)) (desk session (now (held .entry)) (now (request .entry)) (now (reply .entry)) (now (buffer .entry)) (now (out .entry)))) × Sized (desk session (now (held .entry)) (now (request .entry)) (now (reply .entry)) (now (buffer .entry)) (now (out .entry))) ⌝ }
+    ensures { λ r. ⌜ (desk r (now (held .exit)) (now (request .exit)) (now (outcome .exit)) (now (buffer .exit)) (now (out .exit)) ≡ takeOf (now (chunk .entry)) (desk session (now (held .entry)) (now (request .entry)) (now (outcome .entry)) (now (buffer .entry)) (now (out .entry)))) × Sized (desk session (now (held .entry)) (now (request .entry)) (now (outcome .entry)) (now (buffer .entry)) (now (out .entry))) ⌝ }
 {
     turns(
         at_byte(session, session.at),
         chunk,
         held,
         request,
-        reply,
+        outcome,
         buffer,
         out,
     )

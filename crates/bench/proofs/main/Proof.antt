@@ -6,11 +6,11 @@ use Rattle.bench.proofs.main.Statement.{statement}
 use Rattle.bench.proofs.main.Tie as tie
 
 abbrev Inv-loop : tie.InvT-loop
-Inv-loop chunk₀ held₀ request₀ reply₀ buffer₀ out₀ session₀ n₀ turns₀ chunk held request reply buffer out session n turns =
+Inv-loop chunk₀ held₀ request₀ outcome₀ buffer₀ out₀ session₀ n₀ turns₀ chunk held request outcome buffer out session n turns =
     Unit {0}
 
 abbrev μ-loop : tie.MeasureT-loop
-μ-loop chunk₀ held₀ request₀ reply₀ buffer₀ out₀ session₀ n₀ turns₀ chunk held request reply buffer out session n turns = turns
+μ-loop chunk₀ held₀ request₀ outcome₀ buffer₀ out₀ session₀ n₀ turns₀ chunk held request outcome buffer out session n turns = turns
 
 large-buffer-requires : tie.Need-large-buffer-requires Inv-loop μ-loop
 large-buffer-requires c κs = tt

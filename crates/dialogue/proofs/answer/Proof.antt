@@ -2,7 +2,7 @@
 -- Assumes nothing.
 use mathlib.Core.Path.{refl}
 use borrow.Author.Needs.{needs}
-use Rattle.dialogue.specs.Dialogue.{answerOf, requestAfter, replyAfter, bufferAfter}
+use Rattle.dialogue.specs.Dialogue.{answerOf, requestAfter, outcomeAfter, bufferAfter}
 use Rattle.dialogue.proofs.Laws.{bytes-in}
 use Rattle.dialogue.proofs.answer.Statement.{statement}
 use Rattle.dialogue.proofs.answer.Tie as tie
@@ -41,7 +41,7 @@ same-length-3 : tie.Need-same-length-3
 same-length-3 c = search needs
 
 returns : tie.Need-returns
-unfolding answerOf requestAfter replyAfter bufferAfter
+unfolding answerOf requestAfter outcomeAfter bufferAfter
 returns c =
     let d = c .before .before .before .before .before .before .before .before .before .before .before .decode .ensures in
     let f = bytes-in _ _ _ _ _ (d .0) (d .1) (c .before .before .before .before .before .before .before .front .ensures) in
@@ -61,7 +61,7 @@ same-length-7 : tie.Need-same-length-7
 same-length-7 c = search needs
 
 returns-2 : tie.Need-returns-2
-unfolding answerOf requestAfter replyAfter bufferAfter
+unfolding answerOf requestAfter outcomeAfter bufferAfter
 returns-2 c =
     let d = c .before .before .before .before .before .before .before .before .before .before .before .before .decode2 .ensures in
     let f = bytes-in _ _ _ _ _ (d .0) (d .1) (c .before .before .before .before .before .before .before .before .front2 .ensures) in

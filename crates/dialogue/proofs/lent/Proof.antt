@@ -1,16 +1,16 @@
--- `dialogue::lent` meets its contract: each arm is a case of `lentOf`.
+-- `dialogue::lent` meets its contract: each arm is a case of `roomFor`.
 -- Assumes nothing.
 use Rattle.protocol.proofs.Cases.{cases}
-use Rattle.dialogue.specs.Dialogue.{lentOf}
+use Rattle.dialogue.specs.Dialogue.{roomFor}
 use Rattle.dialogue.proofs.lent.Statement.{statement}
 use Rattle.dialogue.proofs.lent.Tie as tie
 
 returns : tie.Need-returns
-unfolding lentOf
+unfolding roomFor
 returns c = search cases
 
 returns-2 : tie.Need-returns-2
-unfolding lentOf
+unfolding roomFor
 returns-2 c = search cases
 
 pub lent-spec : {M : Type 1} → statement M

@@ -7,7 +7,7 @@ use native.Mathlib.Omega.{arith}
 use lib.ListN.{length, take, drop, getD, drop-of-length-le}
 use borrow.Author.Needs.{needs}
 use Rattle.hex.proofs.Cases.{cases}
-use Rattle.hex.specs.Hex.{pairOf, bytesOf, decodedOf, outDecoded}
+use Rattle.hex.specs.Hex.{byteOf, bytesOf, decodedOf, outDecoded}
 use Rattle.hex.proofs.Laws.{drop-more, bytes-none, decode-turn, decode-stop, bad-pair}
 use lib.Seq.{drop-set-lt}
 use Rattle.hex.proofs.decode.Statement.{statement}
@@ -58,7 +58,7 @@ returns-3 c =
     let l = c .before .before .before .before .before .loop in
     let a = c .before .before .before .before .before .before .before .before .before .before .args in
     let s : List ℕ = a .digits .now in
-    let far : 255 < pairOf (getD s (l .i * 2) 0) (getD s (l .i * 2 + 1) 0) = rw (c .before .pair .ensures) at (c .if3 .taken) in
+    let far : 255 < byteOf (getD s (l .i * 2) 0) (getD s (l .i * 2 + 1) 0) = rw (c .before .pair .ensures) at (c .if3 .taken) in
     let front : bytesOf s ≡ take (l .i) (l .out) = l .inv .1 .1 .0 ∙ rw (bad-pair s (l .i) (omega arith) far) (append-nil _) in
     let laid = decode-stop s (l .out) (a .out .now) (l .i) (omega arith) front (l .inv .1 .1 .1) in
     let short : length (bytesOf s) < length s / 2 = omega (arith, laid .0) in

@@ -1,22 +1,22 @@
--- `lines::judge` meets its contract: each arm is a case of `judgeOf`.
+-- `lines::judge` meets its contract: each arm is a case of `tookBy`.
 -- Assumes nothing.
 use Prim.Native.Nat.{_+_, _-_, _≤_, _<_}
 use native.Mathlib.Omega.{arith}
 use borrow.Author.Needs.{needs}
 use Rattle.protocol.proofs.Cases.{cases}
-use Rattle.lines.specs.Lines.{judgeOf}
+use Rattle.lines.specs.Lines.{tookBy}
 use Rattle.lines.proofs.judge.Statement.{statement}
 use Rattle.lines.proofs.judge.Tie as tie
 
 returns : tie.Need-returns
-unfolding judgeOf
+unfolding tookBy
 returns c =
     let a = c .before .args in
     let held : a .room < a .have + a .n = omega arith in
     search cases
 
 returns-2 : tie.Need-returns-2
-unfolding judgeOf
+unfolding tookBy
 returns-2 c =
     let a = c .before .before .args in
     let held : a .room < a .have + a .n = omega arith in
@@ -26,11 +26,11 @@ add-t9 : tie.Need-add-t9
 add-t9 c = search needs
 
 returns-3 : tie.Need-returns-3
-unfolding judgeOf
+unfolding tookBy
 returns-3 c =
     let a = c .before .before .before .args in
     let held : a .have + a .n ≤ a .room = omega arith in
-    let left : a .chunk - a .from ≤ a .n = omega arith in
+    let left : a .size - a .from ≤ a .n = omega arith in
     search cases
 
 sub-if4 : tie.Need-sub-if4
@@ -40,11 +40,11 @@ add-t10 : tie.Need-add-t10
 add-t10 c = search needs
 
 returns-4 : tie.Need-returns-4
-unfolding judgeOf
+unfolding tookBy
 returns-4 c =
     let a = c .before .before .before .before .args in
     let held : a .have + a .n ≤ a .room = omega arith in
-    let left : a .chunk - a .from ≤ a .n = omega arith in
+    let left : a .size - a .from ≤ a .n = omega arith in
     search cases
 
 add-next : tie.Need-add-next
@@ -57,19 +57,19 @@ add-t12 : tie.Need-add-t12
 add-t12 c = search needs
 
 returns-5 : tie.Need-returns-5
-unfolding judgeOf
+unfolding tookBy
 returns-5 c =
     let a = c .before .before .before .before .before .args in
     let held : a .have + a .n ≤ a .room = omega arith in
-    let left : a .n < a .chunk - a .from = omega arith in
+    let left : a .n < a .size - a .from = omega arith in
     search cases
 
 returns-6 : tie.Need-returns-6
-unfolding judgeOf
+unfolding tookBy
 returns-6 c =
     let a = c .before .before .before .before .before .args in
     let held : a .have + a .n ≤ a .room = omega arith in
-    let left : a .n < a .chunk - a .from = omega arith in
+    let left : a .n < a .size - a .from = omega arith in
     search cases
 
 pub judge-spec : {M : Type 1} → statement M

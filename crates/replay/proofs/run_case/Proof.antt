@@ -5,10 +5,10 @@ use Rattle.replay.proofs.run_case.Statement.{statement}
 use Rattle.replay.proofs.run_case.Tie as tie
 
 abbrev Inv-loop : tie.InvT-loop
-Inv-loop put-chunk₀ put₀ wanted-chunk₀ wanted₀ request₀ reply₀ buffer₀ out₀ a₀ b₀ case₀ turns₀ put-chunk put wanted-chunk wanted request reply buffer out a b case turns = Unit {0}
+Inv-loop put-chunk₀ put₀ wanted-chunk₀ wanted₀ request₀ outcome₀ buffer₀ out₀ a₀ b₀ case₀ turns₀ put-chunk put wanted-chunk wanted request outcome buffer out a b case turns = Unit {0}
 
 abbrev μ-loop : tie.MeasureT-loop
-μ-loop put-chunk₀ put₀ wanted-chunk₀ wanted₀ request₀ reply₀ buffer₀ out₀ a₀ b₀ case₀ turns₀ put-chunk put wanted-chunk wanted request reply buffer out a b case turns = turns
+μ-loop put-chunk₀ put₀ wanted-chunk₀ wanted₀ request₀ outcome₀ buffer₀ out₀ a₀ b₀ case₀ turns₀ put-chunk put wanted-chunk wanted request outcome buffer out a b case turns = turns
 
 loop-holds : tie.Need-loop-holds Inv-loop μ-loop
 loop-holds c = tt

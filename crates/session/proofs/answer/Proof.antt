@@ -33,7 +33,7 @@ add-t25 : tie.Need-add-t25
 add-t25 c =
     let a = c .before .before .before .before .before .before .before .before .before .before .before .before .before .before .before .before .before .before .before .before .before .args in
     let e = c .before .before .before .before .before .before .before .before .before .before .before .answer .ensures in
-    let s = answerOf (a .run) (a .line .now) (a .request .now) (a .reply .now) (a .buffer .now) in
+    let s = answerOf (a .run) (a .line .now) (a .request .now) (a .outcome .now) (a .buffer .now) in
     let t = part-turned s (c .before .before .before .before .before .before .before .before .before .before .before .answer .result) (a .out .now) (a .laid) (e .0) in
     let u = ap (λ (x : Turned). x .said) t in
     let h = asked-room (s .saying) (length (a .out .now) - a .laid) (c .before .said .given .0 .0) (sym (c .before .said .given .1) ∙ u) in
@@ -46,7 +46,7 @@ add-t26 : tie.Need-add-t26
 add-t26 c =
     let a = c .before .before .before .before .before .before .before .before .before .before .before .before .before .before .before .before .before .before .before .before .before .args in
     let e = c .before .before .before .before .before .before .before .before .before .before .before .answer .ensures in
-    let s = answerOf (a .run) (a .line .now) (a .request .now) (a .reply .now) (a .buffer .now) in
+    let s = answerOf (a .run) (a .line .now) (a .request .now) (a .outcome .now) (a .buffer .now) in
     let t = part-turned s (c .before .before .before .before .before .before .before .before .before .before .before .answer .result) (a .out .now) (a .laid) (e .0) in
     let u = ap (λ (x : Turned). x .said) t in
     let h = last-room (s .saying) (length (a .out .now) - a .laid) (c .before .said2 .given .0 .0) (sym (c .before .said2 .given .1) ∙ u) in
@@ -69,7 +69,7 @@ unfolding spokenSession saidSession laidOut
 returns c =
     let a = c .before .before .before .before .before .before .before .before .before .before .before .before .before .before .before .before .before .before .before .before .before .args in
     let e = c .before .before .before .before .before .before .before .before .before .before .before .answer .ensures in
-    let s = answerOf (a .run) (a .line .now) (a .request .now) (a .reply .now) (a .buffer .now) in
+    let s = answerOf (a .run) (a .line .now) (a .request .now) (a .outcome .now) (a .buffer .now) in
     let t = part-turned s (c .before .before .before .before .before .before .before .before .before .before .before .answer .result) (a .out .now) (a .laid) (e .0) in
     let u = ap (λ (x : Turned). x .said) t in
     let v = ap (λ (x : Turned). x .run) t in
@@ -92,7 +92,7 @@ unfolding spokenSession saidSession laidOut
 returns-2 c =
     let a = c .before .before .before .before .before .before .before .before .before .before .before .before .before .before .before .before .before .before .before .before .before .args in
     let e = c .before .before .before .before .before .before .before .before .before .before .before .answer .ensures in
-    let s = answerOf (a .run) (a .line .now) (a .request .now) (a .reply .now) (a .buffer .now) in
+    let s = answerOf (a .run) (a .line .now) (a .request .now) (a .outcome .now) (a .buffer .now) in
     let t = part-turned s (c .before .before .before .before .before .before .before .before .before .before .before .answer .result) (a .out .now) (a .laid) (e .0) in
     let u = ap (λ (x : Turned). x .said) t in
     let v = ap (λ (x : Turned). x .run) t in

@@ -2,7 +2,7 @@
 -- Assumes nothing.
 use mathlib.Core.Path.{refl}
 use borrow.Author.Needs.{needs}
-use Rattle.session.specs.Session.{desk, moreOf}
+use Rattle.session.specs.Session.{desk, usedUp}
 use Rattle.session.proofs.Laws.{took-here, took-held, took-more, took-long}
 use Rattle.session.proofs.turn.Statement.{statement}
 use Rattle.session.proofs.turn.Tie as tie
@@ -81,7 +81,7 @@ same-length-11 : tie.Need-same-length-11
 same-length-11 c = search needs
 
 returns-3 : tie.Need-returns-3
-unfolding moreOf
+unfolding usedUp
 returns-3 c =
     let t = c .before .before .before .before .before .take .ensures in
     took-more _ (desk _ _ _ _ _ _) _ _ (t .0) (t .1) _ _ (c .before .have .given .1) refl

@@ -11,16 +11,16 @@ use Rattle.session.proofs.turns.Statement.{statement}
 use Rattle.session.proofs.turns.Tie as tie
 
 abbrev Inv-loop : tie.InvT-loop
-Inv-loop chunk held₀ request₀ reply₀ buffer₀ out₀ here₀ held request reply buffer out here =
-    Leads chunk (desk here held request reply buffer out) (turnsOf (length chunk) chunk (desk here₀ held₀ request₀ reply₀ buffer₀ out₀))
+Inv-loop chunk held₀ request₀ reply₀ buffer₀ out₀ here₀ held request outcome buffer out here =
+    Leads chunk (desk here held request outcome buffer out) (turnsOf (length chunk) chunk (desk here₀ held₀ request₀ reply₀ buffer₀ out₀))
     × (length held ≡ length held₀)
     × (length request ≡ length request₀)
-    × (length reply ≡ length reply₀)
+    × (length outcome ≡ length reply₀)
     × (length buffer ≡ length buffer₀)
     × (length out ≡ length out₀)
 
 abbrev μ-loop : tie.MeasureT-loop
-μ-loop chunk held₀ request₀ reply₀ buffer₀ out₀ here₀ held request reply buffer out here = length chunk - here .at
+μ-loop chunk held₀ request₀ reply₀ buffer₀ out₀ here₀ held request outcome buffer out here = length chunk - here .at
 
 loop-holds : tie.Need-loop-holds Inv-loop μ-loop
 loop-holds c =
@@ -40,7 +40,7 @@ loop-less c =
     let a = c .before .before .before .before .before .before .before .before .before .before .before .before .before .before .before .before .before .before .before .before .before .before .before .before .before .args in
     let l = c .before .before .before .before .before .before .before .before .before .before .before .before .before .before .before .before .before .before .loop in
     let g = goes-on-inside _ _ _ _ _ (sym (c .before .before .before .before .before .before .before .before .before .before .before .before .before .before .before .before .before .goes-on .ensures) ∙ c .before .before .before .before .before .before .before .before .before .before .before .before .before .before .before .before .if1 .taken) in
-    let w = desk (l .here) (l .held) (l .request) (l .reply) (l .buffer) (l .out) in
+    let w = desk (l .here) (l .held) (l .request) (l .outcome) (l .buffer) (l .out) in
     let e : c .before .before .before .before .before .before .before .before .before .before .turn .result .at ≡ turnOf (a .chunk .now) w .session .at = ap (λ (v : Desk). v .session .at) (c .before .before .before .before .before .before .before .before .before .before .turn .ensures) in
     omega (arith, g .1, turn-uses (a .chunk .now) w (g .1), e)
 

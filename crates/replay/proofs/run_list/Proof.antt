@@ -1,14 +1,14 @@
--- `replay::replay` meets its contract: nothing has to hold from turn to turn, and the measure is the number of turns that are left.
+-- `replay::run_list` meets its contract: nothing has to hold from turn to turn, and the measure is the number of turns that are left.
 -- Assumes nothing.
 use native.Mathlib.Omega.{arith}
-use Rattle.replay.proofs.replay.Statement.{statement}
-use Rattle.replay.proofs.replay.Tie as tie
+use Rattle.replay.proofs.run_list.Statement.{statement}
+use Rattle.replay.proofs.run_list.Tie as tie
 
 abbrev Inv-loop : tie.InvT-loop
-Inv-loop first second put-chunk₀ put₀ wanted-chunk₀ wanted₀ request₀ reply₀ buffer₀ out₀ words₀ session₀ turns₀ put-chunk put wanted-chunk wanted request reply buffer out words session turns = Unit {0}
+Inv-loop first second put-chunk₀ put₀ wanted-chunk₀ wanted₀ request₀ outcome₀ buffer₀ out₀ words₀ here₀ turns₀ put-chunk put wanted-chunk wanted request outcome buffer out words here turns = Unit {0}
 
 abbrev μ-loop : tie.MeasureT-loop
-μ-loop first second put-chunk₀ put₀ wanted-chunk₀ wanted₀ request₀ reply₀ buffer₀ out₀ words₀ session₀ turns₀ put-chunk put wanted-chunk wanted request reply buffer out words session turns = turns
+μ-loop first second put-chunk₀ put₀ wanted-chunk₀ wanted₀ request₀ outcome₀ buffer₀ out₀ words₀ here₀ turns₀ put-chunk put wanted-chunk wanted request outcome buffer out words here turns = turns
 
 large-buffer-requires : tie.Need-large-buffer-requires Inv-loop μ-loop
 large-buffer-requires c κs = tt
@@ -52,8 +52,8 @@ print-requires c κs = tt
 returns : tie.Need-returns Inv-loop μ-loop
 returns c = tt
 
-pub replay-spec : {M : Type 1} → statement M
-replay-spec =
+pub run-list-spec : {M : Type 1} → statement M
+run-list-spec =
     tie.close
     (tie.spec
     Inv-loop
