@@ -1,7 +1,7 @@
 // Input that comes in chunks of any size, put together to lines. A line that lies whole in a chunk is not copied.
 use protocol::bytes;
 ghost use mathlib.Core.Path.{_≡_};
-ghost use lib.ListN.{length, take as front, drop};
+ghost use lib.ListN.{length, drop};
 ghost use Rattle.lines.specs.Lines.{beforeFeed, tookBy, keptOf, tookOf, heldAfter};
 
 // What a chunk brings.
@@ -58,13 +58,12 @@ fn judge(size: usize, from: usize, n: usize, room: usize, have: usize) -> Took
 }
 
 // Puts n bytes of a chunk from `from` on after the `have` that are held, unless a line lies whole in its chunk.
-fn keep(took: Took, chunk: &[u8], from: usize, n: usize, held: &mut [u8], have: usize)
-    ensures { λ _. ⌜ now (held .exit) ≡ keptOf took (front n (drop from (now (chunk .entry)))) (now (held .entry)) have ⌝ }
+fn keep(took: Took, line: &[u8], held: &mut [u8], have: usize)
+    ensures { λ _. ⌜ now (held .exit) ≡ keptOf took (now (line .entry)) (now (held .entry)) have ⌝ }
 {
     if let Took::Here { len, next } = took {
         return;
     }
-    let line = bytes::block(chunk, from, n);
     bytes::store_block(held, have, line, line.len());
 }
 
@@ -74,6 +73,6 @@ pub fn take(chunk: &[u8], from: usize, held: &mut [u8], have: usize) -> Took
 {
     let n = run(chunk, from);
     let took = judge(chunk.len(), from, n, held.len(), have);
-    keep(took, chunk, from, n, held, have);
+    keep(took, bytes::block(chunk, from, n), held, have);
     took
 }

@@ -14,9 +14,6 @@ returns : tie.Need-returns
 unfolding keptOf
 returns c = rw (c .before .took .given .1)
 
-block-requires : tie.Need-block-requires
-block-requires c κs = search needs
-
 store-block-requires : tie.Need-store-block-requires
 store-block-requires c κs = search needs
 
@@ -24,7 +21,7 @@ same-length : tie.Need-same-length
 same-length c = search needs
 
 returns-2 : tie.Need-returns-2
-returns-2 c = c .before .before .store-block .ensures ∙ rw (c .before .before .before .before .block .ensures) (not-here _ _ _ _ (c .before .before .before .before .before .match .keys2))
+returns-2 c = c .before .before .store-block .ensures ∙ not-here _ _ _ _ (c .before .before .before .before .match .keys2)
 
 pub keep-spec : {M : Type 1} → statement M
-keep-spec = tie.close (tie.spec enum-known-took returns block-requires store-block-requires same-length returns-2)
+keep-spec = tie.close (tie.spec enum-known-took returns store-block-requires same-length returns-2)

@@ -13,6 +13,9 @@ run-requires c κs = search needs
 judge-requires : tie.Need-judge-requires
 judge-requires c κs = search needs
 
+block-requires : tie.Need-block-requires
+block-requires c κs = search needs
+
 keep-requires : tie.Need-keep-requires
 keep-requires c κs = search needs
 
@@ -22,11 +25,12 @@ same-length c = search needs
 returns : tie.Need-returns
 unfolding tookOf heldAfter
 returns c =
-    let r = c .before .before .before .before .before .run .ensures in
-    let j = c .before .before .before .before .judge .ensures in
-    (rw (← r) j, c .before .before .keep .ensures ∙ rw (j, r, take-before))
+    let r = c .before .before .before .before .before .before .run .ensures in
+    let j = c .before .before .before .before .before .judge .ensures in
+    let b = c .before .before .before .before .block .ensures in
+    (rw (← r) j, c .before .before .keep .ensures ∙ rw (b, j, r, take-before))
 
 pub take-spec : {M : Type 1} → statement M
 take-spec =
     tie.close
-    (tie.spec run-requires judge-requires keep-requires same-length returns)
+    (tie.spec run-requires judge-requires block-requires keep-requires same-length returns)
