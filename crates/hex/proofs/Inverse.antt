@@ -59,7 +59,7 @@ good b s t h e =
     search cases
 
 -- bytes come back from their digits
-bytes-hex : (s : List ℕ) → AllBytes s → bytesOf (hexOf s) ≡ s
+pub bytes-hex : (s : List ℕ) → AllBytes s → bytesOf (hexOf s) ≡ s
 unfolding bytesOf hexOf
 bytes-hex [] h = refl
 bytes-hex (b ∷ s) h =
@@ -161,7 +161,7 @@ decode-encode s room h fits = (accepted, bytes-hex s h)
     accepted = decoded-even (hexOf s) room (length s) (length-hex s) fits (omega (arith, ap length (bytes-hex s h)))
 
 -- what decoding gives are bytes
-bytes-small : (s : List ℕ) → AllBytes (bytesOf s)
+pub bytes-small : (s : List ℕ) → AllBytes (bytesOf s)
 unfolding bytesOf if_then_else_
 bytes-small [] k = omega arith
 bytes-small (d ∷ []) k = omega arith

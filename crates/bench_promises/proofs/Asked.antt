@@ -1,0 +1,90 @@
+-- A request line asks for what its row says: the machine's tests of it, kind by kind.
+-- Assumes nothing.
+use Prim.Native.Nat.{ℕ, zero, suc, _+_, _-_, _*_, _/_, _%_, _≤_, _<_}
+use mathlib.Core.Path.{_≡_, refl, sym, ap, _∙_}
+use mathlib.Core.Bool.{Bool, true, false, _||_}
+use mathlib.Core.List.{List, [], _∷_}
+use native.Mathlib.Omega.{arith}
+use lib.ListN.{length, take, drop, getD, replicate}
+use lib.Seq.{drop-cons}
+use lib.Dec.{ltb, eqb}
+use borrow.Author.Tests.{lt-ltb, le-ltb, eq-eqb, ne-eqb, ltb-true, ltb-false}
+use Rattle.protocol.specs.Pick.{if_then_else_}
+use Rattle.protocol.specs.declared.common.Config.{Config}
+use Rattle.calls.specs.declared.kind.Kind.{Kind}
+use Rattle.requests.specs.Fields.{pairAt, quadAt}
+use Rattle.requests.specs.Request as requests
+use Rattle.requests.specs.Request.{configOf, calledOf, exactOf}
+use Rattle.requests.specs.declared.request.Request.{Request}
+use Rattle.requests.specs.declared.request.Request.the-variants as request
+use Rattle.bench_promises.specs.Numbers.{number, field}
+use Rattle.bench_promises.specs.Kinds.{settings}
+
+-- ---- numbers
+
+byte-on : (s : List ℕ) (at : ℕ) → at < length s → drop at s ≡ getD s at 0 ∷ drop (at + 1) s
+byte-on s at h = let e : at + 1 ≡ suc at = omega arith in rw e (drop-cons s at 0 h)
+
+pub byte-at : (at : ℕ) (s : List ℕ) → at + 1 ≤ length s → field at 1 s ≡ getD s at 0
+unfolding number
+byte-at at s h = rw (byte-on s at (omega arith)) (omega arith)
+
+pub pair-at : (at : ℕ) (s : List ℕ) → at + 2 ≤ length s → field at 2 s ≡ pairAt at s
+unfolding number pairAt
+pair-at at s h = rw (byte-on s at (omega arith), byte-on s (at + 1) (omega arith)) (omega arith)
+
+pub quad-at : (at : ℕ) (s : List ℕ) → at + 4 ≤ length s → field at 4 s ≡ quadAt at s
+unfolding number quadAt pairAt
+quad-at at s h =
+    let e : at + 1 + 1 ≡ at + 2 = omega arith in
+    let f : at + 2 + 1 ≡ at + 3 = omega arith in
+    rw (byte-on s at (omega arith), byte-on s (at + 1) (omega arith), e, byte-on s (at + 2) (omega arith), f, byte-on s (at + 3) (omega arith)) (omega arith)
+
+-- ---- the header
+
+flags : (f : ℕ) → f ≤ 3 → (eqb (f % 2) 1 ≡ (eqb f 1 || eqb f 3)) × (eqb (f / 2 % 2) 1 ≡ (eqb f 2 || eqb f 3))
+flags zero h = (refl, refl)
+flags (suc zero) h = (refl, refl)
+flags (suc (suc zero)) h = (refl, refl)
+flags (suc (suc (suc zero))) h = (refl, refl)
+flags (suc (suc (suc (suc f)))) h = absurd (omega arith)
+
+pub settings-of : (line : List ℕ) → 4 ≤ length line → getD line 1 0 ≤ 3 → configOf line ≡ settings (getD line 1 0) (field 2 2 line)
+unfolding configOf
+settings-of line h f = let b = flags (getD line 1 0) f in rw (b .0, b .1, pair-at 2 line h)
+
+-- ---- the tests of a length
+
+module _ (k : Kind) (c : Config) (at size n : ℕ) where
+  pub missing : n < at → calledOf k c at size n ≡ requests.bad
+  unfolding calledOf if_then_else_
+  missing h = rw (lt-ltb n at h) (by (ltb 8192 size))
+    where
+      by : (t : Bool) → (if t then requests.bad else requests.bad) ≡ requests.bad
+      by true = refl
+      by false = refl
+
+  pub long : 8192 < n - at → calledOf k c at size n ≡ requests.bad
+  unfolding calledOf if_then_else_
+  long h = rw (lt-ltb 8192 (n - at) h) (by (ltb 8192 size) (ltb n at))
+    where
+      by : (t u : Bool) → (if t then requests.bad else if u then requests.bad else requests.bad) ≡ requests.bad
+      by true u = refl
+      by false true = refl
+      by false false = refl
+
+  pub wide : 8192 < size → calledOf k c at size n ≡ requests.bad
+  unfolding calledOf if_then_else_
+  wide h = rw (lt-ltb 8192 size h)
+
+  pub called : at ≤ n → n - at ≤ 8192 → size ≤ 8192 → calledOf k c at size n ≡ request.Call k c (4 + at) size
+  unfolding calledOf if_then_else_
+  called h l w = rw (le-ltb 8192 size w, le-ltb n at h, le-ltb 8192 (n - at) l)
+
+  pub other : (p : ℕ) → (n ≡ at + p → ⊥) → exactOf k c at p size n ≡ requests.bad
+  unfolding exactOf if_then_else_
+  other p h = rw (ne-eqb n (at + p) h)
+
+  pub exact : (p : ℕ) → n ≡ at + p → exactOf k c at p size n ≡ calledOf k c at size n
+  unfolding exactOf if_then_else_
+  exact p h = rw (eq-eqb n (at + p) h)

@@ -1,0 +1,257 @@
+-- Each row: the call that its kind starts is the Rust's function of that row.
+-- Assumes nothing.
+use Prim.Native.Nat.{ℕ, _+_, _-_, _≤_, _<_}
+use mathlib.Core.Path.{_≡_, refl, sym, ap, _∙_}
+use mathlib.Core.Bool.{Bool, true, false, false≢true}
+use mathlib.Core.List.{List, [], _∷_}
+use native.Mathlib.Omega.{arith}
+use lib.ListN.{length, drop, getD, replicate, length-replicate, length-drop, drop-of-length-le}
+use lib.Seq.{getD-drop, drop-drop}
+use lib.Dec.{ltb, eqb}
+use borrow.Author.Tests.{eq-eqb, ltb-true, ltb-false, eqb-true, eqb-false}
+use Rattle.hex.specs.BothWays.{AllBytes}
+use Rattle.protocol.specs.Pick.{if_then_else_}
+use Rattle.protocol.specs.declared.common.Config.{Config}
+use Rattle.protocol.specs.declared.error.Answer.the-variants as answer
+use Rattle.engine.specs.Budget.{nothing}
+use Rattle.calls.specs.Call.{startOf}
+use Rattle.calls.specs.declared.kind.Kind.{Kind}
+use Rattle.calls.specs.declared.kind.Kind.the-variants as kind
+use Rattle.requests.specs.Fields.{pairAt, quadAt}
+use Rattle.requests.specs.Request as requests
+use Rattle.requests.specs.Request.{calledOf, exactOf, askedOf}
+use Rattle.requests.specs.declared.request.Request.{Request}
+use Rattle.requests.specs.declared.request.Request.the-variants as request
+use Rattle.dialogue.specs.Dialogue.{zeros}
+use Rattle.dialogue.specs.Bench.{callRun, requestThen}
+use Rattle.original.specs.Bus.{BusOutcome, begun, Came, Err, Read, _leaving_}
+use Rattle.original.specs.OriginalInterface as rust
+use Rattle.original.specs.OriginalR5 as rust-r5
+use Rattle.original.specs.Equal.{Equal}
+use Rattle.original.specs.ByKind.{fed, long-frame, long-register, input-given, keys-written, key-written, EqualByKind}
+use Rattle.original.proofs.Equal.{equal}
+use Rattle.original.proofs.ByKind.{equal-by-kind}
+use Rattle.bench_promises.specs.Kinds.{Row, rows, Asked, bad, call, askedBy, askedAmong}
+use Rattle.bench_promises.specs.RustBench.{transferLines, runAsked}
+use Rattle.bench_promises.proofs.Said.{end-said}
+use Rattle.bench_promises.proofs.Follow.{lent, follow}
+use Rattle.bench_promises.proofs.Asked.{byte-at, pair-at, quad-at, missing, long, wide, called, other, exact}
+
+-- the row at a place of the table
+abbrev row : ℕ → Row
+row i = getD rows i (record { kind = 0; fixed = 0; least = 0; most = 0; size = λ s. 0; call = λ config s p b os. Err answer.BadLine begun os leaving b })
+
+module _ (line : List ℕ) (lines : List (List ℕ)) (rest : List ℕ) (c : Config) where
+  abbrev args : List ℕ
+  args = drop 4 line
+
+  -- what the machine makes of a request is what the Rust makes of what is asked
+  abbrev Same : Request → Asked → Type 0
+  Same q a = requestThen q line lines rest ≡ runAsked a lines rest
+
+  pub same-bad : (q : Request) → q ≡ requests.bad → Same q bad
+  unfolding requestThen runAsked nothing
+  same-bad q e = rw e (ap (λ (s : List ℕ). s ∷ []) (end-said answer.BadLine nothing []))
+
+  -- the lengths of a line are those of its row
+  record Within (row : Row) : Type 0 where
+    fixed : row .fixed ≤ length args
+    least : row .least ≤ length args - row .fixed
+    most : length args - row .fixed ≤ row .most
+    size : row .size args ≤ 8192
+
+  -- the machine asks for a call of this kind exactly within them
+  record Tests (row : Row) (k : Kind) (q : Request) : Type 0 where
+    missing : length args < row .fixed → q ≡ requests.bad
+    short : row .fixed ≤ length args → length args - row .fixed < row .least → q ≡ requests.bad
+    long : row .fixed ≤ length args → row .most < length args - row .fixed → q ≡ requests.bad
+    wide : row .fixed ≤ length args → 8192 < row .size args → q ≡ requests.bad
+    good : Within row → q ≡ request.Call k c (4 + row .fixed) (row .size args)
+
+  abbrev payload : Row → List ℕ
+  payload row = drop (row .fixed) args
+
+  abbrev buffer : Row → List ℕ
+  buffer row = replicate (row .size args) 0xA5
+
+  -- the call of a kind, fed
+  abbrev fedAs : Row → Kind → List BusOutcome → Read
+  fedAs row k os = fed (startOf k c (length (payload row)) (length (buffer row)) 39) (payload row) (buffer row) lent [] os
+
+  same-call : (row : Row) (k : Kind) → ((os : List BusOutcome) → row .call c args (payload row) (buffer row) os ≡ fedAs row k os)
+      → Same (request.Call k c (4 + row .fixed) (row .size args)) (call (row .call c args (payload row) (buffer row)))
+  unfolding requestThen runAsked transferLines
+  same-call row k e =
+      let own : length (buffer row) ≡ row .size args = length-replicate {A = ℕ} (row .size args) 0xA5 in
+      rw (← drop-drop (row .fixed) 4 line)
+      (ap (λ (n : ℕ). callRun (startOf k c (length (payload row)) n 39) (payload row) (buffer row) lines rest) (sym own)
+      ∙ sym (follow lines (row .call c args (payload row) (buffer row)) rest (payload row) (startOf k c (length (payload row)) (length (buffer row)) 39) (buffer row) [] [] e))
+
+  leaf : (row : Row) (k : Kind) (q : Request) → Tests row k q → (Within row → (os : List BusOutcome) → row .call c args (payload row) (buffer row) os ≡ fedAs row k os)
+      → Same q (askedBy row c args)
+  unfolding askedBy if_then_else_
+  leaf row k q t e =
+      by (ltb (length args) (row .fixed)) refl (ltb (length args - row .fixed) (row .least)) refl (ltb (row .most) (length args - row .fixed)) refl (ltb 8192 (row .size args)) refl
+    where
+      by : (a : Bool) → ltb (length args) (row .fixed) ≡ a → (b : Bool) → ltb (length args - row .fixed) (row .least) ≡ b
+          → (d : Bool) → ltb (row .most) (length args - row .fixed) ≡ d → (w : Bool) → ltb 8192 (row .size args) ≡ w
+          → Same q (if a then bad else if b then bad else if d then bad else if w then bad else call (row .call c args (payload row) (buffer row)))
+      by true a b p d q′ w r = same-bad q (t .missing (ltb-true _ _ a))
+      by false a true p d q′ w r = same-bad q (t .short (ltb-false _ _ a) (ltb-true _ _ p))
+      by false a false p true q′ w r = same-bad q (t .long (ltb-false _ _ a) (ltb-true _ _ q′))
+      by false a false p false q′ true r = same-bad q (t .wide (ltb-false _ _ a) (ltb-true _ _ r))
+      by false a false p false q′ false r =
+          let within : Within row = record { fixed = ltb-false _ _ a; least = ltb-false _ _ p; most = ltb-false _ _ q′; size = ltb-false _ _ r } in
+          rw (t .good within) (same-call row k (e within))
+
+  -- a payload of any length up to 8,192
+  any-length : (row : Row) (k : Kind) (size : ℕ) → row .least ≡ 0 → row .most ≡ 8192 → (row .fixed ≤ length args → size ≡ row .size args) → Tests row k (calledOf k c (row .fixed) size (length args))
+  any-length row k size l m e = record {
+    missing = missing k c (row .fixed) size (length args);
+    short = λ f h. absurd (omega arith);
+    long = λ f h. long k c (row .fixed) size (length args) (omega arith);
+    wide = λ f h. wide k c (row .fixed) size (length args) (rw (e f) h);
+    good = λ w.
+        called k c (row .fixed) size (length args) (w .fixed) (omega (arith, w .most)) (rw (e (w .fixed)) (w .size)) ∙ ap (request.Call k c (4 + row .fixed)) (e (w .fixed));
+  }
+
+  -- a payload of one length
+  one-length : (row : Row) (k : Kind) (p size : ℕ) → p ≤ 8192 → row .least ≡ p → row .most ≡ p → (row .fixed ≤ length args → size ≡ row .size args)
+      → Tests row k (exactOf k c (row .fixed) p size (length args))
+  one-length row k p size small l m e = record {
+    missing = λ h. other k c (row .fixed) size (length args) p (λ q. omega arith);
+    short = λ f h. other k c (row .fixed) size (length args) p (λ q. omega arith);
+    long = λ f h. other k c (row .fixed) size (length args) p (λ q. omega arith);
+    wide = λ f h. by f h (eqb (length args) (row .fixed + p)) refl;
+    good = λ w.
+        exact k c (row .fixed) size (length args) p (omega (arith, w .fixed, w .least, w .most))
+        ∙ called k c (row .fixed) size (length args) (w .fixed) (omega (arith, w .most)) (rw (e (w .fixed)) (w .size)) ∙ ap (request.Call k c (4 + row .fixed)) (e (w .fixed));
+  }
+    where
+      by : row .fixed ≤ length args → 8192 < row .size args → (t : Bool) → eqb (length args) (row .fixed + p) ≡ t → exactOf k c (row .fixed) p size (length args) ≡ requests.bad
+      by f h true q = exact k c (row .fixed) size (length args) p (eqb-true _ _ q) ∙ wide k c (row .fixed) size (length args) (rw (e f) h)
+      by f h false q = other k c (row .fixed) size (length args) p (eqb-false _ _ q)
+
+  -- two chains of choices, choice by choice
+  both : (t : Bool) (q r : Request) (a b : Asked) → Same q a → Same r b → Same (if t then q else r) (if t then a else b)
+  unfolding if_then_else_
+  both true q r a b x y = x
+  both false q r a b x y = y
+
+  -- the function, or the added refusal
+  either : (t : Bool) (x y : Came) (b : List ℕ) (f : Read) → (t ≡ true → f ≡ (x leaving b)) → (t ≡ false → f ≡ (y leaving b)) → ((if t then x else y) leaving b) ≡ f
+  unfolding if_then_else_
+  either true x y b f h g = sym (h refl)
+  either false x y b f h g = sym (g refl)
+
+  either-read : (t : Bool) (x y f : Read) → (t ≡ true → f ≡ x) → (t ≡ false → f ≡ y) → (if t then x else y) ≡ f
+  unfolding if_then_else_
+  either-read true x y f h g = sym (h refl)
+  either-read false x y f h g = sym (g refl)
+
+  unlike-not : (n : ℕ) (s : List ℕ) → (if eqb (length s) n then false else true) ≡ true → length s ≡ n → ⊥
+  unfolding if_then_else_
+  unlike-not n s h e = false≢true (rw (eq-eqb (length s) n e) at h)
+
+  unlike-same : (n : ℕ) (s : List ℕ) → (if eqb (length s) n then false else true) ≡ false → length s ≡ n
+  unfolding if_then_else_
+  unlike-same n s = by (eqb (length s) n) refl
+    where
+      by : (t : Bool) → eqb (length s) n ≡ t → (if t then false else true) ≡ false → length s ≡ n
+      by true e h = eqb-true (length s) n e
+      by false e h = absurd (false≢true (sym h))
+
+  module _ (small : c .«max_bus_retries» ≤ 65535) (bytes : AllBytes line) where
+    steady : (i : ℕ) → length (lent i .work) ≡ 39
+    unfolding zeros
+    steady i = refl
+
+    e : (os : List BusOutcome) → EqualByKind c 39 lent os
+    e os = equal-by-kind c small 39 (omega arith) lent steady os
+
+    f : (os : List BusOutcome) → Equal c 39 lent os
+    f os = equal c small 39 (omega arith) lent steady os
+
+    small-buffer : (row : Row) → Within row → length (buffer row) ≤ 18446744073709551615
+    small-buffer row w = rw (length-replicate {A = ℕ} (row .size args) 0xA5) (omega (arith, w .size))
+
+    all-bytes : (i : ℕ) → getD args i 0 < 256
+    all-bytes i = rw (getD-drop 4 line i 0) (bytes (4 + i))
+
+    pub every-kind : (k : ℕ) → Same (askedOf k c args) (askedAmong rows k c args)
+    unfolding askedOf askedAmong
+    every-kind k =
+        both (eqb k 0x01) _ _ _ _
+        (leaf (row 0) (kind.WriteDataflash (pairAt 0 args)) _ (any-length (row 0) (kind.WriteDataflash (pairAt 0 args)) 0 refl refl (λ h. refl))
+        (λ w os. rw (pair-at 0 args (omega (arith, w .fixed))) (sym (e os .same (kind.WriteDataflash (pairAt 0 args)) (payload (row 0)) (buffer (row 0)) tt))))
+        (both (eqb k 0x02) _ _ _ _
+        (leaf (row 1) (kind.ReadDataflash (pairAt 0 args)) _ (one-length (row 1) (kind.ReadDataflash (pairAt 0 args)) 0 (pairAt 2 args) (omega arith) refl refl (λ h. sym (pair-at 2 args h)))
+        (λ w os. rw (pair-at 0 args (omega (arith, w .fixed))) (sym (e os .same (kind.ReadDataflash (pairAt 0 args)) (payload (row 1)) (buffer (row 1)) tt))))
+        (both (eqb k 0x03) _ _ _ _
+        (leaf (row 2) (kind.WriteRegister (getD args 0 0)) _ (any-length (row 2) (kind.WriteRegister (getD args 0 0)) 0 refl refl (λ h. refl))
+        (λ w os. rw (byte-at 0 args (omega (arith, w .fixed))) (sym (e os .same (kind.WriteRegister (getD args 0 0)) (payload (row 2)) (buffer (row 2)) tt))))
+        (both (eqb k 0x04) _ _ _ _
+        (leaf (row 3) (kind.ReadRegister (getD args 0 0)) _ (one-length (row 3) (kind.ReadRegister (getD args 0 0)) 0 (pairAt 1 args) (omega arith) refl refl (λ h. sym (pair-at 1 args h)))
+        (λ w os. rw (byte-at 0 args (omega (arith, w .fixed))) (sym (e os .same (kind.ReadRegister (getD args 0 0)) (payload (row 3)) (buffer (row 3)) tt))))
+        (both (eqb k 0x05) _ _ _ _
+        (leaf (row 4) (kind.DispatchCommand (quadAt 0 args)) _ (any-length (row 4) (kind.DispatchCommand (quadAt 0 args)) (pairAt 4 args) refl refl (λ h. sym (pair-at 4 args h)))
+        (λ w os. rw (quad-at 0 args (omega (arith, w .fixed))) (either-read (rust.dispatchPanics (payload (row 4)) (buffer (row 4))) _ _ _
+        (λ t. e os .added (kind.DispatchCommand (quadAt 0 args)) (payload (row 4)) (buffer (row 4)) answer.NotACommand (input-given (quadAt 0 args) t))
+        (λ t. e os .same (kind.DispatchCommand (quadAt 0 args)) (payload (row 4)) (buffer (row 4)) t))))
+        (both (eqb k 0x06) _ _ _ _
+        (leaf (row 5) (kind.ReadBuffer (getD args 0 0)) _ (one-length (row 5) (kind.ReadBuffer (getD args 0 0)) 0 (pairAt 1 args) (omega arith) refl refl (λ h. sym (pair-at 1 args h)))
+        (λ w os. rw (byte-at 0 args (omega (arith, w .fixed))) (sym (e os .same (kind.ReadBuffer (getD args 0 0)) (payload (row 5)) (buffer (row 5)) (small-buffer (row 5) w)))))
+        (both (eqb k 0x07) _ _ _ _
+        (leaf (row 6) (kind.WriteBuffer (getD args 0 0)) _ (any-length (row 6) (kind.WriteBuffer (getD args 0 0)) 0 refl refl (λ h. refl))
+        (λ w os. rw (byte-at 0 args (omega (arith, w .fixed))) (sym (e os .same (kind.WriteBuffer (getD args 0 0)) (payload (row 6)) (buffer (row 6)) tt))))
+        (both (eqb k 0x08) _ _ _ _
+        (leaf (row 7) kind.ReadSecurityKeys _ (one-length (row 7) kind.ReadSecurityKeys 0 28 (omega arith) refl refl (λ h. refl))
+        (λ w os. sym (e os .same kind.ReadSecurityKeys (payload (row 7)) (buffer (row 7)) (length-replicate {A = ℕ} 28 0xA5))))
+        (both (eqb k 0x09) _ _ _ _
+        (leaf (row 8) kind.WriteSecurityKeys _ (any-length (row 8) kind.WriteSecurityKeys 0 refl refl (λ h. refl))
+        (λ w os. either (if eqb (length (payload (row 8))) 28 then false else true) _ _ (buffer (row 8)) _
+        (λ t. e os .added kind.WriteSecurityKeys (payload (row 8)) (buffer (row 8)) answer.WrongBuffer (keys-written (unlike-not 28 (payload (row 8)) t)))
+        (λ t. e os .same kind.WriteSecurityKeys (payload (row 8)) (buffer (row 8)) (unlike-same 28 (payload (row 8)) t))))
+        (both (eqb k 0x0A) _ _ _ _
+        (leaf (row 9) kind.ReadAuthenticationKey _ (one-length (row 9) kind.ReadAuthenticationKey 0 16 (omega arith) refl refl (λ h. refl))
+        (λ w os. sym (e os .same kind.ReadAuthenticationKey (payload (row 9)) (buffer (row 9)) (length-replicate {A = ℕ} 16 0xA5))))
+        (both (eqb k 0x0B) _ _ _ _
+        (leaf (row 10) kind.WriteAuthenticationKey _ (any-length (row 10) kind.WriteAuthenticationKey 0 refl refl (λ h. refl))
+        (λ w os. either (if eqb (length (payload (row 10))) 16 then false else true) _ _ (buffer (row 10)) _
+        (λ t. e os .added kind.WriteAuthenticationKey (payload (row 10)) (buffer (row 10)) answer.WrongBuffer (key-written (unlike-not 16 (payload (row 10)) t)))
+        (λ t. e os .same kind.WriteAuthenticationKey (payload (row 10)) (buffer (row 10)) (unlike-same 16 (payload (row 10)) t))))
+        (both (eqb k 0x0C) _ _ _ _
+        (leaf (row 11) (kind.ReadRegisterUnchecked (getD args 0 0)) _ (one-length (row 11) (kind.ReadRegisterUnchecked (getD args 0 0)) 0 (pairAt 1 args) (omega arith) refl refl (λ h. sym (pair-at 1 args h)))
+        (λ w os. rw (byte-at 0 args (omega (arith, w .fixed))) (sym (e os .same (kind.ReadRegisterUnchecked (getD args 0 0)) (payload (row 11)) (buffer (row 11)) (small-buffer (row 11) w)))))
+        (both (eqb k 0x0D) _ _ _ _
+        (leaf (row 12) (kind.WriteRegisterUnchecked (getD args 0 0)) _ (any-length (row 12) (kind.WriteRegisterUnchecked (getD args 0 0)) 0 refl refl (λ h. refl))
+        (λ w os. rw (byte-at 0 args (omega (arith, w .fixed))) (either (rust-r5.uncheckedPanics (payload (row 12))) _ _ (buffer (row 12)) _
+        (λ t. e os .added (kind.WriteRegisterUnchecked (getD args 0 0)) (payload (row 12)) (buffer (row 12)) answer.DataTooLarge (long-register (getD args 0 0) t))
+        (λ t. e os .same (kind.WriteRegisterUnchecked (getD args 0 0)) (payload (row 12)) (buffer (row 12)) t))))
+        (both (eqb k 0x0E) _ _ _ _
+        (leaf (row 13) (kind.SendAccessKey (pairAt 0 args) (pairAt 2 args)) _ (one-length (row 13) (kind.SendAccessKey (pairAt 0 args) (pairAt 2 args)) 0 0 (omega arith) refl refl (λ h. refl))
+        (λ w os. rw (pair-at 0 args (omega (arith, w .fixed)), pair-at 2 args (omega (arith, w .fixed))) (sym (e os .same (kind.SendAccessKey (pairAt 0 args) (pairAt 2 args)) (payload (row 13)) (buffer (row 13)) (drop-of-length-le args {i = 4} (omega (arith, w .most, w .fixed)))))))
+        (both (eqb k 0x0F) _ _ _ _
+        (leaf (row 14) kind.ReadMfgInfoC _ (one-length (row 14) kind.ReadMfgInfoC 0 (pairAt 0 args) (omega arith) refl refl (λ h. sym (pair-at 0 args h)))
+        (λ w os. sym (e os .same kind.ReadMfgInfoC (payload (row 14)) (buffer (row 14)) tt)))
+        (both (eqb k 0x10) _ _ _ _
+        (leaf (row 15) (kind.WriteMfgInfoC (pairAt 0 args) (pairAt 2 args)) _ (any-length (row 15) (kind.WriteMfgInfoC (pairAt 0 args) (pairAt 2 args)) 0 refl refl (λ h. refl))
+        (λ w os. rw (pair-at 0 args (omega (arith, w .fixed)), pair-at 2 args (omega (arith, w .fixed))) (sym (e os .same (kind.WriteMfgInfoC (pairAt 0 args) (pairAt 2 args)) (payload (row 15)) (buffer (row 15)) tt))))
+        (both (eqb k 0x11) _ _ _ _
+        (leaf (row 16) kind.ReadMfgInfo _ (one-length (row 16) kind.ReadMfgInfo 0 (pairAt 0 args) (omega arith) refl refl (λ h. sym (pair-at 0 args h)))
+        (λ w os. sym (e os .same kind.ReadMfgInfo (payload (row 16)) (buffer (row 16)) tt)))
+        (both (eqb k 0x12) _ _ _ _
+        (leaf (row 17) kind.WriteMfgInfo _ (any-length (row 17) kind.WriteMfgInfo 0 refl refl (λ h. refl))
+        (λ w os. sym (e os .same kind.WriteMfgInfo (payload (row 17)) (buffer (row 17)) tt)))
+        (both (eqb k 0x13) _ _ _ _
+        (leaf (row 18) kind.ReadChargingVoltageOverride _ (one-length (row 18) kind.ReadChargingVoltageOverride 0 10 (omega arith) refl refl (λ h. refl))
+        (λ w os. sym (e os .same kind.ReadChargingVoltageOverride (payload (row 18)) (buffer (row 18)) (length-replicate {A = ℕ} 10 0xA5))))
+        (both (eqb k 0x14) _ _ _ _
+        (leaf (row 19) kind.WriteChargingVoltageOverride _ (one-length (row 19) kind.WriteChargingVoltageOverride 10 0 (omega arith) refl refl (λ h. refl))
+        (λ w os. rw (← f os .override-figures (payload (row 19))) (sym (e os .same kind.WriteChargingVoltageOverride (payload (row 19)) (buffer (row 19)) (omega (arith, w .least, w .most), all-bytes)))))
+        (both (eqb k 0x15) _ _ _ _
+        (leaf (row 20) kind.WriteWithRetries _ (any-length (row 20) kind.WriteWithRetries 0 refl refl (λ h. refl))
+        (λ w os. either (rust.writePanics (c .«pec_write») (payload (row 20))) _ _ (buffer (row 20)) _
+        (λ t. e os .added kind.WriteWithRetries (payload (row 20)) (buffer (row 20)) answer.DataTooLarge (long-frame t))
+        (λ t. e os .same kind.WriteWithRetries (payload (row 20)) (buffer (row 20)) t)))
+        (same-bad requests.bad refl)))))))))))))))))))))

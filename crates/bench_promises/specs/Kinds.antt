@@ -1,0 +1,148 @@
+-- The kinds of docs/BENCH.md, one to a row: its arguments, and the Rust's function that they are for. (01, The bench program)
+-- Assumes nothing.
+use Prim.Native.Nat.{ℕ, _-_}
+use mathlib.Core.Bool.{Bool, true, false, _||_}
+use mathlib.Core.List.{List, [], _∷_}
+use lib.ListN.{length, drop, getD, replicate}
+use lib.Dec.{ltb, eqb}
+use Rattle.protocol.specs.Pick.{if_then_else_}
+use Rattle.protocol.specs.declared.common.Config.{Config}
+use Rattle.protocol.specs.declared.error.Answer.{Answer}
+use Rattle.protocol.specs.declared.error.Answer.the-variants as answer
+use Rattle.original.specs.Bus.{BusOutcome, Log, begun, Came, Err, Read, _leaving_}
+use Rattle.original.specs.OriginalInterface as rust
+use Rattle.original.specs.OriginalR5 as rust-r5
+use Rattle.bench_promises.specs.Numbers.{field}
+
+-- a kind: the bytes of its arguments before the payload, the fewest and the most bytes of payload, the length of its buffer by the arguments, and the call
+pub record Row : Type 0 where
+  pub kind : ℕ
+  pub fixed : ℕ
+  pub least : ℕ
+  pub most : ℕ
+  pub size : List ℕ → ℕ
+  pub call : Config → (arguments payload buffer : List ℕ) → List BusOutcome → Read
+
+-- a call that writes the rest of the line, with no buffer
+abbrev writes : ℕ → ℕ → (Config → (arguments payload : List ℕ) → Log → List BusOutcome → Came) → Row
+writes kind fixed call = record {
+  kind = kind;
+  fixed = fixed;
+  least = 0;
+  most = 8192;
+  size = λ arguments. 0;
+  call = λ config arguments payload buffer os. call config arguments payload begun os leaving buffer;
+}
+
+-- a call that reads, with no payload: the two bytes that end its arguments are the length of its buffer
+abbrev reads : ℕ → ℕ → (Config → (arguments buffer : List ℕ) → Log → List BusOutcome → Read) → Row
+reads kind fixed call = record {
+  kind = kind;
+  fixed = fixed;
+  least = 0;
+  most = 0;
+  size = λ arguments. field (fixed - 2) 2 arguments;
+  call = λ config arguments payload buffer os. call config arguments buffer begun os;
+}
+
+-- one that has no arguments, and a buffer of its own length
+abbrev fills : ℕ → ℕ → (Config → (buffer : List ℕ) → Log → List BusOutcome → Read) → Row
+fills kind size call = record {
+  kind = kind;
+  fixed = 0;
+  least = 0;
+  most = 0;
+  size = λ arguments. size;
+  call = λ config arguments payload buffer os. call config buffer begun os;
+}
+
+-- the Rust's function, or the added refusal where it panics or has no such length: with no transfer
+abbrev or : Bool → Answer → Log → List BusOutcome → Came → Came
+or refused a log os came = if refused then Err a log os else came
+
+abbrev unlike : ℕ → List ℕ → Bool
+unlike n s = if eqb (length s) n then false else true
+
+abbrev pub rows : List Row
+rows =
+    writes 0x01 2 (λ config arguments payload. rust-r5.writeDataflash config (field 0 2 arguments) payload)
+    ∷ reads 0x02 4 (λ config arguments buffer. rust-r5.readDataflash config (field 0 2 arguments) buffer)
+    ∷ writes 0x03 1 (λ config arguments payload. rust.writeRegister config (field 0 1 arguments) payload)
+    ∷ reads 0x04 3 (λ config arguments buffer. rust.readRegister config (field 0 1 arguments) buffer)
+    ∷ record {
+      kind = 0x05;
+      fixed = 6;
+      least = 0;
+      most = 8192;
+      size = λ arguments. field 4 2 arguments;
+      call = λ config arguments input output os.
+          if rust.dispatchPanics input output then Err answer.NotACommand begun os leaving output
+          else rust.dispatchCommand config (field 0 4 arguments) input output begun os;
+    }
+    ∷ reads 0x06 3 (λ config arguments buffer. rust.bufferRead config (field 0 1 arguments) buffer)
+    ∷ writes 0x07 1 (λ config arguments payload. rust.bufferWrite config (field 0 1 arguments) payload)
+    ∷ fills 0x08 28 (λ config buffer. rust-r5.readSecurityKeys config buffer)
+    ∷ writes 0x09 0 (λ config arguments keys log os. or (unlike 28 keys) answer.WrongBuffer log os (rust-r5.writeSecurityKeys config keys log os))
+    ∷ fills 0x0A 16 (λ config buffer. rust-r5.readAuthenticationKey config buffer)
+    ∷ writes 0x0B 0 (λ config arguments key log os. or (unlike 16 key) answer.WrongBuffer log os (rust-r5.writeAuthenticationKey config key log os))
+    ∷ reads 0x0C 3 (λ config arguments buffer. rust-r5.readRegisterUnchecked config (field 0 1 arguments) buffer)
+    ∷ writes 0x0D 1 (λ config arguments payload log os.
+    or (rust-r5.uncheckedPanics payload) answer.DataTooLarge log os (rust-r5.writeRegisterUnchecked config (field 0 1 arguments) payload log os))
+    ∷ record {
+      kind = 0x0E;
+      fixed = 4;
+      least = 0;
+      most = 0;
+      size = λ arguments. 0;
+      call = λ config arguments payload buffer os. rust-r5.sendAccessKey config (field 0 2 arguments) (field 2 2 arguments) begun os leaving buffer;
+    }
+    ∷ reads 0x0F 2 (λ config arguments buffer. rust-r5.readMfgInfoC config buffer)
+    ∷ writes 0x10 4 (λ config arguments payload. rust-r5.writeMfgInfoC config (field 0 2 arguments) (field 2 2 arguments) payload)
+    ∷ reads 0x11 2 (λ config arguments buffer. rust-r5.readMfgInfo config buffer)
+    ∷ writes 0x12 0 (λ config arguments payload. rust-r5.writeMfgInfo config payload)
+    ∷ fills 0x13 10 (λ config buffer. rust-r5.readChargingVoltageOverride config buffer)
+    ∷ record {
+      kind = 0x14;
+      fixed = 0;
+      least = 10;
+      most = 10;
+      size = λ arguments. 0;
+      call = λ config arguments payload buffer os. rust-r5.writeChargingVoltageOverride config (rust-r5.overrideFigures payload) begun os leaving buffer;
+    }
+    ∷ writes 0x15 0 (λ config arguments frame log os.
+    or (rust.writePanics (config .«pec_write») frame) answer.DataTooLarge log os (rust.writeWithRetries config frame (config .«pec_write») log os))
+    ∷ []
+
+-- what a request line asks for: a function of the Rust, or nothing
+pub data Asked : Type 0 where
+  bad : Asked
+  call : (List BusOutcome → Read) → Asked
+
+-- by a row: bad where arguments are missing, the payload is shorter or longer than the kind has it, or the buffer is over 8,192 bytes. A buffer starts as A5
+unfoldable pub askedBy : Row → Config → List ℕ → Asked
+askedBy row config arguments =
+    if ltb (length arguments) (row .fixed) then bad else
+    if ltb (length arguments - row .fixed) (row .least) then bad else
+    if ltb (row .most) (length arguments - row .fixed) then bad else
+    if ltb 8192 (row .size arguments) then bad else
+    call (row .call config arguments (drop (row .fixed) arguments) (replicate (row .size arguments) 0xA5))
+
+-- by the first row of the kind; bad where there is none
+unfoldable pub askedAmong : List Row → ℕ → Config → List ℕ → Asked
+askedAmong [] kind config arguments = bad
+askedAmong (row ∷ more) kind config arguments = if eqb kind (row .kind) then askedBy row config arguments else askedAmong more kind config arguments
+
+-- flags: bit 0 is `pec_write`, bit 1 `pec_read`
+abbrev pub settings : ℕ → ℕ → Config
+settings flags retries = record {
+  «max_bus_retries» = retries;
+  «pec_write» = eqb flags 1 || eqb flags 3;
+  «pec_read» = eqb flags 2 || eqb flags 3;
+}
+
+-- a request line: kind, flags, retries, arguments. It is bad where the header is short, a flag is not known, the kind is not known, or its lengths fail
+unfoldable pub askedIn : List ℕ → Asked
+askedIn line =
+    if ltb (length line) 4 then bad else
+    if ltb 3 (getD line 1 0) then bad else
+    askedAmong rows (getD line 0 0) (settings (getD line 1 0) (field 2 2 line)) (drop 4 line)

@@ -1,0 +1,4 @@
+pub mod Numbers
+pub mod Kinds
+pub mod RustBench
+pub mod LineByLine

@@ -1,0 +1,30 @@
+-- What is promised of the bench program. (01, The bench program)
+-- Assumes nothing.
+use Prim.Native.Nat.{ℕ, _<_}
+use mathlib.Core.Path.{_≡_}
+use mathlib.Core.List.{List, [], _∷_}
+use lib.ListN.{length}
+use Rattle.protocol.specs.declared.error.Answer.the-variants as answer
+use Rattle.dialogue.specs.Bench.{lineBytes, benchOf}
+use Rattle.session.specs.Session.{Desk, heldBytes, Sized, startOf}
+use Rattle.session.specs.Output.{printed, bytesOut, concat}
+use Rattle.bench_promises.specs.Kinds.{bad, askedIn}
+use Rattle.bench_promises.specs.RustBench.{stopped, heardIn, rustBench, rustPrinted}
+
+-- a line of this many digits is valid, and every longer one is bad, as a request and as an outcome
+pub record Longest (digits : ℕ) : Type 0 where
+  pub line : List ℕ
+  pub long : length line ≡ digits
+  pub valid : askedIn (lineBytes line) ≡ bad → ⊥
+  pub longer-request : (longer : List ℕ) → digits < length longer → askedIn (lineBytes longer) ≡ bad
+  pub longer-outcome : (asked : ℕ) (longer : List ℕ) → digits < length longer → heardIn asked (lineBytes longer) ≡ stopped answer.BadLine
+
+pub record LineByLine : Type 0 where
+  -- from line to line the bench is the Rust
+  pub lines : (lines : List (List ℕ)) (rest : List ℕ) → benchOf lines rest ≡ rustBench lines rest
+  -- whatever is on standard input, however it is cut, what is written is what the Rust does, in hexadecimal
+  pub whole : (chunks : List (List ℕ)) (d : Desk) → Sized d → d .session ≡ startOf → bytesOut chunks d ≡ rustPrinted (concat chunks)
+  -- so is what the laws of the program's loop speak of
+  pub printed : (input : List ℕ) → printed input ≡ rustPrinted input
+  -- lines are held up to the longest that is valid
+  pub longest : Longest heldBytes
