@@ -5,7 +5,7 @@ use mathlib.Core.Path.{_≡_, refl, sym, ap, _∙_}
 use mathlib.Core.Bool.{Bool, true, false}
 use mathlib.Core.List.{List, [], _∷_, _++_, append-nil, append-assoc}
 use native.Mathlib.Omega.{arith}
-use lib.ListN.{length, take, drop, getD, replicate}
+use lib.ListN.{length, getD, replicate}
 use lib.Seq.{take-append-seam}
 use lib.Dec.{ltb, eqb}
 use borrow.Author.Tests.{lt-ltb, le-ltb, ne-eqb, eqb-true, eqb-false, ltb-true, ltb-false}
@@ -13,7 +13,6 @@ use Rattle.protocol.specs.Pick.{if_then_else_}
 use Rattle.protocol.specs.Answer.{numberOf}
 use Rattle.protocol.specs.declared.error.Answer.{Answer}
 use Rattle.protocol.specs.declared.error.Answer.the-variants as answer
-use Rattle.engine.specs.declared.bus.Outcome.the-variants as outcome
 use Rattle.engine.specs.declared.bus.Transfer.{Transfer}
 use Rattle.engine.specs.declared.bus.Transfer.the-variants as transfer
 use Rattle.writing.proofs.Shown.{write-work}
@@ -24,17 +23,17 @@ use Rattle.calls.specs.declared.call.Call.the-variants as call
 use Rattle.calls.specs.declared.call.Reported.{Reported}
 use Rattle.calls.specs.declared.call.Reported.the-variants as reported
 use Rattle.requests.specs.Outcome.{acknowledgedLine, errorLine, timeoutLine, outcomeLine}
-use Rattle.requests.specs.declared.outcome.Told.{Told}
 use Rattle.requests.specs.declared.outcome.Told.the-variants as told
-use Rattle.printing.specs.Printing.{writeSaid, readSaid, endSaid}
-use Rattle.dialogue.specs.Dialogue.{Saying, asked, last, sizeOf, tellOf, zeros, lineShown, lastOf}
-use Rattle.dialogue.specs.Bench.{lineBytes, thenSay, reportThen, toldThen, callLines, callRun}
+use Rattle.printing.specs.Printing.{writeSaid, endSaid}
+use Rattle.dialogue.specs.Dialogue.{asked, last, sizeOf, tellOf, zeros, lineShown}
+use Rattle.hex.specs.Line.{lineBytes}
+use Rattle.dialogue.specs.Bench.{thenSay, reportThen, toldThen, callLines, callRun}
 use Rattle.original.specs.Bus.{BusOutcome, Acknowledged, BusError, Timeout, delivered, Made, write, read, Ok, Err, Waiting, Read, _leaving_}
 use Rattle.original.specs.Fed as feeding
 use Rattle.original.specs.Fed.{brings, Lending, reply, answered, shows_sending_transfer_answer_}
 use Rattle.original.specs.ByKind.{came_taken_refused_, fed}
-use Rattle.bench_promises.specs.RustBench.{transferLine, transferLines, endLine, cutLine, Heard, outcome, stopped, acknowledgedBy, errorBy, timeoutBy, heardIn, lastAsks, cameTo_waiting_, heard_goes_stops_, runOf}
-use Rattle.bench_promises.proofs.Steps.{brought, IsTransfer, IsTaken, Failure, Takes, takes}
+use Rattle.bench_promises.specs.RustBench.{transferLine, transferLines, endLine, cutLine, outcome, stopped, acknowledgedBy, errorBy, timeoutBy, heardIn, lastAsks, cameTo_waiting_, heard_goes_stops_, runOf}
+use Rattle.bench_promises.proofs.Steps.{IsTaken, Failure, Takes, takes}
 use Rattle.bench_promises.proofs.Said.{end-said, last-said, read-said, done-only}
 
 -- ---- lists of transfers

@@ -1,14 +1,14 @@
 -- The bench is the Rust, line by line.
 -- Assumes nothing.
-use Prim.Native.Nat.{ℕ, zero, suc, _+_, _-_, _*_, _≤_, _<_}
+use Prim.Native.Nat.{ℕ, zero, suc, _-_, _*_, _≤_, _<_}
 use mathlib.Core.Path.{_≡_, refl, sym, ap, _∙_}
 use mathlib.Core.Bool.{Bool, true, false, false≢true}
-use mathlib.Core.List.{List, [], _∷_, _++_}
+use mathlib.Core.List.{List, [], _∷_}
 use native.Mathlib.Omega.{arith}
-use lib.ListN.{length, take, drop, getD, replicate, length-drop, length-replicate}
+use lib.ListN.{length, drop, getD, replicate, length-drop}
 use lib.Dec.{ltb, eqb}
 use borrow.Author.Needs.{needs}
-use borrow.Author.Tests.{lt-ltb, eq-eqb, eqb-true, ltb-true, ltb-false}
+use borrow.Author.Tests.{lt-ltb, eq-eqb, eqb-true, ltb-false}
 use Rattle.hex.specs.Hex.{bytesOf, hexOf}
 use Rattle.hex.specs.BothWays.{AllBytes}
 use Rattle.hex.proofs.Laws.{length-hex}
@@ -20,16 +20,17 @@ use Rattle.engine.specs.Budget.{nothing}
 use Rattle.requests.specs.Fields.{pairAt}
 use Rattle.requests.specs.Request as requests
 use Rattle.requests.specs.Request.{configOf, askedOf, requestLine}
-use Rattle.lines.specs.Lines.{linesFrom, restFrom}
-use Rattle.dialogue.specs.Bench.{lineBytes, requestThen, benchOf}
+use Rattle.lines.specs.Input.{linesFrom, restFrom}
+use Rattle.hex.specs.Line.{lineBytes, feeds}
+use Rattle.dialogue.specs.Bench.{requestThen, benchOf}
 use Rattle.session.specs.Session.{heldBytes}
-use Rattle.session.specs.Output.{feeds, printed, concat}
+use Rattle.session.specs.Output.{printed, concat}
 use Rattle.session.proofs.Whole.{whole-bench}
 use Rattle.bench_promises.specs.Numbers.{number, field}
 use Rattle.bench_promises.specs.Kinds.{Row, rows, Asked, bad, call, askedBy, askedAmong, settings, askedIn}
 use Rattle.bench_promises.specs.RustBench.{stopped, acknowledgedBy, errorBy, timeoutBy, heardIn, runAsked, rustBench, rustPrinted}
 use Rattle.bench_promises.specs.LineByLine.{Longest, LineByLine}
-use Rattle.bench_promises.proofs.Said.{end-said}
+use Rattle.bench_promises.proofs.Said.{end-said, read-back}
 use Rattle.bench_promises.proofs.Asked.{pair-at, settings-of}
 use Rattle.bench_promises.proofs.Rows.{same-bad, every-kind}
 
@@ -179,5 +180,6 @@ line-by-line = record {
   lines = each-line;
   whole = λ chunks d sized fresh. whole-bench .whole chunks d sized fresh ∙ all-printed (concat chunks);
   printed = all-printed;
+  figures = read-back;
   longest = longest;
 }

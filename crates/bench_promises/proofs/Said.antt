@@ -1,12 +1,11 @@
 -- The lines that are printed are those of the definition over the Rust.
 -- Assumes nothing.
-use Prim.Native.Nat.{ℕ, zero, suc, _+_, _*_, _/_, _%_, _^_, _<_}
+use Prim.Native.Nat.{ℕ, zero, suc, _*_, _/_, _%_, _^_, _<_}
 use mathlib.Core.Path.{_≡_, refl, ap, subst}
-use mathlib.Core.Bool.{Bool, true, false}
-use mathlib.Core.List.{List, [], _∷_, _++_}
+use mathlib.Core.List.{List, [], _∷_}
 use native.Mathlib.Nat.{pow-suc}
 use native.Mathlib.Omega.{arith}
-use lib.ListN.{length, getD}
+use lib.ListN.{length}
 use borrow.Author.Tests.{ne-eqb}
 use Rattle.protocol.specs.Pick.{if_then_else_}
 use Rattle.protocol.specs.Answer.{numberOf, detailOf}
@@ -18,7 +17,7 @@ use Rattle.hex.specs.BothWays.{AllBytes}
 use Rattle.printing.specs.Printing.{quadOf, readSaid, endSaid, cutSaid}
 use Rattle.dialogue.specs.Dialogue.{lastOf}
 use Rattle.bench_promises.specs.Numbers.{lowFirst, number, ReadBack}
-use Rattle.bench_promises.specs.RustBench.{transferLine, endLine, cutLine}
+use Rattle.bench_promises.specs.RustBench.{endLine, cutLine}
 
 -- four bytes, low byte first
 quad-low : (n : ℕ) → quadOf n ≡ lowFirst 4 n

@@ -2,12 +2,14 @@
 -- Assumes nothing.
 use Prim.Native.Nat.{ℕ, _<_}
 use mathlib.Core.Path.{_≡_}
-use mathlib.Core.List.{List, [], _∷_}
+use mathlib.Core.List.{List, []}
 use lib.ListN.{length}
 use Rattle.protocol.specs.declared.error.Answer.the-variants as answer
-use Rattle.dialogue.specs.Bench.{lineBytes, benchOf}
+use Rattle.hex.specs.Line.{lineBytes}
+use Rattle.dialogue.specs.Bench.{benchOf}
 use Rattle.session.specs.Session.{Desk, heldBytes, Sized, startOf}
 use Rattle.session.specs.Output.{printed, bytesOut, concat}
+use Rattle.bench_promises.specs.Numbers.{ReadBack}
 use Rattle.bench_promises.specs.Kinds.{bad, askedIn}
 use Rattle.bench_promises.specs.RustBench.{stopped, heardIn, rustBench, rustPrinted}
 
@@ -26,5 +28,7 @@ pub record LineByLine : Type 0 where
   pub whole : (chunks : List (List ℕ)) (d : Desk) → Sized d → d .session ≡ startOf → bytesOut chunks d ≡ rustPrinted (concat chunks)
   -- so is what the laws of the program's loop speak of
   pub printed : (input : List ℕ) → printed input ≡ rustPrinted input
+  -- each figure that is printed is read back as what it was
+  pub figures : ReadBack
   -- lines are held up to the longest that is valid
   pub longest : Longest heldBytes

@@ -8,9 +8,8 @@ use Rattle.protocol.specs.Pick.{if_then_else_}
 use Rattle.protocol.specs.Answer.{numberOf, detailOf}
 use Rattle.protocol.specs.declared.error.Answer.{Answer}
 use Rattle.protocol.specs.declared.error.Answer.the-variants as answer
-use Rattle.lines.specs.Lines.{linesFrom, restFrom}
-use Rattle.dialogue.specs.Bench.{lineBytes}
-use Rattle.session.specs.Output.{feeds}
+use Rattle.lines.specs.Input.{linesFrom, restFrom}
+use Rattle.hex.specs.Line.{lineBytes, feeds}
 use Rattle.original.specs.Bus.{BusOutcome, Acknowledged, BusError, Timeout, Made, write, read, Log, Ok, Err, Waiting, Read, _leaving_}
 use Rattle.original.specs.Fed.{brings}
 use Rattle.bench_promises.specs.Numbers.{lowFirst}

@@ -16,7 +16,7 @@ use Rattle.hex.specs.declared.Decoded.the-variants as decoded
 use Rattle.hex.proofs.Inverse.{length-bytes}
 use Rattle.protocol.proofs.Cases.{cases}
 use Rattle.dialogue.specs.Dialogue.{countIn, byteCount, bytesIn}
-use Rattle.dialogue.specs.Bench.{lineBytes}
+use Rattle.hex.specs.Line.{lineBytes}
 
 module _ (s : List ℕ) (room : ℕ) where
   odd : length s % 2 ≡ 1 → decodedOf s room ≡ decoded.Bad

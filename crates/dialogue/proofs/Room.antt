@@ -33,9 +33,10 @@ use Rattle.requests.specs.declared.outcome.Told.the-variants as told
 use Rattle.requests.specs.declared.request.Request.{Request}
 use Rattle.requests.specs.declared.request.Request.the-variants as request
 use Rattle.requests.proofs.Small.{Small, small-request}
-use Rattle.printing.specs.Printing.{feedBytes, printedOf, outPrinted, quadOf, writeSaid, readSaid, endSaid, cutSaid}
+use Rattle.printing.specs.Printing.{printedOf, outPrinted, quadOf, writeSaid, readSaid, endSaid, cutSaid}
 use Rattle.dialogue.specs.Dialogue.{Saying, asked, last, bytesSaid, sizeOf, tellOf, zeros, lineShown, lastOf}
-use Rattle.dialogue.specs.Bench.{lineBytes, thenSay, reportThen, toldThen, callLines, callRun, requestThen, benchOf}
+use Rattle.hex.specs.Line.{lineBytes, feedBytes}
+use Rattle.dialogue.specs.Bench.{thenSay, reportThen, toldThen, callLines, callRun, requestThen, benchOf}
 use Rattle.dialogue.proofs.Kept.{length-after}
 
 -- at most 8,200 bytes, which are 16,401 with their digits and the line feed

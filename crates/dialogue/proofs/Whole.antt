@@ -25,7 +25,8 @@ use Rattle.requests.proofs.Small.{Small, small-request}
 use Rattle.dialogue.specs.Dialogue as dialogue
 use Rattle.dialogue.specs.declared.Place.{Place}
 use Rattle.dialogue.specs.declared.Run.the-variants as run
-use Rattle.dialogue.specs.Bench.{lineBytes, thenSay, reportThen, toldThen, callLines, callRun, requestThen, benchOf}
+use Rattle.hex.specs.Line.{lineBytes}
+use Rattle.dialogue.specs.Bench.{thenSay, reportThen, toldThen, callLines, callRun, requestThen, benchOf}
 use Rattle.dialogue.proofs.Machine.{machineOf}
 use Rattle.dialogue.proofs.Lines.{decoded-line}
 use Rattle.dialogue.proofs.Kept.{length-decoded, length-after, length-filled, filled-front, payload-in}

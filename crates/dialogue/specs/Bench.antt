@@ -1,11 +1,9 @@
 -- The whole bench: from the lines of the input, and what follows its last line feed, to the lines that are printed. (01, The bench program)
 -- Assumes nothing.
-use Prim.Native.Nat.{ℕ, _*_}
+use Prim.Native.Nat.{ℕ}
 use mathlib.Core.List.{List, [], _∷_}
 use lib.ListN.{length, drop, replicate}
-use lib.Dec.{eqb}
-use Rattle.hex.specs.Hex.{bytesOf}
-use Rattle.protocol.specs.Pick.{if_then_else_}
+use Rattle.hex.specs.Line.{lineBytes}
 use Rattle.protocol.specs.declared.error.Answer.the-variants as answer
 use Rattle.engine.specs.Budget.{nothing}
 use Rattle.calls.specs.Call.{startOf, reportOf, bufferAfter, tallyOf}
@@ -20,10 +18,6 @@ use Rattle.requests.specs.declared.request.Request.{Request}
 use Rattle.requests.specs.declared.request.Request.the-variants as request
 use Rattle.printing.specs.Printing.{endSaid}
 use Rattle.dialogue.specs.Dialogue.{Saying, asked, last, lineShown, lastOf}
-
--- the bytes of a line; one that is no hexadecimal has none, and is as bad as an empty one
-unfoldable pub lineBytes : List ℕ → List ℕ
-lineBytes line = if eqb (length (bytesOf line) * 2) (length line) then bytesOf line else []
 
 -- a transfer is printed and the run goes on, or the last line is
 unfoldable pub thenSay : Saying → List (List ℕ) → List (List ℕ)

@@ -11,7 +11,8 @@ use lib.Dec.{eqb}
 use borrow.Author.Tests.{le-leb}
 use Rattle.protocol.specs.Pick.{if_then_else_}
 use Rattle.protocol.specs.Bytes.{over, blockIn, storedAt}
-use Rattle.lines.specs.Lines.{beforeFeed, linesFrom, restFrom}
+use Rattle.lines.specs.Input.{linesFrom, restFrom}
+use Rattle.lines.specs.Lines.{beforeFeed}
 
 -- one chunk after the other
 pub lines-append : (s t held : List ℕ) → linesFrom held (s ++ t) ≡ linesFrom held s ++ linesFrom (restFrom held s) t

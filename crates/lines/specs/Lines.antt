@@ -1,7 +1,7 @@
 -- Input that comes in chunks, put together to lines. (01, The bench program: one frame a line, line feed at the end)
 -- Assumes nothing.
 use Prim.Native.Nat.{ℕ, _+_, _-_}
-use mathlib.Core.List.{List, [], _∷_, _++_}
+use mathlib.Core.List.{List, [], _∷_}
 use lib.ListN.{length, drop}
 use lib.Dec.{ltb, leb, eqb}
 use Rattle.protocol.specs.Pick.{if_then_else_}
@@ -34,13 +34,3 @@ keptOf took.Long line held have = storedAt have (length line) line held
 
 unfoldable pub heldAfter : List ℕ → ℕ → List ℕ → ℕ → List ℕ
 heldAfter chunk from held have = keptOf (tookOf chunk from (length held) have) (beforeFeed (drop from chunk)) held have
-
--- the lines of an input, where `held` is what came of its first line before
-unfoldable pub linesFrom : List ℕ → List ℕ → List (List ℕ)
-linesFrom held [] = []
-linesFrom held (b ∷ s) = if eqb b 10 then held ∷ linesFrom [] s else linesFrom (held ++ (b ∷ [])) s
-
--- what follows its last line feed
-unfoldable pub restFrom : List ℕ → List ℕ → List ℕ
-restFrom held [] = held
-restFrom held (b ∷ s) = if eqb b 10 then restFrom [] s else restFrom (held ++ (b ∷ [])) s

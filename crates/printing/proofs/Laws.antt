@@ -6,12 +6,12 @@ use mathlib.Core.List.{List, [], _∷_, _++_}
 use native.Mathlib.Omega.{arith}
 use lib.ListN.{length, take, drop, set, length-append, length-drop}
 use borrow.Author.Tests.{le-ltb}
+use Rattle.hex.specs.Line.{feedBytes}
 use Rattle.protocol.specs.Pick.{if_then_else_}
 use Rattle.hex.specs.Hex.{hexOf, outEncoded}
 use Rattle.hex.proofs.Laws.{hex-append, length-hex}
 use Rattle.protocol.specs.Bytes.{over}
 use Rattle.protocol.proofs.Laws.{over-set, take-over, over-over, length-over, laid-more, lent-back}
-use Rattle.printing.specs.Printing.{feedBytes}
 
 -- with room, the digits lie over the front
 pub encoded-over : (s out : List ℕ) → length s * 2 ≤ length out → outEncoded s out ≡ over (hexOf s) out

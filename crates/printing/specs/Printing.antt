@@ -4,17 +4,13 @@ use Prim.Native.Nat.{ℕ, _+_, _*_, _/_, _%_}
 use mathlib.Core.List.{List, [], _∷_, _++_}
 use lib.ListN.{length}
 use lib.Dec.{leb}
-use Rattle.hex.specs.Hex.{hexOf}
+use Rattle.hex.specs.Line.{feedBytes}
 use Rattle.protocol.specs.Pick.{if_then_else_}
 use Rattle.protocol.specs.Bytes.{over}
 use Rattle.protocol.specs.Frame.{pairOf}
 use Rattle.protocol.specs.Answer.{numberOf, detailOf}
 use Rattle.protocol.specs.declared.error.Answer.{Answer}
 use Rattle.engine.specs.declared.budget.Tally.{Tally}
-
--- upper-case hexadecimal and a line feed
-unfoldable pub feedBytes : List ℕ → List ℕ
-feedBytes said = hexOf said ++ (10 ∷ [])
 
 -- how many bytes are printed where there is room for so many; 0 where that is too few
 unfoldable pub printedOf : List ℕ → ℕ → ℕ

@@ -7,7 +7,8 @@ ghost use mathlib.Core.List.{_++_};
 ghost use Prim.Native.Nat.{_+_, _*_, _≤_};
 ghost use lib.ListN.{length};
 ghost use lib.Dec.{leb};
-ghost use Rattle.printing.specs.Printing.{feedBytes, printedOf, outPrinted, quadOf, writeSaid, readSaid, endSaid, cutSaid};
+ghost use Rattle.hex.specs.Line.{feedBytes};
+ghost use Rattle.printing.specs.Printing.{printedOf, outPrinted, quadOf, writeSaid, readSaid, endSaid, cutSaid};
 
 // The bytes of an end before its buffer: FF, the answer, its detail and a count.
 const END_BYTES: usize = 8;

@@ -10,10 +10,12 @@ use lib.ListN.{length, take, drop, length-drop}
 use lib.Seq.{length-take-le, take-all, take-append-add, drop-length, drop-drop}
 use lib.Dec.{ltb, leb, eqb}
 use borrow.Author.Tests.{lt-ltb, le-leb, ltb-true, ltb-false, leb-true, leb-false, eqb-true}
+use Rattle.hex.specs.Line.{feedBytes}
 use Rattle.protocol.specs.Pick.{if_then_else_}
 use Rattle.protocol.specs.Bytes.{storedAt}
-use Rattle.printing.specs.Printing.{feedBytes, printedOf, outPrinted}
-use Rattle.lines.specs.Lines.{beforeFeed, tookBy, tookOf, keptOf, heldAfter, linesFrom, restFrom}
+use Rattle.printing.specs.Printing.{printedOf, outPrinted}
+use Rattle.lines.specs.Input.{linesFrom, restFrom}
+use Rattle.lines.specs.Lines.{beforeFeed, tookBy, tookOf, keptOf, heldAfter}
 use Rattle.lines.specs.declared.Took.{Took}
 use Rattle.lines.specs.declared.Took.the-variants as took
 use Rattle.lines.proofs.Laws.{take-before}

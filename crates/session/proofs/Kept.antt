@@ -9,13 +9,14 @@ use lib.ListN.{length, take, drop, length-append, length-take, length-drop}
 use lib.Seq.{length-take-le}
 use lib.Dec.{leb}
 use borrow.Author.Tests.{leb-true}
+use Rattle.hex.specs.Line.{feedBytes}
 use Rattle.protocol.specs.Pick.{if_then_else_}
 use Rattle.protocol.specs.Bytes.{over}
 use Rattle.protocol.proofs.Laws.{length-over}
 use Rattle.requests.specs.Request.{requestLine}
 use Rattle.requests.specs.declared.request.Request.{Request}
 use Rattle.requests.specs.declared.request.Request.the-variants as request
-use Rattle.printing.specs.Printing.{feedBytes, outPrinted}
+use Rattle.printing.specs.Printing.{outPrinted}
 use Rattle.printing.proofs.Laws.{length-feed}
 use Rattle.dialogue.specs.Dialogue as dialogue
 use Rattle.dialogue.specs.declared.Run.{Run}

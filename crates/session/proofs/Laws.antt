@@ -9,8 +9,9 @@ use lib.ListN.{length, take, drop, length-drop}
 use lib.Seq.{take-all}
 use lib.Dec.{ltb, leb, eqb}
 use borrow.Author.Tests.{ltb-true, leb-true, leb-false, le-leb, lt-leb}
+use Rattle.hex.specs.Line.{feedBytes}
 use Rattle.protocol.specs.Pick.{if_then_else_}
-use Rattle.printing.specs.Printing.{feedBytes, printedOf}
+use Rattle.printing.specs.Printing.{printedOf}
 use Rattle.printing.proofs.Laws.{length-feed}
 use Rattle.lines.specs.Lines.{beforeFeed, tookBy, tookOf, heldAfter}
 use Rattle.lines.specs.declared.Took.{Took}

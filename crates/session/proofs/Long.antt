@@ -14,7 +14,8 @@ use Rattle.hex.specs.declared.Decoded.the-variants as decoded
 use Rattle.protocol.specs.Pick.{if_then_else_}
 use Rattle.requests.specs.Outcome.{outcomeLine}
 use Rattle.requests.specs.Request.{requestLine}
-use Rattle.lines.specs.Lines.{beforeFeed, linesFrom, restFrom}
+use Rattle.lines.specs.Input.{linesFrom, restFrom}
+use Rattle.lines.specs.Lines.{beforeFeed}
 use Rattle.lines.proofs.Any.{lines-more, lines-whole}
 use Rattle.dialogue.specs.Dialogue as dialogue
 use Rattle.dialogue.specs.declared.Run.{Run}

@@ -9,10 +9,10 @@ use lib.ListN.{length, take, drop, drop-of-length-le}
 use lib.Seq.{length-take-le, take-nil}
 use lib.Dec.{ltb}
 use borrow.Author.Tests.{lt-ltb, le-ltb, le-leb, ltb-true, ltb-false}
+use Rattle.hex.specs.Line.{feedBytes, feeds}
 use Rattle.protocol.specs.Pick.{if_then_else_}
 use Rattle.protocol.proofs.Cases.{is-true}
-use Rattle.printing.specs.Printing.{feedBytes}
-use Rattle.lines.specs.Lines.{linesFrom, restFrom}
+use Rattle.lines.specs.Input.{linesFrom, restFrom}
 use Rattle.dialogue.specs.Dialogue as dialogue
 use Rattle.dialogue.specs.Dialogue.{last}
 use Rattle.dialogue.specs.Bench.{benchOf}
@@ -22,7 +22,7 @@ use Rattle.dialogue.proofs.Room.{Short, AllShort, all-short}
 use Rattle.dialogue.proofs.Whole.{whole}
 use Rattle.session.specs.declared.Session.{Session}
 use Rattle.session.specs.Session.{Desk, desk, heldBytes, longestLine, Sized, startOf, atByte, spokenSession, laidOut, closing, turnOf, goesOn, turnsOf, takeOf, endSession, endOut, endOf}
-use Rattle.session.specs.Output.{feeds, printed, early, printedSoFar, written, chunkOut, chunksOut, bytesOut, bytesSoFar, concat, WholeBench}
+use Rattle.session.specs.Output.{printed, early, printedSoFar, written, chunkOut, chunksOut, bytesOut, bytesSoFar, concat, WholeBench}
 use Rattle.session.proofs.Laws.{turn-uses, goes-on-inside}
 use Rattle.session.proofs.EachTurn.{Good, shown, before, written-said, Gives, take-gives}
 

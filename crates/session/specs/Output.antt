@@ -7,15 +7,10 @@ use mathlib.Core.List.{List, [], _∷_, _++_}
 use lib.ListN.{length, take}
 use lib.Dec.{ltb}
 use Rattle.protocol.specs.Pick.{if_then_else_}
-use Rattle.lines.specs.Lines.{linesFrom, restFrom}
-use Rattle.printing.specs.Printing.{feedBytes}
+use Rattle.lines.specs.Input.{linesFrom, restFrom}
+use Rattle.hex.specs.Line.{feeds}
 use Rattle.dialogue.specs.Bench.{benchOf}
 use Rattle.session.specs.Session.{Desk, desk, heldBytes, Sized, startOf, atByte, takeOf, endOf}
-
--- lines as they are written: each in upper-case hexadecimal, with its line feed
-unfoldable pub feeds : List (List ℕ) → List ℕ
-feeds [] = []
-feeds (line ∷ lines) = feedBytes line ++ feeds lines
 
 -- what document 01 has the bench program write for an input
 unfoldable pub printed : List ℕ → List ℕ

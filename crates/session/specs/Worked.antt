@@ -4,6 +4,7 @@ use Prim.Native.Nat.{ℕ}
 use mathlib.Core.Path.{_≡_, refl}
 use mathlib.Core.List.{List, [], _∷_, _++_}
 use lib.ListN.{replicate}
+use Rattle.hex.specs.Line.{feeds}
 use Rattle.smbus_pec.specs.Pec.{bitStep, bitSteps, byteStep, pecOf}
 use Rattle.protocol.specs.Pick.{if_then_else_}
 use Rattle.protocol.specs.Bytes as bytes
@@ -22,7 +23,8 @@ use Rattle.reading.specs.Reading as reading
 use Rattle.interface.specs.Plans as interface
 use Rattle.r5.specs.Plans as r5
 use Rattle.hex.specs.Hex as hex
-use Rattle.lines.specs.Lines as lines
+use Rattle.hex.specs.Line as line
+use Rattle.lines.specs.Input as input
 use Rattle.requests.specs.Fields as fields
 use Rattle.requests.specs.Request as request
 use Rattle.requests.specs.Outcome as outcome
@@ -31,7 +33,7 @@ use Rattle.calls.specs.Call as calls
 use Rattle.printing.specs.Printing as printing
 use Rattle.dialogue.specs.Dialogue as dialogue
 use Rattle.dialogue.specs.Bench as bench
-use Rattle.session.specs.Output.{feeds, printed}
+use Rattle.session.specs.Output.{printed}
 
 pub data Run : Type 0 where
   -- whole lines of the input as bytes, the text that follows them, and the lines that are printed, as bytes
@@ -152,9 +154,9 @@ unfolding bitStep bitSteps byteStep pecOf if_then_else_ bytes.over bytes.blockIn
     case_refused_fault_headed_block_ parts.hasHead parts.headBytes parts.firstAddress parts.readCount parts.blockAsk parts.askOf parts.mostOf
     reading.plainPlan reading.macPlan reading.startOf reading.dueAsk reading.shownHead reading.workHead reading.shownOf reading.workShown reading.nextOf reading.workAfter reading.headedOf reading.advanceOf reading.retryOf reading.endOf reading.failOf reading.heardHead reading.verdictOf reading.heardBlock reading.acknowledgedOf reading.weighOf reading.judgeOf reading.storedOf reading.reportOf reading.bufferAfter
     interface.plainLimit interface.writeWithRetries interface.writeRegister interface.readRegister interface.commandPec interface.commandReads interface.dispatchCommand interface.readBuffer interface.writeBuffer
-    r5.macRead r5.macWrite r5.sendAccessKey r5.writeMfgInfoC r5.wholeAsk r5.readMfgInfoC r5.writeMfgInfo r5.readMfgInfo r5.readDataflash r5.writeDataflash hex.valueOf hex.byteOf hex.bytesOf hex.digitOf hex.hexOf lines.linesFrom lines.restFrom
+    r5.macRead r5.macWrite r5.sendAccessKey r5.writeMfgInfoC r5.wholeAsk r5.readMfgInfoC r5.writeMfgInfo r5.readMfgInfo r5.readDataflash r5.writeDataflash hex.valueOf hex.byteOf hex.bytesOf hex.digitOf hex.hexOf input.linesFrom input.restFrom
     fields.pairAt fields.quadAt request.configOf request.calledOf request.exactOf request.askedOf request.requestLine outcome.acknowledgedLine outcome.errorLine outcome.timeoutLine outcome.outcomeLine
     kind.planOf calls.startWith calls.startOf calls.nextOf calls.workAfter calls.partOf calls.wroteOf calls.gotOf calls.reportOf calls.bufferAfter calls.tallyOf
-    printing.feedBytes printing.quadOf printing.writeSaid printing.readSaid printing.endSaid printing.cutSaid dialogue.sizeOf dialogue.tellOf dialogue.zeros dialogue.lineShown dialogue.lastOf
-    bench.lineBytes bench.thenSay bench.reportThen bench.toldThen bench.callLines bench.callRun bench.requestThen bench.benchOf feeds printed
+    printing.quadOf printing.writeSaid printing.readSaid printing.endSaid printing.cutSaid dialogue.sizeOf dialogue.tellOf dialogue.zeros dialogue.lineShown dialogue.lastOf
+    line.lineBytes line.feedBytes line.feeds bench.thenSay bench.reportThen bench.toldThen bench.callLines bench.callRun bench.requestThen bench.benchOf printed
 runs-hold = (refl, (refl, (refl, (refl, (refl, (refl, (refl, (refl, (refl, (refl, (refl, (refl, (refl, (refl, (refl, (refl, (refl, (refl, (refl, (refl, (refl, (refl, (refl, (refl, (refl, (refl, (refl, (refl, (refl, (refl, (refl, (refl, (refl, (refl, (refl, (refl, (refl, (refl, (refl, (refl, (refl, (refl, (refl, (refl, (refl, (refl, tt))))))))))))))))))))))))))))))))))))))))))))))
