@@ -12,6 +12,7 @@ use borrow.Author.Tests.{eq-eqb, ltb-true, ltb-false, eqb-true, eqb-false}
 use Rattle.hex.specs.BothWays.{AllBytes}
 use Rattle.protocol.specs.Pick.{if_then_else_}
 use Rattle.protocol.specs.declared.common.Config.{Config}
+use Rattle.protocol.specs.declared.error.Answer.{Answer}
 use Rattle.protocol.specs.declared.error.Answer.the-variants as answer
 use Rattle.engine.specs.Budget.{nothing}
 use Rattle.calls.specs.Call.{startOf}
@@ -28,10 +29,10 @@ use Rattle.original.specs.Bus.{BusOutcome, begun, Came, Err, Read, _leaving_}
 use Rattle.original.specs.OriginalInterface as rust
 use Rattle.original.specs.OriginalR5 as rust-r5
 use Rattle.original.specs.Equal.{Equal}
-use Rattle.original.specs.ByKind.{fed, long-frame, long-register, input-given, keys-written, key-written, EqualByKind}
+use Rattle.original.specs.ByKind.{fed, rustOf, Defined, Added, long-frame, long-register, input-given, keys-written, key-written, EqualByKind}
 use Rattle.original.proofs.Equal.{equal}
 use Rattle.original.proofs.ByKind.{equal-by-kind}
-use Rattle.bench_promises.specs.Kinds.{Row, rows, Asked, bad, call, askedBy, askedAmong}
+use Rattle.bench_promises.specs.Kinds.{Row, unlike, rows, Asked, bad, call, askedBy, askedAmong}
 use Rattle.bench_promises.specs.RustBench.{transferLines, runAsked}
 use Rattle.bench_promises.proofs.Said.{end-said}
 use Rattle.bench_promises.proofs.Follow.{lent, follow}
@@ -132,6 +133,15 @@ module _ (line : List ℕ) (lines : List (List ℕ)) (rest : List ℕ) (c : Conf
       by f h true q = exact k c (row .fixed) size (length args) p (eqb-true _ _ q) ∙ wide k c (row .fixed) size (length args) (rw (e f) h)
       by f h false q = other k c (row .fixed) size (length args) p (eqb-false _ _ q)
 
+  -- a row whose payload has any length, and one whose payload has one
+  any : (row : Row) (k : Kind) (size : ℕ) → row .least ≡ 0 → row .most ≡ 8192 → (row .fixed ≤ length args → size ≡ row .size args)
+      → (Within row → (os : List BusOutcome) → row .call c args (payload row) (buffer row) os ≡ fedAs row k os) → Same (calledOf k c (row .fixed) size (length args)) (askedBy row c args)
+  any row k size l m e f = leaf row k (calledOf k c (row .fixed) size (length args)) (any-length row k size l m e) f
+
+  one : (row : Row) (k : Kind) (p size : ℕ) → p ≤ 8192 → row .least ≡ p → row .most ≡ p → (row .fixed ≤ length args → size ≡ row .size args)
+      → (Within row → (os : List BusOutcome) → row .call c args (payload row) (buffer row) os ≡ fedAs row k os) → Same (exactOf k c (row .fixed) p size (length args)) (askedBy row c args)
+  one row k p size few l m e f = leaf row k (exactOf k c (row .fixed) p size (length args)) (one-length row k p size few l m e) f
+
   -- two chains of choices, choice by choice
   both : (t : Bool) (q r : Request) (a b : Asked) → Same q a → Same r b → Same (if t then q else r) (if t then a else b)
   unfolding if_then_else_
@@ -149,11 +159,11 @@ module _ (line : List ℕ) (lines : List (List ℕ)) (rest : List ℕ) (c : Conf
   either-read true x y f h g = sym (h refl)
   either-read false x y f h g = sym (g refl)
 
-  unlike-not : (n : ℕ) (s : List ℕ) → (if eqb (length s) n then false else true) ≡ true → length s ≡ n → ⊥
+  unlike-not : (n : ℕ) (s : List ℕ) → unlike n s ≡ true → length s ≡ n → ⊥
   unfolding if_then_else_
   unlike-not n s h e = false≢true (rw (eq-eqb (length s) n e) at h)
 
-  unlike-same : (n : ℕ) (s : List ℕ) → (if eqb (length s) n then false else true) ≡ false → length s ≡ n
+  unlike-same : (n : ℕ) (s : List ℕ) → unlike n s ≡ false → length s ≡ n
   unfolding if_then_else_
   unlike-same n s = by (eqb (length s) n) refl
     where
@@ -178,80 +188,148 @@ module _ (line : List ℕ) (lines : List (List ℕ)) (rest : List ℕ) (c : Conf
     all-bytes : (i : ℕ) → getD args i 0 < 256
     all-bytes i = rw (getD-drop 4 line i 0) (bytes (4 + i))
 
+    same : (row : Row) (k : Kind) (os : List BusOutcome) → Defined k c (payload row) (buffer row) → rustOf k c (payload row) (buffer row) os ≡ fedAs row k os
+    same row k os d = sym (e os .same k (payload row) (buffer row) d)
+
+    added : (row : Row) (k : Kind) (os : List BusOutcome) (a : Answer) → Added c (payload row) (buffer row) k a → fedAs row k os ≡ (Err a begun os leaving buffer row)
+    added row k os a d = e os .added k (payload row) (buffer row) a d
+
+    own-size : (n : ℕ) → length (replicate {A = ℕ} n 0xA5) ≡ n
+    own-size n = length-replicate {A = ℕ} n 0xA5
+
+    write-dataflash : Same (calledOf (kind.WriteDataflash (pairAt 0 args)) c 2 0 (length args)) (askedBy (row 0) c args)
+    write-dataflash =
+        any (row 0) (kind.WriteDataflash (pairAt 0 args)) 0 refl refl (λ h. refl)
+        (λ w os. rw (pair-at 0 args (omega (arith, w .fixed))) (same (row 0) _ os tt))
+
+    read-dataflash : Same (exactOf (kind.ReadDataflash (pairAt 0 args)) c 4 0 (pairAt 2 args) (length args)) (askedBy (row 1) c args)
+    read-dataflash =
+        one (row 1) (kind.ReadDataflash (pairAt 0 args)) 0 (pairAt 2 args) (omega arith) refl refl (λ h. sym (pair-at 2 args h))
+        (λ w os. rw (pair-at 0 args (omega (arith, w .fixed))) (same (row 1) _ os tt))
+
+    write-register : Same (calledOf (kind.WriteRegister (getD args 0 0)) c 1 0 (length args)) (askedBy (row 2) c args)
+    write-register =
+        any (row 2) (kind.WriteRegister (getD args 0 0)) 0 refl refl (λ h. refl)
+        (λ w os. rw (byte-at 0 args (omega (arith, w .fixed))) (same (row 2) _ os tt))
+
+    read-register : Same (exactOf (kind.ReadRegister (getD args 0 0)) c 3 0 (pairAt 1 args) (length args)) (askedBy (row 3) c args)
+    read-register =
+        one (row 3) (kind.ReadRegister (getD args 0 0)) 0 (pairAt 1 args) (omega arith) refl refl (λ h. sym (pair-at 1 args h))
+        (λ w os. rw (byte-at 0 args (omega (arith, w .fixed))) (same (row 3) _ os tt))
+
+    dispatch-command : Same (calledOf (kind.DispatchCommand (quadAt 0 args)) c 6 (pairAt 4 args) (length args)) (askedBy (row 4) c args)
+    dispatch-command =
+        any (row 4) (kind.DispatchCommand (quadAt 0 args)) (pairAt 4 args) refl refl (λ h. sym (pair-at 4 args h))
+        (λ w os. rw (quad-at 0 args (omega (arith, w .fixed)))
+        (either-read (rust.dispatchPanics (payload (row 4)) (buffer (row 4))) _ _ _ (λ t. added (row 4) _ os answer.NotACommand (input-given (quadAt 0 args) t)) (λ t. sym (same (row 4) _ os t))))
+
+    read-buffer : Same (exactOf (kind.ReadBuffer (getD args 0 0)) c 3 0 (pairAt 1 args) (length args)) (askedBy (row 5) c args)
+    read-buffer =
+        one (row 5) (kind.ReadBuffer (getD args 0 0)) 0 (pairAt 1 args) (omega arith) refl refl (λ h. sym (pair-at 1 args h))
+        (λ w os. rw (byte-at 0 args (omega (arith, w .fixed))) (same (row 5) _ os (small-buffer (row 5) w)))
+
+    write-buffer : Same (calledOf (kind.WriteBuffer (getD args 0 0)) c 1 0 (length args)) (askedBy (row 6) c args)
+    write-buffer =
+        any (row 6) (kind.WriteBuffer (getD args 0 0)) 0 refl refl (λ h. refl)
+        (λ w os. rw (byte-at 0 args (omega (arith, w .fixed))) (same (row 6) _ os tt))
+
+    read-security-keys : Same (exactOf kind.ReadSecurityKeys c 0 0 28 (length args)) (askedBy (row 7) c args)
+    read-security-keys =
+        one (row 7) kind.ReadSecurityKeys 0 28 (omega arith) refl refl (λ h. refl)
+        (λ w os. same (row 7) _ os (own-size 28))
+
+    write-security-keys : Same (calledOf kind.WriteSecurityKeys c 0 0 (length args)) (askedBy (row 8) c args)
+    write-security-keys =
+        any (row 8) kind.WriteSecurityKeys 0 refl refl (λ h. refl)
+        (λ w os. either (unlike 28 (payload (row 8))) _ _ (buffer (row 8)) _
+        (λ t. added (row 8) _ os answer.WrongBuffer (keys-written (unlike-not 28 (payload (row 8)) t))) (λ t. sym (same (row 8) _ os (unlike-same 28 (payload (row 8)) t))))
+
+    read-authentication-key : Same (exactOf kind.ReadAuthenticationKey c 0 0 16 (length args)) (askedBy (row 9) c args)
+    read-authentication-key =
+        one (row 9) kind.ReadAuthenticationKey 0 16 (omega arith) refl refl (λ h. refl)
+        (λ w os. same (row 9) _ os (own-size 16))
+
+    write-authentication-key : Same (calledOf kind.WriteAuthenticationKey c 0 0 (length args)) (askedBy (row 10) c args)
+    write-authentication-key =
+        any (row 10) kind.WriteAuthenticationKey 0 refl refl (λ h. refl)
+        (λ w os. either (unlike 16 (payload (row 10))) _ _ (buffer (row 10)) _
+        (λ t. added (row 10) _ os answer.WrongBuffer (key-written (unlike-not 16 (payload (row 10)) t))) (λ t. sym (same (row 10) _ os (unlike-same 16 (payload (row 10)) t))))
+
+    read-register-unchecked : Same (exactOf (kind.ReadRegisterUnchecked (getD args 0 0)) c 3 0 (pairAt 1 args) (length args)) (askedBy (row 11) c args)
+    read-register-unchecked =
+        one (row 11) (kind.ReadRegisterUnchecked (getD args 0 0)) 0 (pairAt 1 args) (omega arith) refl refl (λ h. sym (pair-at 1 args h))
+        (λ w os. rw (byte-at 0 args (omega (arith, w .fixed))) (same (row 11) _ os (small-buffer (row 11) w)))
+
+    write-register-unchecked : Same (calledOf (kind.WriteRegisterUnchecked (getD args 0 0)) c 1 0 (length args)) (askedBy (row 12) c args)
+    write-register-unchecked =
+        any (row 12) (kind.WriteRegisterUnchecked (getD args 0 0)) 0 refl refl (λ h. refl)
+        (λ w os. rw (byte-at 0 args (omega (arith, w .fixed)))
+        (either (rust-r5.uncheckedPanics (payload (row 12))) _ _ (buffer (row 12)) _ (λ t. added (row 12) _ os answer.DataTooLarge (long-register (getD args 0 0) t)) (λ t. sym (same (row 12) _ os t))))
+
+    send-access-key : Same (exactOf (kind.SendAccessKey (pairAt 0 args) (pairAt 2 args)) c 4 0 0 (length args)) (askedBy (row 13) c args)
+    send-access-key =
+        one (row 13) (kind.SendAccessKey (pairAt 0 args) (pairAt 2 args)) 0 0 (omega arith) refl refl (λ h. refl)
+        (λ w os. rw (pair-at 0 args (omega (arith, w .fixed)), pair-at 2 args (omega (arith, w .fixed))) (same (row 13) _ os (drop-of-length-le args {i = 4} (omega (arith, w .most, w .fixed)))))
+
+    read-mfg-info-c : Same (exactOf kind.ReadMfgInfoC c 2 0 (pairAt 0 args) (length args)) (askedBy (row 14) c args)
+    read-mfg-info-c =
+        one (row 14) kind.ReadMfgInfoC 0 (pairAt 0 args) (omega arith) refl refl (λ h. sym (pair-at 0 args h))
+        (λ w os. same (row 14) _ os tt)
+
+    write-mfg-info-c : Same (calledOf (kind.WriteMfgInfoC (pairAt 0 args) (pairAt 2 args)) c 4 0 (length args)) (askedBy (row 15) c args)
+    write-mfg-info-c =
+        any (row 15) (kind.WriteMfgInfoC (pairAt 0 args) (pairAt 2 args)) 0 refl refl (λ h. refl)
+        (λ w os. rw (pair-at 0 args (omega (arith, w .fixed)), pair-at 2 args (omega (arith, w .fixed))) (same (row 15) _ os tt))
+
+    read-mfg-info : Same (exactOf kind.ReadMfgInfo c 2 0 (pairAt 0 args) (length args)) (askedBy (row 16) c args)
+    read-mfg-info =
+        one (row 16) kind.ReadMfgInfo 0 (pairAt 0 args) (omega arith) refl refl (λ h. sym (pair-at 0 args h))
+        (λ w os. same (row 16) _ os tt)
+
+    write-mfg-info : Same (calledOf kind.WriteMfgInfo c 0 0 (length args)) (askedBy (row 17) c args)
+    write-mfg-info =
+        any (row 17) kind.WriteMfgInfo 0 refl refl (λ h. refl)
+        (λ w os. same (row 17) _ os tt)
+
+    read-charging-voltage-override : Same (exactOf kind.ReadChargingVoltageOverride c 0 0 10 (length args)) (askedBy (row 18) c args)
+    read-charging-voltage-override =
+        one (row 18) kind.ReadChargingVoltageOverride 0 10 (omega arith) refl refl (λ h. refl)
+        (λ w os. same (row 18) _ os (own-size 10))
+
+    write-charging-voltage-override : Same (exactOf kind.WriteChargingVoltageOverride c 0 10 0 (length args)) (askedBy (row 19) c args)
+    write-charging-voltage-override =
+        one (row 19) kind.WriteChargingVoltageOverride 10 0 (omega arith) refl refl (λ h. refl)
+        (λ w os. rw (← f os .override-figures (payload (row 19))) (same (row 19) _ os (omega (arith, w .least, w .most), all-bytes)))
+
+    write-with-retries : Same (calledOf kind.WriteWithRetries c 0 0 (length args)) (askedBy (row 20) c args)
+    write-with-retries =
+        any (row 20) kind.WriteWithRetries 0 refl refl (λ h. refl)
+        (λ w os. either (rust.writePanics (c .«pec_write») (payload (row 20))) _ _ (buffer (row 20)) _
+        (λ t. added (row 20) _ os answer.DataTooLarge (long-frame t)) (λ t. sym (same (row 20) _ os t)))
+
+    -- kind by kind
     pub every-kind : (k : ℕ) → Same (askedOf k c args) (askedAmong rows k c args)
     unfolding askedOf askedAmong
     every-kind k =
-        both (eqb k 0x01) _ _ _ _
-        (leaf (row 0) (kind.WriteDataflash (pairAt 0 args)) _ (any-length (row 0) (kind.WriteDataflash (pairAt 0 args)) 0 refl refl (λ h. refl))
-        (λ w os. rw (pair-at 0 args (omega (arith, w .fixed))) (sym (e os .same (kind.WriteDataflash (pairAt 0 args)) (payload (row 0)) (buffer (row 0)) tt))))
-        (both (eqb k 0x02) _ _ _ _
-        (leaf (row 1) (kind.ReadDataflash (pairAt 0 args)) _ (one-length (row 1) (kind.ReadDataflash (pairAt 0 args)) 0 (pairAt 2 args) (omega arith) refl refl (λ h. sym (pair-at 2 args h)))
-        (λ w os. rw (pair-at 0 args (omega (arith, w .fixed))) (sym (e os .same (kind.ReadDataflash (pairAt 0 args)) (payload (row 1)) (buffer (row 1)) tt))))
-        (both (eqb k 0x03) _ _ _ _
-        (leaf (row 2) (kind.WriteRegister (getD args 0 0)) _ (any-length (row 2) (kind.WriteRegister (getD args 0 0)) 0 refl refl (λ h. refl))
-        (λ w os. rw (byte-at 0 args (omega (arith, w .fixed))) (sym (e os .same (kind.WriteRegister (getD args 0 0)) (payload (row 2)) (buffer (row 2)) tt))))
-        (both (eqb k 0x04) _ _ _ _
-        (leaf (row 3) (kind.ReadRegister (getD args 0 0)) _ (one-length (row 3) (kind.ReadRegister (getD args 0 0)) 0 (pairAt 1 args) (omega arith) refl refl (λ h. sym (pair-at 1 args h)))
-        (λ w os. rw (byte-at 0 args (omega (arith, w .fixed))) (sym (e os .same (kind.ReadRegister (getD args 0 0)) (payload (row 3)) (buffer (row 3)) tt))))
-        (both (eqb k 0x05) _ _ _ _
-        (leaf (row 4) (kind.DispatchCommand (quadAt 0 args)) _ (any-length (row 4) (kind.DispatchCommand (quadAt 0 args)) (pairAt 4 args) refl refl (λ h. sym (pair-at 4 args h)))
-        (λ w os. rw (quad-at 0 args (omega (arith, w .fixed))) (either-read (rust.dispatchPanics (payload (row 4)) (buffer (row 4))) _ _ _
-        (λ t. e os .added (kind.DispatchCommand (quadAt 0 args)) (payload (row 4)) (buffer (row 4)) answer.NotACommand (input-given (quadAt 0 args) t))
-        (λ t. e os .same (kind.DispatchCommand (quadAt 0 args)) (payload (row 4)) (buffer (row 4)) t))))
-        (both (eqb k 0x06) _ _ _ _
-        (leaf (row 5) (kind.ReadBuffer (getD args 0 0)) _ (one-length (row 5) (kind.ReadBuffer (getD args 0 0)) 0 (pairAt 1 args) (omega arith) refl refl (λ h. sym (pair-at 1 args h)))
-        (λ w os. rw (byte-at 0 args (omega (arith, w .fixed))) (sym (e os .same (kind.ReadBuffer (getD args 0 0)) (payload (row 5)) (buffer (row 5)) (small-buffer (row 5) w)))))
-        (both (eqb k 0x07) _ _ _ _
-        (leaf (row 6) (kind.WriteBuffer (getD args 0 0)) _ (any-length (row 6) (kind.WriteBuffer (getD args 0 0)) 0 refl refl (λ h. refl))
-        (λ w os. rw (byte-at 0 args (omega (arith, w .fixed))) (sym (e os .same (kind.WriteBuffer (getD args 0 0)) (payload (row 6)) (buffer (row 6)) tt))))
-        (both (eqb k 0x08) _ _ _ _
-        (leaf (row 7) kind.ReadSecurityKeys _ (one-length (row 7) kind.ReadSecurityKeys 0 28 (omega arith) refl refl (λ h. refl))
-        (λ w os. sym (e os .same kind.ReadSecurityKeys (payload (row 7)) (buffer (row 7)) (length-replicate {A = ℕ} 28 0xA5))))
-        (both (eqb k 0x09) _ _ _ _
-        (leaf (row 8) kind.WriteSecurityKeys _ (any-length (row 8) kind.WriteSecurityKeys 0 refl refl (λ h. refl))
-        (λ w os. either (if eqb (length (payload (row 8))) 28 then false else true) _ _ (buffer (row 8)) _
-        (λ t. e os .added kind.WriteSecurityKeys (payload (row 8)) (buffer (row 8)) answer.WrongBuffer (keys-written (unlike-not 28 (payload (row 8)) t)))
-        (λ t. e os .same kind.WriteSecurityKeys (payload (row 8)) (buffer (row 8)) (unlike-same 28 (payload (row 8)) t))))
-        (both (eqb k 0x0A) _ _ _ _
-        (leaf (row 9) kind.ReadAuthenticationKey _ (one-length (row 9) kind.ReadAuthenticationKey 0 16 (omega arith) refl refl (λ h. refl))
-        (λ w os. sym (e os .same kind.ReadAuthenticationKey (payload (row 9)) (buffer (row 9)) (length-replicate {A = ℕ} 16 0xA5))))
-        (both (eqb k 0x0B) _ _ _ _
-        (leaf (row 10) kind.WriteAuthenticationKey _ (any-length (row 10) kind.WriteAuthenticationKey 0 refl refl (λ h. refl))
-        (λ w os. either (if eqb (length (payload (row 10))) 16 then false else true) _ _ (buffer (row 10)) _
-        (λ t. e os .added kind.WriteAuthenticationKey (payload (row 10)) (buffer (row 10)) answer.WrongBuffer (key-written (unlike-not 16 (payload (row 10)) t)))
-        (λ t. e os .same kind.WriteAuthenticationKey (payload (row 10)) (buffer (row 10)) (unlike-same 16 (payload (row 10)) t))))
-        (both (eqb k 0x0C) _ _ _ _
-        (leaf (row 11) (kind.ReadRegisterUnchecked (getD args 0 0)) _ (one-length (row 11) (kind.ReadRegisterUnchecked (getD args 0 0)) 0 (pairAt 1 args) (omega arith) refl refl (λ h. sym (pair-at 1 args h)))
-        (λ w os. rw (byte-at 0 args (omega (arith, w .fixed))) (sym (e os .same (kind.ReadRegisterUnchecked (getD args 0 0)) (payload (row 11)) (buffer (row 11)) (small-buffer (row 11) w)))))
-        (both (eqb k 0x0D) _ _ _ _
-        (leaf (row 12) (kind.WriteRegisterUnchecked (getD args 0 0)) _ (any-length (row 12) (kind.WriteRegisterUnchecked (getD args 0 0)) 0 refl refl (λ h. refl))
-        (λ w os. rw (byte-at 0 args (omega (arith, w .fixed))) (either (rust-r5.uncheckedPanics (payload (row 12))) _ _ (buffer (row 12)) _
-        (λ t. e os .added (kind.WriteRegisterUnchecked (getD args 0 0)) (payload (row 12)) (buffer (row 12)) answer.DataTooLarge (long-register (getD args 0 0) t))
-        (λ t. e os .same (kind.WriteRegisterUnchecked (getD args 0 0)) (payload (row 12)) (buffer (row 12)) t))))
-        (both (eqb k 0x0E) _ _ _ _
-        (leaf (row 13) (kind.SendAccessKey (pairAt 0 args) (pairAt 2 args)) _ (one-length (row 13) (kind.SendAccessKey (pairAt 0 args) (pairAt 2 args)) 0 0 (omega arith) refl refl (λ h. refl))
-        (λ w os. rw (pair-at 0 args (omega (arith, w .fixed)), pair-at 2 args (omega (arith, w .fixed))) (sym (e os .same (kind.SendAccessKey (pairAt 0 args) (pairAt 2 args)) (payload (row 13)) (buffer (row 13)) (drop-of-length-le args {i = 4} (omega (arith, w .most, w .fixed)))))))
-        (both (eqb k 0x0F) _ _ _ _
-        (leaf (row 14) kind.ReadMfgInfoC _ (one-length (row 14) kind.ReadMfgInfoC 0 (pairAt 0 args) (omega arith) refl refl (λ h. sym (pair-at 0 args h)))
-        (λ w os. sym (e os .same kind.ReadMfgInfoC (payload (row 14)) (buffer (row 14)) tt)))
-        (both (eqb k 0x10) _ _ _ _
-        (leaf (row 15) (kind.WriteMfgInfoC (pairAt 0 args) (pairAt 2 args)) _ (any-length (row 15) (kind.WriteMfgInfoC (pairAt 0 args) (pairAt 2 args)) 0 refl refl (λ h. refl))
-        (λ w os. rw (pair-at 0 args (omega (arith, w .fixed)), pair-at 2 args (omega (arith, w .fixed))) (sym (e os .same (kind.WriteMfgInfoC (pairAt 0 args) (pairAt 2 args)) (payload (row 15)) (buffer (row 15)) tt))))
-        (both (eqb k 0x11) _ _ _ _
-        (leaf (row 16) kind.ReadMfgInfo _ (one-length (row 16) kind.ReadMfgInfo 0 (pairAt 0 args) (omega arith) refl refl (λ h. sym (pair-at 0 args h)))
-        (λ w os. sym (e os .same kind.ReadMfgInfo (payload (row 16)) (buffer (row 16)) tt)))
-        (both (eqb k 0x12) _ _ _ _
-        (leaf (row 17) kind.WriteMfgInfo _ (any-length (row 17) kind.WriteMfgInfo 0 refl refl (λ h. refl))
-        (λ w os. sym (e os .same kind.WriteMfgInfo (payload (row 17)) (buffer (row 17)) tt)))
-        (both (eqb k 0x13) _ _ _ _
-        (leaf (row 18) kind.ReadChargingVoltageOverride _ (one-length (row 18) kind.ReadChargingVoltageOverride 0 10 (omega arith) refl refl (λ h. refl))
-        (λ w os. sym (e os .same kind.ReadChargingVoltageOverride (payload (row 18)) (buffer (row 18)) (length-replicate {A = ℕ} 10 0xA5))))
-        (both (eqb k 0x14) _ _ _ _
-        (leaf (row 19) kind.WriteChargingVoltageOverride _ (one-length (row 19) kind.WriteChargingVoltageOverride 10 0 (omega arith) refl refl (λ h. refl))
-        (λ w os. rw (← f os .override-figures (payload (row 19))) (sym (e os .same kind.WriteChargingVoltageOverride (payload (row 19)) (buffer (row 19)) (omega (arith, w .least, w .most), all-bytes)))))
-        (both (eqb k 0x15) _ _ _ _
-        (leaf (row 20) kind.WriteWithRetries _ (any-length (row 20) kind.WriteWithRetries 0 refl refl (λ h. refl))
-        (λ w os. either (rust.writePanics (c .«pec_write») (payload (row 20))) _ _ (buffer (row 20)) _
-        (λ t. e os .added kind.WriteWithRetries (payload (row 20)) (buffer (row 20)) answer.DataTooLarge (long-frame t))
-        (λ t. e os .same kind.WriteWithRetries (payload (row 20)) (buffer (row 20)) t)))
+        both _ _ _ _ _ write-dataflash
+        (both _ _ _ _ _ read-dataflash
+        (both _ _ _ _ _ write-register
+        (both _ _ _ _ _ read-register
+        (both _ _ _ _ _ dispatch-command
+        (both _ _ _ _ _ read-buffer
+        (both _ _ _ _ _ write-buffer
+        (both _ _ _ _ _ read-security-keys
+        (both _ _ _ _ _ write-security-keys
+        (both _ _ _ _ _ read-authentication-key
+        (both _ _ _ _ _ write-authentication-key
+        (both _ _ _ _ _ read-register-unchecked
+        (both _ _ _ _ _ write-register-unchecked
+        (both _ _ _ _ _ send-access-key
+        (both _ _ _ _ _ read-mfg-info-c
+        (both _ _ _ _ _ write-mfg-info-c
+        (both _ _ _ _ _ read-mfg-info
+        (both _ _ _ _ _ write-mfg-info
+        (both _ _ _ _ _ read-charging-voltage-override
+        (both _ _ _ _ _ write-charging-voltage-override
+        (both _ _ _ _ _ write-with-retries
         (same-bad requests.bad refl)))))))))))))))))))))

@@ -60,7 +60,8 @@ fills kind size call = record {
 abbrev or : Bool → Answer → Log → List BusOutcome → Came → Came
 or refused a log os came = if refused then Err a log os else came
 
-abbrev unlike : ℕ → List ℕ → Bool
+-- another length than n
+abbrev pub unlike : ℕ → List ℕ → Bool
 unlike n s = if eqb (length s) n then false else true
 
 abbrev pub rows : List Row
