@@ -224,6 +224,11 @@ fn counted(score: Score, same: bool, words: usize) -> Score {
     }
 }
 
+// Whether all that was asked of both readers could be read.
+fn are_sound(input: Reader, expected: Reader) -> bool {
+    reader::is_sound(input) && reader::is_sound(expected)
+}
+
 // The next case, or the end of the list. The words of each case are kept until one differs.
 fn next_case(
     here: Replay,
@@ -274,7 +279,7 @@ fn next_case(
         input: a,
         expected: b,
         score: counted(score, ran.same, len),
-        on: true,
+        on: are_sound(a, b),
     }
 }
 
@@ -293,8 +298,18 @@ fn print(score: Score, words: &[u8; 4096]) {
     }
 }
 
-// Replays the list that two descriptors are open on.
-fn run_list(first: i32, second: i32) {
+// Prints the counts of a list that was read to its end; whether it was.
+fn told(here: Replay, words: &[u8; 4096]) -> bool {
+    if are_sound(here.input, here.expected) {
+        print(here.score, words);
+        true
+    } else {
+        false
+    }
+}
+
+// Replays the list that two descriptors are open on; whether it could be read. If not, `errno` says why, and nothing is printed.
+fn run_list(first: i32, second: i32) -> bool {
     let mut put_chunk = io::large_buffer();
     let mut put = io::large_buffer();
     let mut wanted_chunk = io::large_buffer();
@@ -331,7 +346,7 @@ fn run_list(first: i32, second: i32) {
         );
         turns -= 1;
     }
-    print(here.score, &words);
+    told(here, &words)
 }
 
 fn main() {
@@ -347,7 +362,9 @@ fn main() {
         os::fail(&path[..length]);
         return;
     }
-    run_list(first, second);
+    if !run_list(first, second) {
+        os::fail(&path[..length]);
+    }
     libc::close(first);
     libc::close(second);
 }

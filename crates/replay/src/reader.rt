@@ -10,6 +10,9 @@ pub const END: u8 = 1;
 
 pub const EMPTY: u8 = 2;
 
+// The descriptor of a reader once a read has failed.
+pub const FAILED: i32 = -1;
+
 // What is left of the chunk that was read, how much of a line is held, and the length and the tag of the last line.
 pub struct Reader {
     pub fd: i32,
@@ -99,9 +102,25 @@ fn take(r: Reader, chunk: &[u8], held: &mut [u8]) -> Reader {
     }
 }
 
+// The end that a failed read brings. It stays the end, so that `errno` stays that of this read.
+fn failed(r: Reader) -> Reader {
+    line(part(FAILED, r.at, r.end, 0, 0), r.at, 0, END)
+}
+
+// Whether no read has failed.
+pub(crate) fn is_sound(r: Reader) -> bool {
+    r.fd != FAILED
+}
+
 // The next chunk; at the end of the file, what is held is the last line.
 fn refill(r: Reader, chunk: &mut [u8], held: &[u8]) -> Reader {
+    if r.fd == FAILED {
+        return failed(r);
+    }
     let got = libc::read(r.fd, chunk);
+    if got < 0 {
+        return failed(r);
+    }
     let n = io::count(got, chunk);
     if 0 < n {
         part(r.fd, 0, n, r.have, r.long)

@@ -46,8 +46,8 @@ loop-less c = omega arith
 loop-again : tie.Need-loop-again Inv-loop μ-loop
 loop-again c = tt
 
-print-requires : tie.Need-print-requires Inv-loop μ-loop
-print-requires c κs = tt
+told-requires : tie.Need-told-requires Inv-loop μ-loop
+told-requires c κs = tt
 
 returns : tie.Need-returns Inv-loop μ-loop
 returns c = tt
@@ -70,5 +70,5 @@ run-list-spec =
     sub-turns
     loop-less
     loop-again
-    print-requires
+    told-requires
     returns)
