@@ -1,6 +1,8 @@
 -- Worked runs of the bench program, document 01's own first, as one table under one statement. (01, The bench program)
 -- Assumes nothing.
 use Prim.Native.Nat.{ℕ}
+use Prim.Native.Char.{code}
+use Prim.Native.String.{String, [] as no-text, _∷_ as _then_}
 use mathlib.Core.Path.{_≡_, refl}
 use mathlib.Core.List.{List, [], _∷_, _++_}
 use lib.ListN.{replicate}
@@ -35,7 +37,14 @@ use Rattle.dialogue.specs.Dialogue as dialogue
 use Rattle.dialogue.specs.Bench as bench
 use Rattle.session.specs.Output.{printed}
 
+-- the bytes of a text, in ASCII
+unfoldable pub ascii : String → List ℕ
+ascii no-text = []
+ascii (c then s) = code c ∷ ascii s
+
 pub data Run : Type 0 where
+  -- the input and the output as they are read and written
+  text : String → String → Run
   -- whole lines of the input as bytes, the text that follows them, and the lines that are printed, as bytes
   run : List (List ℕ) → List ℕ → List (List ℕ) → Run
 
@@ -54,10 +63,14 @@ read = 0x04 ∷ 0x00 ∷ 0x00 ∷ 0x00 ∷ 0x12 ∷ 0x02 ∷ 0x00 ∷ []
 abbrev over : ℕ → ℕ → ℕ → List ℕ
 over answer detail waits = 0xFF ∷ answer ∷ detail ∷ 0x00 ∷ waits ∷ 0x00 ∷ 0x00 ∷ 0x00 ∷ []
 
+-- the line of a data-flash block of 32 bytes, at an address low byte first
+abbrev flash : ℕ → ℕ → List ℕ
+flash low high = 0x00 ∷ 0x44 ∷ 0x22 ∷ low ∷ high ∷ replicate 32 0xC3
+
 abbrev pub runs : List Run
 runs =
     -- the whole case of document 01
-    run (write ∷ (0x01 ∷ 0x05 ∷ []) ∷ (0x00 ∷ []) ∷ []) [] (sent ∷ sent ∷ over 0 0 1 ∷ [])
+    text "010001000040AABB\n0105\n00\n" "0044040040AABB\n0044040040AABB\nFF00000001000000\n"
     -- the last allowed attempt met a bus error, or timed out; lines after the end are not looked at
     ∷ run (write ∷ (0x02 ∷ []) ∷ (0x01 ∷ 0x05 ∷ []) ∷ (0x00 ∷ []) ∷ []) [] (sent ∷ sent ∷ over 1 0x05 1 ∷ [])
     ∷ run (write ∷ (0x02 ∷ []) ∷ (0x02 ∷ []) ∷ []) [] (sent ∷ sent ∷ over 2 0 1 ∷ [])
@@ -92,6 +105,11 @@ runs =
     -- 33 bytes to data flash: frames of 36 and 5 bytes, and 32 bytes committed where the second failed
     ∷ run ((0x01 ∷ 0x00 ∷ 0x00 ∷ 0x00 ∷ 0x00 ∷ 0x40 ∷ replicate 33 0xC3) ∷ (0x00 ∷ []) ∷ (0x02 ∷ []) ∷ []) []
     ((0x00 ∷ 0x44 ∷ 0x22 ∷ 0x00 ∷ 0x40 ∷ replicate 32 0xC3) ∷ (0x00 ∷ 0x44 ∷ 0x03 ∷ 0x20 ∷ 0x40 ∷ 0xC3 ∷ []) ∷ over 6 32 0 ∷ [])
+    -- counts over 255: 258 bytes asked, and 288 committed
+    ∷ run ((0x06 ∷ 0x00 ∷ 0x00 ∷ 0x00 ∷ 0x12 ∷ 0x02 ∷ 0x01 ∷ []) ∷ (0x00 ∷ replicate 258 0x11) ∷ []) [] ((0x01 ∷ 0x12 ∷ 0x02 ∷ 0x01 ∷ []) ∷ (over 0 0 0 ++ replicate 258 0x11) ∷ [])
+    ∷ run ((0x01 ∷ 0x00 ∷ 0x00 ∷ 0x00 ∷ 0x00 ∷ 0x40 ∷ replicate 289 0xC3) ∷ (replicate 9 (0x00 ∷ []) ++ ((0x02 ∷ []) ∷ []))) []
+    (flash 0x00 0x40 ∷ flash 0x20 0x40 ∷ flash 0x40 0x40 ∷ flash 0x60 0x40 ∷ flash 0x80 0x40 ∷ flash 0xA0 0x40 ∷ flash 0xC0 0x40 ∷ flash 0xE0 0x40 ∷ flash 0x00 0x41
+    ∷ (0x00 ∷ 0x44 ∷ 0x03 ∷ 0x20 ∷ 0x41 ∷ 0xC3 ∷ []) ∷ (0xFF ∷ 0x06 ∷ 0x20 ∷ 0x01 ∷ 0x00 ∷ 0x00 ∷ 0x00 ∷ 0x00 ∷ []) ∷ [])
     -- the address frame of a read with PEC; the command 443500, high byte first
     ∷ run ((0x02 ∷ 0x02 ∷ 0x00 ∷ 0x00 ∷ 0x00 ∷ 0x40 ∷ 0x01 ∷ 0x00 ∷ []) ∷ []) []
     ((0x00 ∷ 0x44 ∷ 0x02 ∷ 0x00 ∷ 0x40 ∷ 0xAB ∷ []) ∷ (0xFE ∷ 0x00 ∷ 0x00 ∷ 0x00 ∷ 0x00 ∷ 0xA5 ∷ []) ∷ [])
@@ -144,10 +162,11 @@ runs =
 -- what document 01 has the program write, for each of them
 abbrev pub Hold : List Run → Type 0
 Hold [] = Unit {0}
-Hold (run lines text out ∷ more) = (printed (feeds lines ++ text) ≡ feeds out) × Hold more
+Hold (text input output ∷ more) = (printed (ascii input) ≡ ascii output) × Hold more
+Hold (run lines rest out ∷ more) = (printed (feeds lines ++ rest) ≡ feeds out) × Hold more
 
 pub runs-hold : Hold runs
-unfolding bitStep bitSteps byteStep pecOf if_then_else_ bytes.over bytes.blockIn bytes.storedAt bytes.sendOf frame.sealed frame.pairOf frame.macBytes frame.commandBytes frame.registerBytes frame.infoBytes frame.laidOf frame.workLaid
+unfolding ascii bitStep bitSteps byteStep pecOf if_then_else_ bytes.over bytes.blockIn bytes.storedAt bytes.sendOf frame.sealed frame.pairOf frame.macBytes frame.commandBytes frame.registerBytes frame.infoBytes frame.laidOf frame.workLaid
     reply.plainAsk reply.macAsk reply.leadOf reply.aroundOf reply.bytesAsked reply.checkedOf reply.heardOf reply.dataOf inWindow case_waiting_ended_ case_acknowledged_error_timeout_ case_retry_spent_ budget.failed budget.nothing budget.waited
     bus.writeOf bus.phaseAfter bus.fitsOf limit.windowed limit.commanded limit.measured limit.admitted frames.isPlain frames.isFlash frames.firstAddress frames.frameCount frames.halfBytes frames.blockBytes frames.infoCBytes frames.bytesAt
     writing.planOf writing.startOf writing.ownBytes writing.dueBytes writing.shownOf writing.workShown writing.nextOf writing.workAfter writing.partOf writing.advanceOf writing.gaveUp writing.retryOf writing.endOf writing.failOf writing.settleOf writing.repliedOf writing.reportOf
@@ -159,4 +178,4 @@ unfolding bitStep bitSteps byteStep pecOf if_then_else_ bytes.over bytes.blockIn
     kind.planOf calls.startWith calls.startOf calls.nextOf calls.workAfter calls.partOf calls.wroteOf calls.gotOf calls.reportOf calls.bufferAfter calls.tallyOf
     printing.quadOf printing.writeSaid printing.readSaid printing.endSaid printing.cutSaid dialogue.sizeOf dialogue.tellOf dialogue.zeros dialogue.lineShown dialogue.lastOf
     line.lineBytes line.feedBytes line.feeds bench.thenSay bench.reportThen bench.toldThen bench.callLines bench.callRun bench.requestThen bench.benchOf printed
-runs-hold = (refl, (refl, (refl, (refl, (refl, (refl, (refl, (refl, (refl, (refl, (refl, (refl, (refl, (refl, (refl, (refl, (refl, (refl, (refl, (refl, (refl, (refl, (refl, (refl, (refl, (refl, (refl, (refl, (refl, (refl, (refl, (refl, (refl, (refl, (refl, (refl, (refl, (refl, (refl, (refl, (refl, (refl, (refl, (refl, (refl, (refl, tt))))))))))))))))))))))))))))))))))))))))))))))
+runs-hold = (refl, (refl, (refl, (refl, (refl, (refl, (refl, (refl, (refl, (refl, (refl, (refl, (refl, (refl, (refl, (refl, (refl, (refl, (refl, (refl, (refl, (refl, (refl, (refl, (refl, (refl, (refl, (refl, (refl, (refl, (refl, (refl, (refl, (refl, (refl, (refl, (refl, (refl, (refl, (refl, (refl, (refl, (refl, (refl, (refl, (refl, (refl, (refl, tt))))))))))))))))))))))))))))))))))))))))))))))))
