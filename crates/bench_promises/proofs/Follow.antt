@@ -28,9 +28,9 @@ use Rattle.printing.specs.Printing.{writeSaid, endSaid}
 use Rattle.dialogue.specs.Dialogue.{asked, last, sizeOf, tellOf, zeros, lineShown}
 use Rattle.hex.specs.Line.{lineBytes}
 use Rattle.dialogue.specs.Bench.{thenSay, reportThen, toldThen, callLines, callRun}
-use Rattle.original.specs.Bus.{BusOutcome, Acknowledged, BusError, Timeout, delivered, Made, write, read, Ok, Err, Waiting, Read, _leaving_}
+use Rattle.original.specs.Bus.{BusOutcome, Acknowledged, BusError, Timeout, delivered, Made, write, read, brings, Ok, Err, Waiting, Read, _leaving_}
 use Rattle.original.specs.Fed as feeding
-use Rattle.original.specs.Fed.{brings, Lending, reply, answered, shows_sending_transfer_answer_}
+use Rattle.original.specs.Fed.{Lending, reply, answered, shows_sending_transfer_answer_}
 use Rattle.original.specs.ByKind.{came_taken_refused_, fed}
 use Rattle.bench_promises.specs.RustBench.{transferLine, transferLines, endLine, cutLine, outcome, stopped, acknowledgedBy, errorBy, timeoutBy, heardIn, lastAsks, cameTo_waiting_, heard_goes_stops_, runOf}
 use Rattle.bench_promises.proofs.Steps.{IsTaken, Failure, Takes, takes}

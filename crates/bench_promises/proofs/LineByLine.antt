@@ -1,11 +1,11 @@
 -- The bench is the Rust, line by line.
 -- Assumes nothing.
-use Prim.Native.Nat.{ℕ, zero, suc, _-_, _*_, _≤_, _<_}
+use Prim.Native.Nat.{ℕ, zero, suc, _+_, _-_, _*_, _≤_, _<_}
 use mathlib.Core.Path.{_≡_, refl, sym, ap, _∙_}
 use mathlib.Core.Bool.{Bool, true, false, false≢true}
 use mathlib.Core.List.{List, [], _∷_}
 use native.Mathlib.Omega.{arith}
-use lib.ListN.{length, drop, getD, replicate, length-drop}
+use lib.ListN.{length, take, drop, getD, replicate, length-drop}
 use lib.Dec.{ltb, eqb}
 use borrow.Author.Needs.{needs}
 use borrow.Author.Tests.{lt-ltb, eq-eqb, eqb-true, ltb-false}
@@ -24,7 +24,7 @@ use Rattle.lines.specs.Input.{linesFrom, restFrom}
 use Rattle.hex.specs.Line.{lineBytes, feeds}
 use Rattle.dialogue.specs.Bench.{requestThen, benchOf}
 use Rattle.session.specs.Session.{heldBytes}
-use Rattle.session.specs.Output.{printed, concat}
+use Rattle.session.specs.Output.{printed, early, printedSoFar, concat}
 use Rattle.session.proofs.Whole.{whole-bench}
 use Rattle.bench_promises.specs.Numbers.{number, field}
 use Rattle.bench_promises.specs.Kinds.{Row, rows, Asked, bad, call, askedBy, askedAmong, settings, askedIn}
@@ -72,6 +72,12 @@ each-line (line ∷ lines) rest = request-line (lineBytes line) (line-bytes line
 all-printed : (input : List ℕ) → printed input ≡ rustPrinted input
 unfolding printed rustPrinted
 all-printed input = ap feeds (each-line (linesFrom [] input) (restFrom [] input))
+
+soon-printed : (input : List ℕ)
+    → printedSoFar input ≡ feeds (take (length (linesFrom [] input) + early (restFrom [] input)) (rustBench (linesFrom [] input) (restFrom [] input)))
+unfolding printedSoFar
+soon-printed input =
+    ap (λ (said : List (List ℕ)). feeds (take (length (linesFrom [] input) + early (restFrom [] input)) said)) (each-line (linesFrom [] input) (restFrom [] input))
 
 -- ---- the longest line
 
@@ -180,6 +186,7 @@ line-by-line = record {
   lines = each-line;
   whole = λ chunks d sized fresh. whole-bench .whole chunks d sized fresh ∙ all-printed (concat chunks);
   printed = all-printed;
+  so-far = soon-printed;
   figures = read-back;
   longest = longest;
 }

@@ -10,8 +10,7 @@ use Rattle.protocol.specs.declared.error.Answer.{Answer}
 use Rattle.protocol.specs.declared.error.Answer.the-variants as answer
 use Rattle.lines.specs.Input.{linesFrom, restFrom}
 use Rattle.hex.specs.Line.{lineBytes, feeds}
-use Rattle.original.specs.Bus.{BusOutcome, Acknowledged, BusError, Timeout, Made, write, read, Log, Ok, Err, Waiting, Read, _leaving_}
-use Rattle.original.specs.Fed.{brings}
+use Rattle.original.specs.Bus.{BusOutcome, Acknowledged, BusError, Timeout, Made, write, read, brings, Log, Ok, Err, Waiting, Read, _leaving_}
 use Rattle.bench_promises.specs.Numbers.{lowFirst}
 use Rattle.bench_promises.specs.Kinds.{Asked, bad, call, askedIn}
 

@@ -28,8 +28,8 @@ use Rattle.reading.specs.Reading as reading
 use Rattle.reading.specs.declared.call.ReadPlan.{ReadPlan}
 use Rattle.reading.specs.declared.call.ReadCall.{ReadCall}
 use Rattle.reading.specs.declared.call.Verdict.the-variants as verdict
-use Rattle.original.specs.Bus.{BusOutcome, Acknowledged, BusError, Timeout, delivered, Made, write, read, begun, Ok, Err, Waiting, _leaving_, busOp_err_ok_}
-use Rattle.original.specs.Fed.{Lending, Lends, told, brings, reply, answered, shows_sending_transfer_answer_, heard_taken_refused_, fedRead}
+use Rattle.original.specs.Bus.{BusOutcome, Acknowledged, BusError, Timeout, delivered, Made, write, read, brings, begun, Ok, Err, Waiting, _leaving_, busOp_err_ok_}
+use Rattle.original.specs.Fed.{Lending, Lends, told, reply, answered, shows_sending_transfer_answer_, heard_taken_refused_, fedRead}
 
 -- one that has ended says its answer
 pub at-end : (call : ReadCall) (buffer : List ℕ) (lent : ℕ → Lending) (done : List Made) (a : Answer) → call .phase ≡ phase.Ended a

@@ -26,8 +26,8 @@ use Rattle.writing.specs.Writing as writing
 use Rattle.writing.specs.declared.frames.Frames.{Frames}
 use Rattle.writing.specs.declared.call.WritePlan.{WritePlan}
 use Rattle.writing.specs.declared.call.WriteCall.{WriteCall}
-use Rattle.original.specs.Bus.{BusOutcome, Acknowledged, BusError, Timeout, Made, write, Log, begun, delayed, Came, Ok, Err, busOp_err_ok_, settle}
-use Rattle.original.specs.Fed.{Lending, Lends, told, brings, reply, answered, shows_sending_transfer_answer_, wrote_taken_refused_, fedWrite}
+use Rattle.original.specs.Bus.{BusOutcome, Acknowledged, BusError, Timeout, Made, brings, write, Log, begun, delayed, Came, Ok, Err, busOp_err_ok_, settle}
+use Rattle.original.specs.Fed.{Lending, Lends, told, reply, answered, shows_sending_transfer_answer_, wrote_taken_refused_, fedWrite}
 use Rattle.original.specs.OriginalInterface.{writeWithRetriesInternal}
 
 -- one that has ended says its answer

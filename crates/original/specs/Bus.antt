@@ -13,6 +13,11 @@ pub data BusOutcome : Type 0 where
   BusError : ℕ → BusOutcome
   Timeout : BusOutcome
 
+-- how many bytes a transfer brings
+unfoldable pub brings : Made → ℕ
+brings (write frame) = 0
+brings (read command count) = count
+
 -- an acknowledged read of n brings exactly n bytes: a longer list is cut, a shorter one ends in zeros
 abbrev pub delivered : ℕ → List ℕ → List ℕ
 delivered n bytes = take n (bytes ++ replicate n 0)

@@ -22,18 +22,13 @@ use Rattle.reading.specs.declared.call.ReadPlan.{ReadPlan}
 use Rattle.reading.specs.declared.call.ReadCall.{ReadCall}
 use Rattle.reading.specs.declared.call.ReadReported.{ReadReported}
 use Rattle.reading.specs.declared.call.ReadReported.the-variants as reported
-use Rattle.original.specs.Bus.{BusOutcome, Acknowledged, BusError, Timeout, delivered, Made, write, read, Log, Came, Ok, Err, Waiting, Read, _leaving_}
+use Rattle.original.specs.Bus.{BusOutcome, Acknowledged, BusError, Timeout, delivered, Made, write, read, brings, Log, Came, Ok, Err, Waiting, Read, _leaving_}
 
 -- an outcome in the machine's words
 unfoldable pub told : BusOutcome → Outcome
 told (Acknowledged bytes) = outcome.Acknowledged
 told (BusError code) = outcome.BusError code
 told Timeout = outcome.Timeout
-
--- how many bytes a transfer brings
-unfoldable pub brings : Made → ℕ
-brings (write frame) = 0
-brings (read command count) = count
 
 -- what a host lends at one step: a work buffer, and the bytes that lie in the reply beside a failure, which are not looked at
 pub record Lending : Type 0 where

@@ -22,8 +22,8 @@ use Rattle.engine.specs.declared.bus.Phase.the-variants as phase
 use Rattle.writing.specs.Writing.{nextOf, workAfter, settleOf, repliedOf}
 use Rattle.writing.specs.declared.call.WriteCall.{WriteCall}
 use Rattle.courses.specs.declared.course.End.the-variants as end
-use Rattle.original.specs.Bus.{BusOutcome, Made, write, Log, Came, Ok, Err, Waiting, begun}
-use Rattle.original.specs.Fed.{told, brings, Lending, reply, answered, shows_sending_transfer_answer_, wrote_taken_refused_, fedWrite}
+use Rattle.original.specs.Bus.{BusOutcome, Made, brings, write, Log, Came, Ok, Err, Waiting, begun}
+use Rattle.original.specs.Fed.{told, Lending, reply, answered, shows_sending_transfer_answer_, wrote_taken_refused_, fedWrite}
 use Rattle.original.specs.OriginalR5 as rust
 use Rattle.original.proofs.Equal.{equal}
 use Rattle.promises.specs.Events.{busError, timedOut, Event, acknowledged, failed, unheard, heardAs, each}
