@@ -3,3 +3,4 @@ pub mod Kept
 pub mod Long
 pub mod EachTurn
 pub mod Whole
+pub mod Loop

@@ -26,23 +26,23 @@ use Rattle.session.specs.Output.{printed, early, printedSoFar, written, 
 use Rattle.session.proofs.Laws.{turn-uses, goes-on-inside}
 use Rattle.session.proofs.EachTurn.{Good, shown, before, written-said, Gives, take-gives}
 
+-- a run that is over writes nothing more
+pub off-chunk : (takes : ℕ) (chunk : List ℕ) (w : Desk) (more : Desk → List ℕ) → ((v : Desk) → v .session .on ≡ false → more v ≡ []) → w .session .on ≡ false
+    → chunkOut takes chunk w more ≡ []
+unfolding chunkOut if_then_else_
+off-chunk zero chunk w more off o = off w o
+off-chunk (suc takes) chunk w more off o = rw o
+
+pub off-chunks : (final : Desk → List ℕ) (chunks : List (List ℕ)) (w : Desk) → w .session .on ≡ false → chunksOut final chunks w ≡ []
+unfolding chunksOut atByte if_then_else_
+off-chunks final [] w o = rw o
+off-chunks final (chunk ∷ chunks) w o = off-chunk (length chunk) chunk _ (chunksOut final chunks) (off-chunks final chunks) o
+
 module _ (view : List (List ℕ) → List (List ℕ) → List ℕ) (Ends : List ℕ → Type 0)
     (step : (line x : List ℕ) (lines more : List (List ℕ)) → view (line ∷ lines) (x ∷ more) ≡ feedBytes x ++ view lines more)
     (none : (lines : List (List ℕ)) → view lines [] ≡ [])
     (early : (rest x : List ℕ) → Ends rest → heldBytes < length rest → view [] (x ∷ []) ≡ feedBytes x)
     (final : Desk → List ℕ) (close : (w : Desk) (rest : List ℕ) → Good w → Ends rest → rest ≡ before w → AllShort (shown w [] rest) → final w ≡ view [] (shown w [] rest)) where
-  -- a run that is over writes nothing more
-  off-chunk : (takes : ℕ) (chunk : List ℕ) (w : Desk) (more : Desk → List ℕ) → ((v : Desk) → v .session .on ≡ false → more v ≡ []) → w .session .on ≡ false
-      → chunkOut takes chunk w more ≡ []
-  unfolding chunkOut if_then_else_
-  off-chunk zero chunk w more off o = off w o
-  off-chunk (suc takes) chunk w more off o = rw o
-
-  off-chunks : (chunks : List (List ℕ)) (w : Desk) → w .session .on ≡ false → chunksOut final chunks w ≡ []
-  unfolding chunksOut atByte if_then_else_
-  off-chunks [] w o = rw o
-  off-chunks (chunk ∷ chunks) w o = off-chunk (length chunk) chunk _ (chunksOut final chunks) (off-chunks chunks) o
-
   -- nothing of a chunk is left
   used-up : (chunk t : List ℕ) (more : Desk → List ℕ) → ((v : Desk) → Good v → Gives view Ends step none early more v t) → (w : Desk) → Good w → length chunk ≤ w .session .at
       → Gives view Ends step none early more w (drop (w .session .at) chunk ++ t)
@@ -74,7 +74,7 @@ module _ (view : List (List ℕ) → List (List ℕ) → List ℕ) (Ends : List 
       let e = subst (λ (ls : List (List ℕ)). AllShort (shown w ls rest) → final w ≡ view ls (shown w ls rest)) (sym p) (λ b. close w rest good z q b) a in
       sym (is-true (w .session .on) _ _ _ (good .on) (sym e))
   chunks-give (chunk ∷ chunks) w good lines rest p q a z =
-      takes-give (length chunk) chunk (concat chunks) (chunksOut final chunks) (off-chunks chunks) (λ v g. chunks-give chunks v g)
+      takes-give (length chunk) chunk (concat chunks) (chunksOut final chunks) (off-chunks final chunks) (λ v g. chunks-give chunks v g)
       (desk (atByte (w .session) 0) (w .held) (w .request) (w .outcome) (w .buffer) (w .out))
       (record {
         sized = record { held = good .sized .held; request = good .sized .request; outcome = good .sized .outcome; buffer = good .sized .buffer; out = good .sized .out };
@@ -153,18 +153,16 @@ turns-stay (suc turns) chunk w = by (turns-stay turns chunk (turnOf chunk w)) (g
         omega (arith, turn-uses chunk w (g .1), next)
     by next false e = omega arith
 
-take-uses : (chunk : List ℕ) (w : Desk) → Sized w → w .session .on ≡ true → w .session .at < length chunk → w .session .at < takeOf chunk w .session .at
+pub take-uses : (chunk : List ℕ) (w : Desk) → longestLine ≤ length (w .out) → w .session .on ≡ true → w .session .at < length chunk
+    → w .session .at < takeOf chunk w .session .at
 unfolding takeOf turnsOf atByte goesOn if_then_else_
-take-uses chunk w sized o inside = by (length chunk) refl
+take-uses chunk w room o inside = by (length chunk) refl
   where
     fresh : Desk
     fresh = desk (atByte (w .session) (w .session .at)) (w .held) (w .request) (w .outcome) (w .buffer) (w .out)
 
-    room : 0 + longestLine ≤ length (w .out)
-    room = omega (arith, sized .out)
-
     goes : goesOn (w .session .on) (w .session .at) (length chunk) 0 (length (w .out)) ≡ true
-    goes = rw (o, lt-ltb (w .session .at) (length chunk) inside) (le-leb (0 + longestLine) (length (w .out)) room)
+    goes = rw (o, lt-ltb (w .session .at) (length chunk) inside) (le-leb (0 + longestLine) (length (w .out)) (omega arith))
 
     by : (n : ℕ) → length chunk ≡ n → w .session .at < turnsOf n chunk fresh .session .at
     by zero e = absurd (omega arith)
@@ -182,5 +180,5 @@ whole-bench = record {
       gives-bench (λ lines more. feeds (take (length lines + early rest) more)) (λ r. r ≡ rest) (step-so-far (early rest)) (λ lines. none-so-far lines (early rest))
       (λ r x z h. one-so-far rest r x z h)
       (λ v. []) (λ v r good z e a. close-so-far v rest r good z e) chunks w sized e refl;
-  advances = take-uses;
+  advances = λ chunk w sized. take-uses chunk w (omega (arith, sized .out));
 }

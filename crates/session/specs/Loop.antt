@@ -1,0 +1,58 @@
+-- The program's loop, turn by turn: where it may stand, and what it has read and written there. (01, The bench program)
+-- Assumes nothing.
+use Prim.Native.Nat.{ℕ, suc, _≤_, _<_}
+use mathlib.Core.Path.{_≡_}
+use mathlib.Core.Bool.{Bool, true, false}
+use mathlib.Core.List.{List, [], _++_}
+use lib.ListN.{length}
+use Rattle.session.specs.Session.{Desk, desk, Sized, startOf, atByte, takeOf, endOf}
+use Rattle.session.specs.Output.{printed, printedSoFar, written}
+
+-- a session with nothing read yet, and arrays of the sizes that are lent
+pub record Fresh (d : Desk) : Type 0 where
+  pub sized : Sized d
+  pub start : d .session ≡ startOf
+
+-- at a byte of its chunk, with nothing laid
+unfoldable pub deskAt : ℕ → Desk → Desk
+deskAt at d = desk (atByte (d .session) at) (d .held) (d .request) (d .outcome) (d .buffer) (d .out)
+
+-- ready for a turn: the run goes on, and nothing is laid that is not written
+pub record Ready (d : Desk) : Type 0 where
+  pub on : d .session .on ≡ true
+  pub clear : d .session .laid ≡ 0
+
+-- where the program may stand: the turns that it has made, all that it has read and written, the chunk at hand, and whether a read brought nothing
+pub data Reached (first : Desk) : ℕ → List ℕ → List ℕ → List ℕ → Bool → Desk → Type 0 where
+  begun : Reached first 0 [] [] [] false first
+  -- lines of the chunk, while it lasts
+  took : {turns : ℕ} {read wrote chunk : List ℕ} {d : Desk} → Reached first turns read wrote chunk false d → Ready d → d .session .at < length chunk
+      → Reached first (suc turns) read wrote chunk false (takeOf chunk d)
+  -- the next chunk, once this one is used up
+  brought : {turns : ℕ} {read wrote chunk : List ℕ} {d : Desk} (more : List ℕ) → Reached first turns read wrote chunk false d → Ready d
+      → length chunk ≤ d .session .at → 0 < length more → Reached first (suc turns) (read ++ more) wrote more false (deskAt 0 d)
+  -- or the end of the input
+  ended : {turns : ℕ} {read wrote chunk : List ℕ} {d : Desk} → Reached first turns read wrote chunk false d → Ready d → length chunk ≤ d .session .at
+      → Reached first (suc turns) read wrote chunk true (endOf d)
+  -- what is laid is written
+  put : {turns : ℕ} {read wrote chunk : List ℕ} {end : Bool} {d : Desk} → Reached first turns read wrote chunk end d
+      → Reached first turns read (wrote ++ written d) chunk end (deskAt (d .session .at) d)
+
+-- the first bytes of a list
+pub record Begins (front whole : List ℕ) : Type 0 where
+  pub rest : List ℕ
+  pub same : front ++ rest ≡ whole
+
+-- what holds wherever the loop may stand, for all that the input may go on with; after its end that is nothing
+pub record Loop : Type 0 where
+  -- more is read only once all that the lines so far give is written
+  pub reads : (first : Desk) → Fresh first → {turns : ℕ} {read wrote chunk : List ℕ} {d : Desk} → Reached first turns read wrote chunk false d
+      → Ready d → length chunk ≤ d .session .at → wrote ≡ printedSoFar read
+  -- a run that is over has written what document 01 says of the whole input
+  pub over : (first : Desk) → Fresh first → {turns : ℕ} {read wrote chunk : List ℕ} {end : Bool} {d : Desk} → Reached first turns read wrote chunk end d
+      → d .session .on ≡ false → d .session .laid ≡ 0 → (more : List ℕ) → (end ≡ true → more ≡ []) → wrote ≡ printed (read ++ more)
+  -- at any time, what is written is the first bytes of that
+  pub starts : (first : Desk) → Fresh first → {turns : ℕ} {read wrote chunk : List ℕ} {end : Bool} {d : Desk} → Reached first turns read wrote chunk end d
+      → (more : List ℕ) → (end ≡ true → more ≡ []) → Begins wrote (printed (read ++ more))
+  -- what is written before more is read is never taken back
+  pub so-far : (input more : List ℕ) → Begins (printedSoFar input) (printed (input ++ more)) × Begins (printedSoFar input) (printedSoFar (input ++ more))
