@@ -1,7 +1,7 @@
 -- Wherever the loop may stand, what is written and what the chunk at hand still gives is what the chunks that were read give: `WholeBench` speaks of it.
 -- Assumes nothing.
 use Prim.Native.Nat.{ℕ, zero, suc, _+_, _≤_, _<_}
-use mathlib.Core.Path.{_≡_, refl, sym, ap, _∙_}
+use mathlib.Core.Path.{_≡_, refl, sym, ap, subst, _∙_}
 use mathlib.Core.Bool.{Bool, true, false}
 use mathlib.Core.List.{List, [], _∷_, _++_, append-nil, append-assoc}
 use native.Mathlib.Omega.{arith}
@@ -11,10 +11,11 @@ use borrow.Author.Tests.{lt-ltb, le-ltb}
 use Rattle.protocol.specs.Pick.{if_then_else_}
 use Rattle.lines.specs.declared.Took.{Took}
 use Rattle.lines.specs.declared.Took.the-variants as took
+use Rattle.dialogue.specs.Dialogue.{saidOf}
 use Rattle.session.specs.declared.Session.{Session}
-use Rattle.session.specs.Session.{Desk, desk, heldBytes, longestLine, outBytes, Sized, startOf, atByte, laidOut, laidDesk, lineOf, turnBy, turnOf, goesOn, turnsOf, takeOf, endSession, endOut, endOf}
+use Rattle.session.specs.Session.{Desk, desk, heldBytes, longestLine, outBytes, Sized, startOf, atByte, saidSession, spokenSession, laidOut, closing, laidDesk, lineOf, turnBy, turnOf, goesOn, turnsOf, takeOf, endSession, endOut, endOf}
 use Rattle.session.specs.Output.{printed, printedSoFar, written, chunkOut, chunksOut, bytesOut, bytesSoFar, concat}
-use Rattle.session.specs.Loop.{Fresh, deskAt, Ready, Reached, begun, took, brought, ended, put, Begins, Loop}
+use Rattle.session.specs.Loop.{Fresh, deskAt, Ready, Turn, took, brought, ended, Reached, begun, turned, put, Turned, Standing, Begins, Loop}
 use Rattle.session.proofs.Laws.{goes-on-inside}
 use Rattle.session.proofs.Kept.{length-laid}
 use Rattle.session.proofs.Whole.{off-chunk, off-chunks, take-uses, whole-bench}
@@ -118,17 +119,17 @@ module _ (first : Desk) where
   }
 
   module _ (read wrote chunk : List ℕ) (d : Desk) (s : Before first read wrote chunk d) where
-    at-took : Ready d → d .session .at < length chunk → Before first read wrote chunk (takeOf chunk d)
+    at-took : Ready d → d .session .at < length chunk → Before first (read ++ []) wrote chunk (takeOf chunk d)
     at-took ready inside = by (s .takes) (s .enough) (s .same)
       where
         by : (n : ℕ) → length chunk ≤ n + d .session .at
             → ((final : Desk → List ℕ) (more : List (List ℕ)) → Blind final
             → chunksOut final (s .chunks ++ more) first ≡ wrote ++ (written d ++ chunkOut n chunk d (chunksOut final more)))
-            → Before first read wrote chunk (takeOf chunk d)
+            → Before first (read ++ []) wrote chunk (takeOf chunk d)
         by zero h same = absurd (omega arith)
         by (suc n) h same = record {
           chunks = s .chunks;
-          all = s .all;
+          all = s .all ∙ sym (append-nil read);
           takes = n;
           enough = omega (arith, take-uses chunk d (s .room) (ready .on) inside, h);
           room = omega (arith, out-take chunk d, s .room);
@@ -148,15 +149,20 @@ module _ (first : Desk) where
           ∙ rw (none-laid d (ready .clear), chunk-used (s .takes) chunk d (chunksOut final (more ∷ rest)) (ready .on) used);
     }
 
-    at-end : Ready d → length chunk ≤ d .session .at → After first read wrote (endOf d)
+    at-end : Ready d → length chunk ≤ d .session .at → After first (read ++ []) wrote (endOf d)
     unfolding bytesOut chunksOut if_then_else_
     at-end ready used = record {
       chunks = s .chunks;
-      all = s .all;
+      all = s .all ∙ sym (append-nil read);
       same =
           ap (λ (l : List (List ℕ)). chunksOut (λ v. written (endOf v)) l first) (sym (append-nil (s .chunks))) ∙ s .same (λ v. written (endOf v)) [] blind-end
           ∙ rw (none-laid d (ready .clear), chunk-used (s .takes) chunk d (chunksOut (λ v. written (endOf v)) []) (ready .on) used, ready .on);
     }
+
+    at-turn : {more next : List ℕ} {end : Bool} {v : Desk} → Ready d → Turn chunk d more next end v → Stands first (read ++ more) wrote next end v
+    at-turn ready (took inside) = at-took ready inside
+    at-turn ready (brought more used some) = at-brought more ready used
+    at-turn ready (ended used) = at-end ready used
 
     at-put : Before first read (wrote ++ written d) chunk (deskAt (d .session .at) d)
     unfolding deskAt atByte written
@@ -181,9 +187,7 @@ module _ (first : Desk) where
 
   stands : Fresh first → {turns : ℕ} {read wrote chunk : List ℕ} {end : Bool} {d : Desk} → Reached first turns read wrote chunk end d → Stands first read wrote chunk end d
   stands fresh begun = at-begun fresh
-  stands fresh (took r ready inside) = at-took _ _ _ _ (stands fresh r) ready inside
-  stands fresh (brought more r ready used some) = at-brought _ _ _ _ (stands fresh r) more ready used
-  stands fresh (ended r ready used) = at-end _ _ _ _ (stands fresh r) ready used
+  stands fresh (turned r ready t) = at-turn _ _ _ _ (stands fresh r) ready t
   stands fresh (put {read = read} {wrote = wrote} {chunk = chunk} {end = end} {d = d} r) = put-either read wrote chunk end d (stands fresh r)
 
   module _ (fresh : Fresh first) (read wrote chunk : List ℕ) where
@@ -288,3 +292,33 @@ loop = record {
   starts = λ first fresh {turns} {read} {wrote} {chunk} {end} {d} r. starts-all first fresh read wrote chunk end d (stands first fresh r);
   so-far = so-far-begins;
 }
+
+-- ---- for the program: it stands a turn further
+
+end-off : (d : Desk) → d .session .on ≡ true → endOf d .session .on ≡ false
+unfolding endOf endSession spokenSession closing saidSession saidOf if_then_else_
+end-off d o = rw o
+
+-- a run that goes on has not come to the end of the input
+unended-turn : {chunk more next : List ℕ} {end : Bool} {d v : Desk} → Ready d → Turn chunk d more next end v → v .session .on ≡ true → end ≡ false
+unended-turn ready (took inside) o = refl
+unended-turn ready (brought more used some) o = refl
+unended-turn {d = d} ready (ended used) o = sym o ∙ end-off d (ready .on)
+
+unended : {first : Desk} {turns : ℕ} {read wrote chunk : List ℕ} {end : Bool} {d : Desk} → Reached first turns read wrote chunk end d → d .session .on ≡ true → end ≡ false
+unfolding deskAt atByte
+unended begun o = refl
+unended (turned r ready t) o = unended-turn ready t o
+unended (put r) o = unended r o
+
+pub stands-first : (d : Desk) → Fresh d → Standing 0 [] d
+stands-first d fresh = record { first = d; fresh = fresh; read = []; wrote = []; end = false; reached = begun }
+
+pub stands-on : (turns : ℕ) (chunk next : List ℕ) (d v : Desk) → Standing turns chunk d → Ready d → Turned chunk d next v → Standing (suc turns) next v
+stands-on turns chunk next d v s ready t =
+    let r : Reached (s .first) turns (s .read) (s .wrote) chunk false d =
+    subst (λ (b : Bool). Reached (s .first) turns (s .read) (s .wrote) chunk b d) (unended (s .reached) (ready .on)) (s .reached) in
+    record { first = s .first; fresh = s .fresh; read = s .read ++ t .more; wrote = s .wrote; end = t .end; reached = turned r ready (t .turn) }
+
+pub stands-put : (turns : ℕ) (chunk : List ℕ) (d : Desk) → Standing turns chunk d → Standing turns chunk (deskAt (d .session .at) d)
+stands-put turns chunk d s = record { first = s .first; fresh = s .fresh; read = s .read; wrote = s .wrote ++ written d; end = s .end; reached = put (s .reached) }

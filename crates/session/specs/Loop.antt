@@ -22,21 +22,38 @@ pub record Ready (d : Desk) : Type 0 where
   pub on : d .session .on ≡ true
   pub clear : d .session .laid ≡ 0
 
--- where the program may stand: the turns that it has made, all that it has read and written, the chunk at hand, and whether a read brought nothing
+-- one turn, from the chunk at hand: the bytes that it reads, the chunk that is at hand then, whether the input has ended, and the desk
+pub data Turn (chunk : List ℕ) (d : Desk) : List ℕ → List ℕ → Bool → Desk → Type 0 where
+  -- lines of the chunk, while it lasts
+  took : d .session .at < length chunk → Turn chunk d [] chunk false (takeOf chunk d)
+  -- the next chunk, once this one is used up
+  brought : (more : List ℕ) → length chunk ≤ d .session .at → 0 < length more → Turn chunk d more more false (deskAt 0 d)
+  -- or a read that brings nothing, which is the end of the input
+  ended : length chunk ≤ d .session .at → Turn chunk d [] [] true (endOf d)
+
+-- where the program may stand: the turns that it has made, all that it has read and written, the chunk at hand, whether the input has ended, and the desk
 pub data Reached (first : Desk) : ℕ → List ℕ → List ℕ → List ℕ → Bool → Desk → Type 0 where
   begun : Reached first 0 [] [] [] false first
-  -- lines of the chunk, while it lasts
-  took : {turns : ℕ} {read wrote chunk : List ℕ} {d : Desk} → Reached first turns read wrote chunk false d → Ready d → d .session .at < length chunk
-      → Reached first (suc turns) read wrote chunk false (takeOf chunk d)
-  -- the next chunk, once this one is used up
-  brought : {turns : ℕ} {read wrote chunk : List ℕ} {d : Desk} (more : List ℕ) → Reached first turns read wrote chunk false d → Ready d
-      → length chunk ≤ d .session .at → 0 < length more → Reached first (suc turns) (read ++ more) wrote more false (deskAt 0 d)
-  -- or the end of the input
-  ended : {turns : ℕ} {read wrote chunk : List ℕ} {d : Desk} → Reached first turns read wrote chunk false d → Ready d → length chunk ≤ d .session .at
-      → Reached first (suc turns) read wrote chunk true (endOf d)
+  turned : {turns : ℕ} {read wrote chunk more next : List ℕ} {end : Bool} {d v : Desk} → Reached first turns read wrote chunk false d → Ready d
+      → Turn chunk d more next end v → Reached first (suc turns) (read ++ more) wrote next end v
   -- what is laid is written
   put : {turns : ℕ} {read wrote chunk : List ℕ} {end : Bool} {d : Desk} → Reached first turns read wrote chunk end d
       → Reached first turns read (wrote ++ written d) chunk end (deskAt (d .session .at) d)
+
+-- a turn leads from a chunk and a desk to others
+pub record Turned (chunk : List ℕ) (d : Desk) (next : List ℕ) (v : Desk) : Type 0 where
+  pub more : List ℕ
+  pub end : Bool
+  pub turn : Turn chunk d more next end v
+
+-- the program stands at a chunk and a desk, so many turns after its start
+pub record Standing (turns : ℕ) (chunk : List ℕ) (d : Desk) : Type 0 where
+  pub first : Desk
+  pub fresh : Fresh first
+  pub read : List ℕ
+  pub wrote : List ℕ
+  pub end : Bool
+  pub reached : Reached first turns read wrote chunk end d
 
 -- the first bytes of a list
 pub record Begins (front whole : List ℕ) : Type 0 where

@@ -77,6 +77,13 @@ pub fn next_chunk(session: Session) -> Session
     at_byte(session, 0)
 }
 
+// What was laid is written.
+pub fn written(session: Session) -> Session
+    ensures { λ r. ⌜ r ≡ atByte session (session .at) ⌝ }
+{
+    at_byte(session, session.at)
+}
+
 // Whether the longest line has room after what is laid.
 fn has_room(laid: usize, room: usize) -> bool
     ensures { λ r. ⌜ r ≡ leb (laid + longestLine) room ⌝ }
