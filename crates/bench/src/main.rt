@@ -9,8 +9,11 @@ use session::OUTCOME_BYTES;
 use session::REQUEST_BYTES;
 use session::Session;
 ghost use mathlib.Core.Path.{_≡_};
-ghost use lib.ListN.{take as front};
-ghost use Rattle.session.specs.Session.{desk, takeOf};
+ghost use mathlib.Core.Bool.{true};
+ghost use Prim.Native.Nat.{_≤_};
+ghost use lib.ListN.{length, take as front};
+ghost use Rattle.session.specs.Session.{desk, atByte, takeOf};
+ghost use Rattle.bench.specs.Ending.{Brings, Makes, Came};
 
 // What a read brought.
 enum Brought {
@@ -23,7 +26,9 @@ enum Brought {
 }
 
 // Reads the next chunk.
-fn read(chunk: &mut [u8; 65536]) -> Brought {
+fn read(chunk: &mut [u8; 65536]) -> Brought
+    ensures { λ r. ⌜ Brings r (now (chunk .exit)) ⌝ }
+{
     let got = libc::read(STDIN_FILENO, chunk);
     if got < 0 {
         os::fail(b"bench: standard input");
@@ -37,13 +42,27 @@ fn read(chunk: &mut [u8; 65536]) -> Brought {
     }
 }
 
-// Writes the n bytes that are laid; whether that went well, and if not, why, on standard error.
-fn write(out: &[u8; OUT_BYTES], n: usize) -> bool {
-    if io::write_all(STDOUT_FILENO, bytes::front(out, n)) {
-        return true;
+// What a write left: whether all was written, and the session with nothing laid.
+struct Written {
+    all: bool,
+    session: Session,
+}
+
+// Writes the bytes that are laid. Where that fails, it tells why on standard error.
+fn write(session: Session, out: &[u8; OUT_BYTES]) -> Written
+    ensures { λ r. ⌜ (r .all ≡ true → r .session ≡ atByte session (session .at)) ⌝ }
+{
+    if io::write_all(STDOUT_FILENO, bytes::front(out, session.laid)) {
+        return Written {
+            all: true,
+            session: session::written(session),
+        };
     }
     os::fail(b"bench: standard output");
-    false
+    Written {
+        all: false,
+        session,
+    }
 }
 
 // The lines of a chunk of n bytes.
@@ -70,8 +89,70 @@ fn take(
     )
 }
 
-// Its turns are counted down from a number that no input reaches, since every loop has to be proved to end.
-fn main() {
+// What a turn left: whether it was made, the session, and how many bytes the chunk at hand has.
+struct Left {
+    made: bool,
+    session: Session,
+    n: usize,
+}
+
+// One turn: lines of the chunk, while it lasts; after that the next chunk, or the end of the input. A read that fails makes none.
+fn turn(
+    session: Session,
+    n: usize,
+    chunk: &mut [u8; 65536],
+    held: &mut [u8; HELD_BYTES],
+    request: &mut [u8; REQUEST_BYTES],
+    outcome: &mut [u8; OUTCOME_BYTES],
+    buffer: &mut [u8; BUFFER_BYTES],
+    out: &mut [u8; OUT_BYTES],
+) -> Left
+    requires { ⌜ n ≤ length (now chunk) ⌝ }
+    ensures { λ r. ⌜ Makes r n (now (chunk .entry)) (desk session (now (held .entry)) (now (request .entry)) (now (outcome .entry)) (now (buffer .entry)) (now (out .entry))) (now (chunk .exit)) (desk (r .session) (now (held .exit)) (now (request .exit)) (now (outcome .exit)) (now (buffer .exit)) (now (out .exit))) ⌝ }
+{
+    if session.at < n {
+        let after = take(session, chunk, n, held, request, outcome, buffer, out);
+        return Left {
+            made: true,
+            session: after,
+            n,
+        };
+    }
+    match read(chunk) {
+        Brought::Bytes(k) => Left {
+            made: true,
+            session: session::next_chunk(session),
+            n: k,
+        },
+        Brought::End => Left {
+            made: true,
+            session: session::end(session, buffer, out),
+            n: 0,
+        },
+        Brought::Failed => Left {
+            made: false,
+            session,
+            n: 0,
+        },
+    }
+}
+
+// How the program came to its end.
+enum Ending {
+    // The run is over, and all is written.
+    Over,
+    // A read failed.
+    Unread,
+    // A write failed.
+    Unwritten,
+    // As many turns as a u64 counts were made, which no input comes to.
+    Spent,
+}
+
+// The whole run, turn by turn. Its turns are counted down, since every loop has to be proved to end.
+fn run() -> Ending
+    ensures { λ r. ⌜ Came r ⌝ }
+{
     let mut chunk = io::large_buffer();
     let mut held = [0u8; HELD_BYTES];
     let mut request = [0u8; REQUEST_BYTES];
@@ -81,33 +162,34 @@ fn main() {
     let mut session = session::start();
     let mut n = 0;
     let mut turns = u64::MAX;
-    while turns > 0 && session.on {
-        if session.at < n {
-            session = take(
-                session,
-                &chunk,
-                n,
-                &mut held,
-                &mut request,
-                &mut outcome,
-                &mut buffer,
-                &mut out,
-            );
-        } else {
-            match read(&mut chunk) {
-                Brought::Bytes(k) => {
-                    n = k;
-                    session = session::next_chunk(session);
-                }
-                Brought::End => {
-                    session = session::end(session, &buffer, &mut out);
-                }
-                Brought::Failed => return,
-            }
+    while turns > 0 {
+        if !session.on {
+            return Ending::Over;
         }
-        if !write(&out, session.laid) {
-            return;
+        let turn = turn(
+            session,
+            n,
+            &mut chunk,
+            &mut held,
+            &mut request,
+            &mut outcome,
+            &mut buffer,
+            &mut out,
+        );
+        if !turn.made {
+            return Ending::Unread;
         }
+        let wrote = write(turn.session, &out);
+        if !wrote.all {
+            return Ending::Unwritten;
+        }
+        session = wrote.session;
+        n = turn.n;
         turns -= 1;
     }
+    Ending::Spent
+}
+
+fn main() {
+    run();
 }

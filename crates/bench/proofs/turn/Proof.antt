@@ -1,0 +1,66 @@
+-- `bench::turn` meets its contract: each way through it is a turn of `session`, or a read that failed.
+-- Assumes nothing.
+use mathlib.Core.Path.{subst}
+use borrow.Author.Needs.{needs}
+use Rattle.bench.specs.declared.Brought.{Brought}
+use Rattle.bench.specs.Ending.{Brings}
+use Rattle.bench.proofs.Laws.{took-makes, brought-makes, ended-makes, failed-makes}
+use Rattle.bench.proofs.turn.Statement.{statement}
+use Rattle.bench.proofs.turn.Tie as tie
+
+take-requires : tie.Need-take-requires
+take-requires c κs = search needs
+
+returns : tie.Need-returns
+returns c =
+    let a = c .before .before .before .before .before .before .before .before .before .args in
+    took-makes (a .chunk .now) (a .n) _ _ _ (search needs) (search needs) (c .take .ensures)
+
+read-requires : tie.Need-read-requires
+read-requires c κs = search needs
+
+enum-known-k : tie.Need-enum-known-k
+enum-known-k c = search needs
+
+next-chunk-requires : tie.Need-next-chunk-requires
+next-chunk-requires c κs = search needs
+
+enum-told : tie.Need-enum-told
+enum-told c = search needs
+
+end-requires : tie.Need-end-requires
+end-requires c κs = search needs
+
+enum-told-2 : tie.Need-enum-told-2
+enum-told-2 c = search needs
+
+returns-2 : tie.Need-returns-2
+returns-2 c =
+    let a = c .before .before .before .before .before .before .before .before .args in
+    brought-makes (a .chunk .now) (a .n) _ _ _ _ (search needs) (subst (λ (b : Brought). Brings b (c .before .before .before .before .read .last .0)) (c .before .before .k .given .1) (c .before .before .before .before .read .ensures)) (c .next-chunk .ensures)
+
+returns-3 : tie.Need-returns-3
+returns-3 c =
+    let a = c .before .before .before .before .before .before .before .before .before .args in
+    ended-makes (a .chunk .now) (a .n) _ _ _ _ (search needs) (c .end .ensures .0) (c .end .ensures .1)
+
+returns-4 : tie.Need-returns-4
+returns-4 c =
+    let a = c .before .before .before .before .before .before .args in
+    failed-makes (a .chunk .now) (a .n) _ _ _ _ (search needs)
+
+pub turn-spec : {M : Type 1} → statement M
+turn-spec =
+    tie.close
+    (tie.spec
+    take-requires
+    returns
+    read-requires
+    enum-known-k
+    next-chunk-requires
+    enum-told
+    end-requires
+    enum-told-2
+    returns-2
+    returns-3
+    returns-4)
