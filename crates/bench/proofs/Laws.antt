@@ -25,14 +25,14 @@ module _ (chunk : List ℕ) (n : ℕ) (d : Desk) where
   }
 
   -- the next chunk
-  pub brought-makes : (next : List ℕ) (k : ℕ) (s : Session) → n ≤ d .session .at → (0 < k) × (k ≤ length next) → s ≡ atByte (d .session) 0
+  pub brought-makes : (next : List ℕ) (k : ℕ) (s : Session) → n ≤ d .session .at → 0 < k → k ≤ length next → s ≡ atByte (d .session) 0
       → Makes record { made = true; session = s; n = k } n chunk d next (desk s (d .held) (d .request) (d .outcome) (d .buffer) (d .out))
   unfolding deskAt
-  brought-makes next k s used some e = record {
+  brought-makes next k s used some fits e = record {
     made = λ m.
-        rw e (record { more = take k next; end = false; turn = brought (take k next) (rw length-take (omega arith)) (rw length-take (omega (arith, some .0, some .1))) });
+        rw e (record { more = take k next; end = false; turn = brought (take k next) (rw length-take (omega arith)) (rw length-take (omega arith)) });
     unread = λ m. absurd (let z : _≡_ {A = ℕ} 0 1 = cc in omega arith);
-    fits = some .1;
+    fits = fits;
   }
 
   -- the end of the input
@@ -46,61 +46,61 @@ module _ (chunk : List ℕ) (n : ℕ) (d : Desk) where
   }
 
   -- a read that failed
-  pub failed-makes : (next : List ℕ) (s : Session) (v : Desk) → n ≤ d .session .at → Makes record { made = false; session = s; n = 0 } n chunk d next v
-  failed-makes next s v used = record {
+  pub failed-makes : (next : List ℕ) → n ≤ d .session .at → Makes record { made = false; session = d .session; n = 0 } n chunk d next d
+  failed-makes next used = record {
     made = λ m. absurd (let z : _≡_ {A = ℕ} 0 1 = cc in omega arith);
-    unread = λ m. rw length-take (omega arith);
+    unread = λ m. (refl, rw length-take (omega arith));
     fits = omega arith;
   }
 
--- the program at the head of its loop, with so many turns left: those that are made are turns of `session`, and all that was laid is written
-pub record Going (left n : ℕ) (chunk : List ℕ) (d : Desk) : Type 0 where
-  pub made : ℕ
-  pub all : made + left ≡ 18446744073709551615
-  pub standing : Standing made (take n chunk) d
+-- the program at the head of its loop: the turns that are made are turns of `session`, and all that was laid is written
+pub record Going (first : Desk) (left n : ℕ) (chunk : List ℕ) (d : Desk) : Type 0 where
+  pub fresh : Fresh first
+  pub turns : ℕ
+  pub counted : turns + left ≡ 18446744073709551615
+  pub standing : Standing first turns (take n chunk) d
   pub clear : d .session .laid ≡ 0
   pub fits : n ≤ length chunk
 
-pub going-first : (chunk : List ℕ) (d : Desk) → Fresh d → Going 18446744073709551615 0 chunk d
+pub going-first : (left : ℕ) (chunk : List ℕ) (first : Desk) → Fresh first → left ≡ 18446744073709551615 → Going first left 0 chunk first
 unfolding startOf
-going-first chunk d fresh = record {
-  made = 0;
-  all = refl;
-  standing = stands-first d fresh;
+going-first left chunk first fresh all = record {
+  fresh = fresh;
+  turns = 0;
+  counted = omega arith;
+  standing = stands-first first;
   clear = ap (λ (s : Session). s .laid) (fresh .start);
   fits = omega arith;
 }
 
-module _ (left n : ℕ) (chunk : List ℕ) (d : Desk) (g : Going left n chunk d) where
-  pub came-over : d .session .on ≡ false → Came ending.Over
-  came-over o = record { turns = g .made; chunk = take n chunk; d = d; standing = g .standing; how = (o, g .clear) }
+module _ (first : Desk) (left n : ℕ) (chunk : List ℕ) (d : Desk) (g : Going first left n chunk d) where
+  pub came-over : d .session .on ≡ false → Came record { ending = ending.Over; session = d .session; left = left } first d
+  came-over o = record { fresh = g .fresh; turns = g .turns; chunk = take n chunk; counted = g .counted; standing = g .standing; how = (o, g .clear) }
 
-  pub came-spent : left ≡ 0 → Came ending.Spent
-  came-spent e = record { turns = g .made; chunk = take n chunk; d = d; standing = g .standing; how = omega (arith, g .all) }
+  pub came-spent : left ≡ 0 → Came record { ending = ending.Spent; session = d .session; left = left } first d
+  came-spent e = record { fresh = g .fresh; turns = g .turns; chunk = take n chunk; counted = g .counted; standing = g .standing; how = e }
 
   module _ (on : d .session .on ≡ true) (r : Left) (next : List ℕ) (v : Desk) (m : Makes r n chunk d next v) where
-    pub came-unread : r .made ≡ false → Came ending.Unread
-    came-unread e = record {
-      turns = g .made;
-      chunk = take n chunk;
-      d = d;
-      standing = g .standing;
-      how = (record { on = on; clear = g .clear }, m .unread e);
-    }
+    pub came-unread : r .made ≡ false → Came record { ending = ending.Unread; session = v .session; left = left } first v
+    came-unread e =
+        rw (m .unread e .0)
+        (record { fresh = g .fresh; turns = g .turns; chunk = take n chunk; counted = g .counted; standing = g .standing; how = (record { on = on; clear = g .clear }, m .unread e .1) })
 
-    further : r .made ≡ true → Standing (suc (g .made)) (take (r .n) next) v
-    further e = stands-on (g .made) (take n chunk) (take (r .n) next) d v (g .standing) (record { on = on; clear = g .clear }) (m .made e)
+    further : r .made ≡ true → Standing first (suc (g .turns)) (take (r .n) next) v
+    further e = stands-on first (g .turns) (take n chunk) (take (r .n) next) d v (g .standing) (record { on = on; clear = g .clear }) (m .made e)
 
-    pub came-unwritten : r .made ≡ true → Came ending.Unwritten
-    came-unwritten e = record { turns = suc (g .made); chunk = take (r .n) next; d = v; standing = further e; how = tt }
+    module _ (made : r .made ≡ true) (some : 0 < left) where
+      pub came-unwritten : Came record { ending = ending.Unwritten; session = v .session; left = left - 1 } first v
+      came-unwritten = record { fresh = g .fresh; turns = suc (g .turns); chunk = take (r .n) next; counted = omega (arith, g .counted); standing = further made; how = tt }
 
-    pub goes-on : r .made ≡ true → 0 < left → (s : Session) → s ≡ atByte (v .session) (v .session .at)
-        → Going (left - 1) (r .n) next (desk s (v .held) (v .request) (v .outcome) (v .buffer) (v .out))
-    unfolding deskAt atByte
-    goes-on e some s w = rw w (record {
-      made = suc (g .made);
-      all = omega (arith, g .all);
-      standing = stands-put (suc (g .made)) (take (r .n) next) v (further e);
-      clear = refl;
-      fits = m .fits;
-    })
+      pub goes-on : (s : Session) → s ≡ atByte (v .session) (v .session .at)
+          → Going first (left - 1) (r .n) next (desk s (v .held) (v .request) (v .outcome) (v .buffer) (v .out))
+      unfolding deskAt atByte
+      goes-on s w = rw w (record {
+        fresh = g .fresh;
+        turns = suc (g .turns);
+        counted = omega (arith, g .counted);
+        standing = stands-put first (suc (g .turns)) (take (r .n) next) v (further made);
+        clear = refl;
+        fits = m .fits;
+      })

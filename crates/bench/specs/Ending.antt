@@ -1,15 +1,16 @@
 -- How the program comes to its end: by the turns that `session` speaks of, one after the other.
 -- Assumes nothing.
-use Prim.Native.Nat.{ℕ, _≤_, _<_}
+use Prim.Native.Nat.{ℕ, _+_, _≤_, _<_}
 use mathlib.Core.Path.{_≡_}
 use mathlib.Core.Bool.{true, false}
 use mathlib.Core.List.{List}
 use lib.ListN.{length, take}
 use Rattle.session.specs.Session.{Desk}
-use Rattle.session.specs.Loop.{Ready, Turned, Standing}
+use Rattle.session.specs.Loop.{Fresh, Ready, Turned, Standing}
 use Rattle.bench.specs.declared.Brought.{Brought}
 use Rattle.bench.specs.declared.Brought.the-variants as brought
 use Rattle.bench.specs.declared.Left.{Left}
+use Rattle.bench.specs.declared.Stop.{Stop}
 use Rattle.bench.specs.declared.Ending.{Ending}
 use Rattle.bench.specs.declared.Ending.the-variants as ending
 
@@ -22,20 +23,21 @@ Brings brought.Failed chunk = Unit {0}
 -- a turn, from the first bytes of an array and a desk to others; none is made where a read was due and failed
 pub record Makes (r : Left) (n : ℕ) (chunk : List ℕ) (d : Desk) (next : List ℕ) (v : Desk) : Type 0 where
   pub made : r .made ≡ true → Turned (take n chunk) d (take (r .n) next) v
-  pub unread : r .made ≡ false → length (take n chunk) ≤ d .session .at
+  pub unread : r .made ≡ false → (v ≡ d) × (length (take n chunk) ≤ d .session .at)
   pub fits : r .n ≤ length next
 
--- how the program stands at its end
+-- how the program stands at each of its ends
 abbrev pub How : Ending → ℕ → List ℕ → Desk → Type 0
-How ending.Over turns chunk d = (d .session .on ≡ false) × (d .session .laid ≡ 0)
-How ending.Unread turns chunk d = Ready d × (length chunk ≤ d .session .at)
-How ending.Unwritten turns chunk d = Unit {0}
-How ending.Spent turns chunk d = turns ≡ 18446744073709551615
+How ending.Over left chunk d = (d .session .on ≡ false) × (d .session .laid ≡ 0)
+How ending.Unread left chunk d = Ready d × (length chunk ≤ d .session .at)
+How ending.Unwritten left chunk d = Unit {0}
+How ending.Spent left chunk d = left ≡ 0
 
--- it came there turn by turn
-pub record Came (ending : Ending) : Type 0 where
+-- it came there turn by turn, from a session with nothing read
+pub record Came (r : Stop) (first d : Desk) : Type 0 where
+  pub fresh : Fresh first
   pub turns : ℕ
   pub chunk : List ℕ
-  pub d : Desk
-  pub standing : Standing turns chunk d
-  pub how : How ending turns chunk d
+  pub counted : turns + r .left ≡ 18446744073709551615
+  pub standing : Standing first turns chunk d
+  pub how : How (r .ending) (r .left) chunk d

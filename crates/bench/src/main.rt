@@ -12,7 +12,7 @@ ghost use mathlib.Core.Path.{_≡_};
 ghost use mathlib.Core.Bool.{true};
 ghost use Prim.Native.Nat.{_≤_};
 ghost use lib.ListN.{length, take as front};
-ghost use Rattle.session.specs.Session.{desk, atByte, takeOf};
+ghost use Rattle.session.specs.Session.{desk, Sized, startOf, atByte, takeOf};
 ghost use Rattle.bench.specs.Ending.{Brings, Makes, Came};
 
 // What a read brought.
@@ -149,47 +149,77 @@ enum Ending {
     Spent,
 }
 
+// Where the program stopped: how, the session, and the turns that were left.
+struct Stop {
+    ending: Ending,
+    session: Session,
+    left: u64,
+}
+
 // The whole run, turn by turn. Its turns are counted down, since every loop has to be proved to end.
-fn run() -> Ending
-    ensures { λ r. ⌜ Came r ⌝ }
+fn run(
+    chunk: &mut [u8; 65536],
+    held: &mut [u8; HELD_BYTES],
+    request: &mut [u8; REQUEST_BYTES],
+    outcome: &mut [u8; OUTCOME_BYTES],
+    buffer: &mut [u8; BUFFER_BYTES],
+    out: &mut [u8; OUT_BYTES],
+) -> Stop
+    requires { ⌜ Sized (desk startOf (now held) (now request) (now outcome) (now buffer) (now out)) ⌝ }
+    ensures { λ r. ⌜ Came r (desk startOf (now (held .entry)) (now (request .entry)) (now (outcome .entry)) (now (buffer .entry)) (now (out .entry))) (desk (r .session) (now (held .exit)) (now (request .exit)) (now (outcome .exit)) (now (buffer .exit)) (now (out .exit))) ⌝ }
 {
+    let mut session = session::start();
+    let mut n = 0;
+    let mut left = u64::MAX;
+    while left > 0 {
+        if !session.on {
+            return Stop {
+                ending: Ending::Over,
+                session,
+                left,
+            };
+        }
+        let turn = turn(session, n, chunk, held, request, outcome, buffer, out);
+        let after = turn.session;
+        if !turn.made {
+            return Stop {
+                ending: Ending::Unread,
+                session: after,
+                left,
+            };
+        }
+        n = turn.n;
+        left -= 1;
+        let wrote = write(after, out);
+        if !wrote.all {
+            return Stop {
+                ending: Ending::Unwritten,
+                session: after,
+                left,
+            };
+        }
+        session = wrote.session;
+    }
+    Stop {
+        ending: Ending::Spent,
+        session,
+        left,
+    }
+}
+
+fn main() {
     let mut chunk = io::large_buffer();
     let mut held = [0u8; HELD_BYTES];
     let mut request = [0u8; REQUEST_BYTES];
     let mut outcome = [0u8; OUTCOME_BYTES];
     let mut buffer = [0u8; BUFFER_BYTES];
     let mut out = [0u8; OUT_BYTES];
-    let mut session = session::start();
-    let mut n = 0;
-    let mut turns = u64::MAX;
-    while turns > 0 {
-        if !session.on {
-            return Ending::Over;
-        }
-        let turn = turn(
-            session,
-            n,
-            &mut chunk,
-            &mut held,
-            &mut request,
-            &mut outcome,
-            &mut buffer,
-            &mut out,
-        );
-        if !turn.made {
-            return Ending::Unread;
-        }
-        let wrote = write(turn.session, &out);
-        if !wrote.all {
-            return Ending::Unwritten;
-        }
-        session = wrote.session;
-        n = turn.n;
-        turns -= 1;
-    }
-    Ending::Spent
-}
-
-fn main() {
-    run();
+    run(
+        &mut chunk,
+        &mut held,
+        &mut request,
+        &mut outcome,
+        &mut buffer,
+        &mut out,
+    );
 }

@@ -311,14 +311,15 @@ unended begun o = refl
 unended (turned r ready t) o = unended-turn ready t o
 unended (put r) o = unended r o
 
-pub stands-first : (d : Desk) → Fresh d → Standing 0 [] d
-stands-first d fresh = record { first = d; fresh = fresh; read = []; wrote = []; end = false; reached = begun }
+pub stands-first : (first : Desk) → Standing first 0 [] first
+stands-first first = record { read = []; wrote = []; end = false; reached = begun }
 
-pub stands-on : (turns : ℕ) (chunk next : List ℕ) (d v : Desk) → Standing turns chunk d → Ready d → Turned chunk d next v → Standing (suc turns) next v
-stands-on turns chunk next d v s ready t =
-    let r : Reached (s .first) turns (s .read) (s .wrote) chunk false d =
-    subst (λ (b : Bool). Reached (s .first) turns (s .read) (s .wrote) chunk b d) (unended (s .reached) (ready .on)) (s .reached) in
-    record { first = s .first; fresh = s .fresh; read = s .read ++ t .more; wrote = s .wrote; end = t .end; reached = turned r ready (t .turn) }
+pub stands-on : (first : Desk) (turns : ℕ) (chunk next : List ℕ) (d v : Desk) → Standing first turns chunk d → Ready d → Turned chunk d next v
+    → Standing first (suc turns) next v
+stands-on first turns chunk next d v s ready t =
+    let r : Reached first turns (s .read) (s .wrote) chunk false d =
+    subst (λ (b : Bool). Reached first turns (s .read) (s .wrote) chunk b d) (unended (s .reached) (ready .on)) (s .reached) in
+    record { read = s .read ++ t .more; wrote = s .wrote; end = t .end; reached = turned r ready (t .turn) }
 
-pub stands-put : (turns : ℕ) (chunk : List ℕ) (d : Desk) → Standing turns chunk d → Standing turns chunk (deskAt (d .session .at) d)
-stands-put turns chunk d s = record { first = s .first; fresh = s .fresh; read = s .read; wrote = s .wrote ++ written d; end = s .end; reached = put (s .reached) }
+pub stands-put : (first : Desk) (turns : ℕ) (chunk : List ℕ) (d : Desk) → Standing first turns chunk d → Standing first turns chunk (deskAt (d .session .at) d)
+stands-put first turns chunk d s = record { read = s .read; wrote = s .wrote ++ written d; end = s .end; reached = put (s .reached) }

@@ -47,9 +47,7 @@ pub record Turned (chunk : List ℕ) (d : Desk) (next : List ℕ) (v : Desk) : T
   pub turn : Turn chunk d more next end v
 
 -- the program stands at a chunk and a desk, so many turns after its start
-pub record Standing (turns : ℕ) (chunk : List ℕ) (d : Desk) : Type 0 where
-  pub first : Desk
-  pub fresh : Fresh first
+pub record Standing (first : Desk) (turns : ℕ) (chunk : List ℕ) (d : Desk) : Type 0 where
   pub read : List ℕ
   pub wrote : List ℕ
   pub end : Bool

@@ -1,70 +1,57 @@
 -- `bench::run` meets its contract: the turns made and those left are all of them, and each that is made is a turn of `session`.
 -- Assumes nothing.
-use Prim.Native.Nat.{ℕ}
+use mathlib.Core.Path.{refl}
 use native.Mathlib.Omega.{arith}
-use lib.ListN.{replicate, length-replicate}
-use borrow.Author.Tests.{not-true, not-false}
 use borrow.Author.Needs.{needs}
-use Rattle.session.specs.Session.{desk}
+use borrow.Author.Tests.{not-true, not-false}
+use Rattle.session.specs.Session.{desk, startOf}
 use Rattle.bench.proofs.Laws.{Going, going-first, came-over, came-spent, came-unread, came-unwritten, goes-on}
 use Rattle.bench.proofs.run.Statement.{statement}
 use Rattle.bench.proofs.run.Tie as tie
 
 abbrev Inv-loop : tie.InvT-loop
-Inv-loop chunk₀ held₀ request₀ outcome₀ buffer₀ out₀ session₀ n₀ turns₀ chunk held request outcome buffer out session n turns =
-    Going turns n chunk (desk session held request outcome buffer out)
+Inv-loop chunk₀ held₀ request₀ outcome₀ buffer₀ out₀ session₀ n₀ left₀ chunk held request outcome buffer out session n left =
+    Going (desk startOf held₀ request₀ outcome₀ buffer₀ out₀) left n chunk (desk session held request outcome buffer out)
 
 abbrev μ-loop : tie.MeasureT-loop
-μ-loop chunk₀ held₀ request₀ outcome₀ buffer₀ out₀ session₀ n₀ turns₀ chunk held request outcome buffer out session n turns = turns
-
-large-buffer-requires : tie.Need-large-buffer-requires Inv-loop μ-loop
-large-buffer-requires c κs = tt
+μ-loop chunk₀ held₀ request₀ outcome₀ buffer₀ out₀ session₀ n₀ left₀ chunk held request outcome buffer out session n left = left
 
 start-requires : tie.Need-start-requires Inv-loop μ-loop
 start-requires c κs = tt
 
 loop-holds : tie.Need-loop-holds Inv-loop μ-loop
-loop-holds c =
-    going-first _ (desk (c .start .result) (replicate 16404 0) (replicate 8202 0) (replicate 8193 0) (replicate 8192 0) (replicate 65536 0))
-    (record {
-      sized = record {
-        held = length-replicate {A = ℕ} 16404 0;
-        request = length-replicate {A = ℕ} 8202 0;
-        outcome = length-replicate {A = ℕ} 8193 0;
-        buffer = length-replicate {A = ℕ} 8192 0;
-        out = length-replicate {A = ℕ} 65536 0;
-      };
-      start = c .start .ensures;
-    })
+loop-holds c = rw (c .start .ensures) (going-first _ _ _ (record { sized = c .before .pre; start = refl }) (omega arith))
 
 returns : tie.Need-returns Inv-loop μ-loop
-returns c = came-over _ _ _ _ (c .before .before .before .loop .inv) (not-true _ (c .if1 .taken))
+returns c = came-over _ _ _ _ _ (c .before .before .before .loop .inv) (not-true _ (c .if1 .taken))
 
 turn-requires : tie.Need-turn-requires Inv-loop μ-loop
 turn-requires c κs = c .before .before .before .before .before .before .before .before .before .loop .inv .fits
 
 returns-2 : tie.Need-returns-2 Inv-loop μ-loop
-returns-2 c = came-unread _ _ _ _ (c .before .before .before .before .before .before .before .before .before .before .before .before .loop .inv) (not-false _ (c .before .before .before .before .before .before .before .before .before .if1 .left)) _ _ _ (c .before .before .turn .ensures) (not-true _ (c .if2 .taken))
+returns-2 c = came-unread _ _ _ _ _ (c .before .before .before .before .before .before .before .before .before .before .before .before .before .loop .inv) (not-false _ (c .before .before .before .before .before .before .before .before .before .before .if1 .left)) _ _ _ (c .before .before .before .turn .ensures) (not-true _ (c .if2 .taken))
+
+sub-left : tie.Need-sub-left Inv-loop μ-loop
+sub-left c = omega (arith, c .before .before .before .before .before .before .before .before .before .before .before .before .loop-test .taken)
 
 write-requires : tie.Need-write-requires Inv-loop μ-loop
 write-requires c κs = search needs
 
 returns-3 : tie.Need-returns-3 Inv-loop μ-loop
-returns-3 c = came-unwritten _ _ _ _ (c .before .before .before .before .before .before .before .before .before .before .before .before .before .before .before .before .loop .inv) (not-false _ (c .before .before .before .before .before .before .before .before .before .before .before .before .before .if1 .left)) _ _ _ (c .before .before .before .before .before .before .turn .ensures) (not-false _ (c .before .before .before .before .if2 .left))
-
-sub-turns : tie.Need-sub-turns Inv-loop μ-loop
-sub-turns c = omega (arith, c .before .before .before .before .before .before .before .before .before .before .before .before .before .before .before .before .loop-test .taken)
+returns-3 c =
+    came-unwritten _ _ _ _ _ (c .before .before .before .before .before .before .before .before .before .before .before .before .before .before .before .before .before .loop .inv) (not-false _ (c .before .before .before .before .before .before .before .before .before .before .before .before .before .before .if1 .left)) _ _ _ (c .before .before .before .before .before .before .before .turn .ensures) (not-false _ (c .before .before .before .before .if2 .left))
+    (omega (arith, c .before .before .before .before .before .before .before .before .before .before .before .before .before .before .before .before .loop-test .taken))
 
 loop-less : tie.Need-loop-less Inv-loop μ-loop
-loop-less c = omega (arith, c .before .before .before .before .before .before .before .before .before .before .before .before .before .before .before .before .loop-test .taken)
+loop-less c = omega (arith, c .before .before .before .before .before .before .before .before .before .before .before .before .before .before .before .before .before .loop-test .taken)
 
 loop-again : tie.Need-loop-again Inv-loop μ-loop
 loop-again c =
-    goes-on _ _ _ _ (c .before .before .before .before .before .before .before .before .before .before .before .before .before .before .before .before .before .loop .inv) (not-false _ (c .before .before .before .before .before .before .before .before .before .before .before .before .before .before .if1 .left)) _ _ _ (c .before .before .before .before .before .before .before .turn .ensures) (not-false _ (c .before .before .before .before .before .if2 .left)) (omega (arith, c .before .before .before .before .before .before .before .before .before .before .before .before .before .before .before .before .loop-test .taken)) _
-    (c .before .before .before .write .ensures (not-false _ (c .before .if3 .left)))
+    goes-on _ _ _ _ _ (c .before .before .before .before .before .before .before .before .before .before .before .before .before .before .before .before .before .before .loop .inv) (not-false _ (c .before .before .before .before .before .before .before .before .before .before .before .before .before .before .before .if1 .left)) _ _ _ (c .before .before .before .before .before .before .before .before .turn .ensures) (not-false _ (c .before .before .before .before .before .if2 .left))
+    (omega (arith, c .before .before .before .before .before .before .before .before .before .before .before .before .before .before .before .before .before .loop-test .taken)) _ (c .before .before .before .write .ensures (not-false _ (c .before .if3 .left)))
 
 returns-4 : tie.Need-returns-4 Inv-loop μ-loop
-returns-4 c = came-spent _ _ _ _ (c .before .loop .inv) (omega (arith, c .loop-test .left))
+returns-4 c = came-spent _ _ _ _ _ (c .before .loop .inv) (omega (arith, c .loop-test .left))
 
 pub run-spec : {M : Type 1} → statement M
 run-spec =
@@ -72,15 +59,14 @@ run-spec =
     (tie.spec
     Inv-loop
     μ-loop
-    large-buffer-requires
     start-requires
     loop-holds
     returns
     turn-requires
     returns-2
+    sub-left
     write-requires
     returns-3
-    sub-turns
     loop-less
     loop-again
     returns-4)

@@ -1,6 +1,7 @@
 -- `bench::turn` meets its contract: each way through it is a turn of `session`, or a read that failed.
 -- Assumes nothing.
 use mathlib.Core.Path.{subst}
+use native.Mathlib.Omega.{arith}
 use borrow.Author.Needs.{needs}
 use Rattle.bench.specs.declared.Brought.{Brought}
 use Rattle.bench.specs.Ending.{Brings}
@@ -37,7 +38,8 @@ enum-told-2 c = search needs
 returns-2 : tie.Need-returns-2
 returns-2 c =
     let a = c .before .before .before .before .before .before .before .before .args in
-    brought-makes (a .chunk .now) (a .n) _ _ _ _ (search needs) (subst (λ (b : Brought). Brings b (c .before .before .before .before .read .last .0)) (c .before .before .k .given .1) (c .before .before .before .before .read .ensures)) (c .next-chunk .ensures)
+    let b = subst (λ (b : Brought). Brings b (c .before .before .before .before .read .last .0)) (c .before .before .k .given .1) (c .before .before .before .before .read .ensures) in
+    brought-makes (a .chunk .now) (a .n) _ _ _ _ (search needs) (omega (arith, b .0)) (omega (arith, b .1)) (c .next-chunk .ensures)
 
 returns-3 : tie.Need-returns-3
 returns-3 c =
@@ -47,7 +49,7 @@ returns-3 c =
 returns-4 : tie.Need-returns-4
 returns-4 c =
     let a = c .before .before .before .before .before .before .args in
-    failed-makes (a .chunk .now) (a .n) _ _ _ _ (search needs)
+    failed-makes (a .chunk .now) (a .n) _ _ (search needs)
 
 pub turn-spec : {M : Type 1} → statement M
 turn-spec =
