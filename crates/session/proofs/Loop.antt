@@ -305,7 +305,7 @@ unended-turn ready (took inside) o = refl
 unended-turn ready (brought more used some) o = refl
 unended-turn {d = d} ready (ended used) o = sym o ∙ end-off d (ready .on)
 
-unended : {first : Desk} {turns : ℕ} {read wrote chunk : List ℕ} {end : Bool} {d : Desk} → Reached first turns read wrote chunk end d → d .session .on ≡ true → end ≡ false
+pub unended : {first : Desk} {turns : ℕ} {read wrote chunk : List ℕ} {end : Bool} {d : Desk} → Reached first turns read wrote chunk end d → d .session .on ≡ true → end ≡ false
 unfolding deskAt atByte
 unended begun o = refl
 unended (turned r ready t) o = unended-turn ready t o
