@@ -1,32 +1,31 @@
 -- What holds wherever the loop may stand, at the ends of the program.
 -- Assumes nothing.
-use Prim.Native.Nat.{ℕ}
 use mathlib.Core.Path.{_≡_, subst}
 use mathlib.Core.Bool.{Bool, false}
-use mathlib.Core.List.{List}
 use Rattle.session.specs.Session.{Desk}
 use Rattle.session.specs.Loop.{Reached}
-use Rattle.session.specs.Output.{printedSoFar}
-use Rattle.session.proofs.Loop.{unended, loop}
+use Rattle.session.proofs.Loop.{unended}
+use Rattle.bench_promises.specs.RustBench.{rustSoFar}
+use Rattle.bench_promises.proofs.LineByLine.{line-by-line}
 use Rattle.bench.specs.declared.Stop.{Stop}
 use Rattle.bench.specs.declared.Ending.{Ending}
 use Rattle.bench.specs.declared.Ending.the-variants as ending
 use Rattle.bench.specs.Ending.{How, Came, Ends}
 
-ended-unread : (r : Stop) (first d : Desk) (c : Came r first d) → r .ending ≡ ending.Unread → c .standing .wrote ≡ printedSoFar (c .standing .read)
+ended-unread : (r : Stop) (first d : Desk) (c : Came r first d) → r .ending ≡ ending.Unread → c .standing .wrote ≡ rustSoFar (c .standing .read)
 ended-unread r first d c e =
     let h : How ending.Unread (r .left) (c .chunk) d = subst (λ (x : Ending). How x (r .left) (c .chunk) d) e (c .how) in
     let s = c .standing in
     let u : Reached first (c .turns) (s .read) (s .wrote) (c .chunk) false d =
     subst (λ (b : Bool). Reached first (c .turns) (s .read) (s .wrote) (c .chunk) b d) (unended (s .reached) (h .0 .on)) (s .reached) in
-    loop .reads first (c .fresh) u (h .0) (h .1)
+    line-by-line .reads first (c .fresh) u (h .0) (h .1)
 
 -- the statement
 pub ends : Ends
 ends = record {
   over = λ r first d c e.
       let h : How ending.Over (r .left) (c .chunk) d = subst (λ (x : Ending). How x (r .left) (c .chunk) d) e (c .how) in
-      loop .over first (c .fresh) (c .standing .reached) (h .0) (h .1);
+      line-by-line .over first (c .fresh) (c .standing .reached) (h .0) (h .1);
   unread = ended-unread;
-  starts = λ r first d c. loop .starts first (c .fresh) (c .standing .reached);
+  starts = λ r first d c. line-by-line .starts first (c .fresh) (c .standing .reached);
 }

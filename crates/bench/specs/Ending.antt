@@ -6,8 +6,8 @@ use mathlib.Core.Bool.{true, false}
 use mathlib.Core.List.{List, [], _++_}
 use lib.ListN.{length, take}
 use Rattle.session.specs.Session.{Desk}
-use Rattle.session.specs.Output.{printed, printedSoFar}
 use Rattle.session.specs.Loop.{Fresh, Ready, Turned, Standing, Begins}
+use Rattle.bench_promises.specs.RustBench.{rustPrinted, rustSoFar}
 use Rattle.bench.specs.declared.Brought.{Brought}
 use Rattle.bench.specs.declared.Brought.the-variants as brought
 use Rattle.bench.specs.declared.Left.{Left}
@@ -45,11 +45,11 @@ pub record Came (r : Stop) (first d : Desk) : Type 0 where
 
 -- what is written at an end, for all that the input may go on with; after its end that is nothing
 pub record Ends : Type 0 where
-  -- a run that is over has written what document 01 says
+  -- a run that is over has written what the Rust does with the whole input
   pub over : (r : Stop) (first d : Desk) (c : Came r first d) → r .ending ≡ ending.Over → (more : List ℕ) → (c .standing .end ≡ true → more ≡ [])
-      → c .standing .wrote ≡ printed (c .standing .read ++ more)
+      → c .standing .wrote ≡ rustPrinted (c .standing .read ++ more)
   -- where a read failed, all that the lines so far give is written
-  pub unread : (r : Stop) (first d : Desk) (c : Came r first d) → r .ending ≡ ending.Unread → c .standing .wrote ≡ printedSoFar (c .standing .read)
-  -- at each, no other byte than what document 01 says
+  pub unread : (r : Stop) (first d : Desk) (c : Came r first d) → r .ending ≡ ending.Unread → c .standing .wrote ≡ rustSoFar (c .standing .read)
+  -- at each, no other byte than that
   pub starts : (r : Stop) (first d : Desk) (c : Came r first d) (more : List ℕ) → (c .standing .end ≡ true → more ≡ [])
-      → Begins (c .standing .wrote) (printed (c .standing .read ++ more))
+      → Begins (c .standing .wrote) (rustPrinted (c .standing .read ++ more))

@@ -1,9 +1,9 @@
 -- The bench is the Rust, line by line.
 -- Assumes nothing.
 use Prim.Native.Nat.{ℕ, zero, suc, _+_, _-_, _*_, _≤_, _<_}
-use mathlib.Core.Path.{_≡_, refl, sym, ap, _∙_}
+use mathlib.Core.Path.{_≡_, refl, sym, ap, subst, _∙_}
 use mathlib.Core.Bool.{Bool, true, false, false≢true}
-use mathlib.Core.List.{List, [], _∷_}
+use mathlib.Core.List.{List, [], _∷_, _++_}
 use native.Mathlib.Omega.{arith}
 use lib.ListN.{length, take, drop, getD, replicate, length-drop}
 use lib.Dec.{ltb, eqb}
@@ -23,12 +23,12 @@ use Rattle.requests.specs.Request.{configOf, askedOf, requestLine}
 use Rattle.lines.specs.Input.{linesFrom, restFrom}
 use Rattle.hex.specs.Line.{lineBytes, feeds}
 use Rattle.dialogue.specs.Bench.{requestThen, benchOf}
-use Rattle.session.specs.Session.{heldBytes}
-use Rattle.session.specs.Output.{printed, early, printedSoFar, concat}
-use Rattle.session.proofs.Whole.{whole-bench}
+use Rattle.session.specs.Output.{printed, early, printedSoFar}
+use Rattle.session.specs.Loop.{Begins}
+use Rattle.session.proofs.Loop.{laws}
 use Rattle.bench_promises.specs.Numbers.{number, field}
 use Rattle.bench_promises.specs.Kinds.{Row, rows, Asked, bad, call, askedBy, askedAmong, settings, askedIn}
-use Rattle.bench_promises.specs.RustBench.{stopped, acknowledgedBy, errorBy, timeoutBy, heardIn, runAsked, rustBench, rustPrinted}
+use Rattle.bench_promises.specs.RustBench.{stopped, acknowledgedBy, errorBy, timeoutBy, heardIn, runAsked, rustBench, rustPrinted, longest, rustSoFar}
 use Rattle.bench_promises.specs.LineByLine.{Longest, LineByLine}
 use Rattle.bench_promises.proofs.Said.{end-said, read-back}
 use Rattle.bench_promises.proofs.Asked.{pair-at, settings-of}
@@ -73,9 +73,8 @@ all-printed : (input : List ℕ) → printed input ≡ rustPrinted input
 unfolding printed rustPrinted
 all-printed input = ap feeds (each-line (linesFrom [] input) (restFrom [] input))
 
-soon-printed : (input : List ℕ)
-    → printedSoFar input ≡ feeds (take (length (linesFrom [] input) + early (restFrom [] input)) (rustBench (linesFrom [] input) (restFrom [] input)))
-unfolding printedSoFar
+soon-printed : (input : List ℕ) → printedSoFar input ≡ rustSoFar input
+unfolding printedSoFar early rustSoFar
 soon-printed input =
     ap (λ (said : List (List ℕ)). feeds (take (length (linesFrom [] input) + early (restFrom [] input)) said)) (each-line (linesFrom [] input) (restFrom [] input))
 
@@ -170,9 +169,9 @@ command-asked : isBad (askedIn command) ≡ false
 unfolding askedIn askedAmong askedBy number if_then_else_ isBad
 command-asked = refl
 
-longest : Longest heldBytes
+longest-line : Longest longest
 unfolding askedIn heardIn isBad if_then_else_
-longest = record {
+longest-line = record {
   line = hexOf command;
   long = length-hex command;
   valid = λ e. false≢true (sym command-asked ∙ ap isBad (sym (ap askedIn (encoded-line command command-bytes)) ∙ e));
@@ -184,9 +183,11 @@ longest = record {
 pub line-by-line : LineByLine
 line-by-line = record {
   lines = each-line;
-  whole = λ chunks d sized fresh. whole-bench .whole chunks d sized fresh ∙ all-printed (concat chunks);
-  printed = all-printed;
-  so-far = soon-printed;
+  over = λ first fresh {turns} {read} {wrote} {chunk} {end} {d} r off clear more none. laws .over first fresh r off clear more none ∙ all-printed (read ++ more);
+  reads = λ first fresh {turns} {read} {wrote} {chunk} {d} r ready used. laws .reads first fresh r ready used ∙ soon-printed read;
+  starts = λ first fresh {turns} {read} {wrote} {chunk} {end} {d} r more none.
+      subst (Begins wrote) (all-printed (read ++ more)) (laws .starts first fresh r more none);
+  so-far = λ input more. rw (← soon-printed input, ← all-printed (input ++ more)) (laws .so-far input more .0);
   figures = read-back;
-  longest = longest;
+  longest = longest-line;
 }

@@ -1,8 +1,8 @@
 -- The bench program as the Rust has it: the transfers that its function lists for the outcomes, then its answer, waits and buffer. (01, The bench program)
 -- Assumes nothing.
-use Prim.Native.Nat.{ℕ}
+use Prim.Native.Nat.{ℕ, _+_}
 use mathlib.Core.List.{List, [], _∷_, _++_}
-use lib.ListN.{length}
+use lib.ListN.{length, take}
 use lib.Dec.{ltb, eqb}
 use Rattle.protocol.specs.Pick.{if_then_else_}
 use Rattle.protocol.specs.Answer.{numberOf, detailOf}
@@ -109,3 +109,12 @@ rustBench (line ∷ lines) rest = runAsked (askedIn (lineBytes line)) lines rest
 -- and as bytes, in hexadecimal
 unfoldable pub rustPrinted : List ℕ → List ℕ
 rustPrinted input = feeds (rustBench (linesFrom [] input) (restFrom [] input))
+
+-- the digits of the longest line that is valid
+abbrev pub longest : ℕ
+longest = 16404
+
+-- the same for an input that may go on: a line for each line that is whole, and for one that is begun and is too long already
+unfoldable pub rustSoFar : List ℕ → List ℕ
+rustSoFar input =
+    feeds (take (length (linesFrom [] input) + (if ltb longest (length (restFrom [] input)) then 1 else 0)) (rustBench (linesFrom [] input) (restFrom [] input)))

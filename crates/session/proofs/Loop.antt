@@ -1,4 +1,4 @@
--- Wherever the loop may stand, what is written and what the chunk at hand still gives is what the chunks that were read give: `WholeBench` speaks of it.
+-- Wherever the loop may stand, what is written and what the chunk at hand still gives is what the chunks that were read give (`Chunks`).
 -- Assumes nothing.
 use Prim.Native.Nat.{ℕ, zero, suc, _+_, _≤_, _<_}
 use mathlib.Core.Path.{_≡_, refl, sym, ap, subst, _∙_}
@@ -14,10 +14,12 @@ use Rattle.lines.specs.declared.Took.the-variants as took
 use Rattle.dialogue.specs.Dialogue.{saidOf}
 use Rattle.session.specs.declared.Session.{Session}
 use Rattle.session.specs.Session.{Desk, desk, heldBytes, longestLine, outBytes, Sized, startOf, atByte, saidSession, spokenSession, laidOut, closing, laidDesk, lineOf, turnBy, turnOf, goesOn, turnsOf, takeOf, endSession, endOut, endOf}
-use Rattle.session.specs.Output.{printed, printedSoFar, written, chunkOut, chunksOut, bytesOut, bytesSoFar, concat}
-use Rattle.session.specs.Loop.{Fresh, deskAt, Ready, Turn, took, brought, ended, Reached, begun, turned, put, Turned, Standing, Begins, Loop}
+use Rattle.session.specs.Output.{printed, printedSoFar}
+use Rattle.session.specs.Loop.{written, Fresh, deskAt, Ready, Turn, took, brought, ended, Reached, begun, turned, put, Turned, Standing, Begins}
+use Rattle.session.specs.Laws.{Laws}
 use Rattle.session.proofs.Laws.{goes-on-inside}
 use Rattle.session.proofs.Kept.{length-laid}
+use Rattle.session.proofs.Chunks.{chunkOut, chunksOut, bytesOut, bytesSoFar, concat}
 use Rattle.session.proofs.Whole.{off-chunk, off-chunks, take-uses, whole-bench}
 
 -- what is lent for the output keeps its length
@@ -285,12 +287,13 @@ so-far-begins input more =
     )
 
 -- the statement
-pub loop : Loop
-loop = record {
+pub laws : Laws
+laws = record {
   reads = λ first fresh {turns} {read} {wrote} {chunk} {d} r. reads-all first fresh read wrote chunk d (stands first fresh r);
   over = λ first fresh {turns} {read} {wrote} {chunk} {end} {d} r. over-all first fresh read wrote chunk end d (stands first fresh r);
   starts = λ first fresh {turns} {read} {wrote} {chunk} {end} {d} r. starts-all first fresh read wrote chunk end d (stands first fresh r);
   so-far = so-far-begins;
+  advances = λ chunk d sized o inside. take-uses chunk d (omega (arith, sized .out)) o inside;
 }
 
 -- ---- for the program: it stands a turn further

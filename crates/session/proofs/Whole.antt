@@ -22,8 +22,10 @@ use Rattle.dialogue.proofs.Room.{Short, AllShort, all-short}
 use Rattle.dialogue.proofs.Whole.{whole}
 use Rattle.session.specs.declared.Session.{Session}
 use Rattle.session.specs.Session.{Desk, desk, heldBytes, longestLine, Sized, startOf, atByte, spokenSession, laidOut, closing, turnOf, goesOn, turnsOf, takeOf, endSession, endOut, endOf}
-use Rattle.session.specs.Output.{printed, early, printedSoFar, written, chunkOut, chunksOut, bytesOut, bytesSoFar, concat, WholeBench}
+use Rattle.session.specs.Output.{printed, early, printedSoFar}
+use Rattle.session.specs.Loop.{written}
 use Rattle.session.proofs.Laws.{turn-uses, goes-on-inside}
+use Rattle.session.proofs.Chunks.{chunkOut, chunksOut, bytesOut, bytesSoFar, concat, WholeBench}
 use Rattle.session.proofs.EachTurn.{Good, shown, before, written-said, Gives, take-gives}
 
 -- a run that is over writes nothing more
@@ -168,7 +170,7 @@ take-uses chunk w room o inside = by (length chunk) refl
     by zero e = absurd (omega arith)
     by (suc turns) e = rw goes (omega (arith, turn-uses chunk fresh inside, turns-stay turns chunk (turnOf chunk fresh)))
 
--- the statement
+-- what the chunks give
 pub whole-bench : WholeBench
 unfolding bytesOut bytesSoFar printed printedSoFar feeds
 whole-bench = record {
@@ -180,5 +182,4 @@ whole-bench = record {
       gives-bench (λ lines more. feeds (take (length lines + early rest) more)) (λ r. r ≡ rest) (step-so-far (early rest)) (λ lines. none-so-far lines (early rest))
       (λ r x z h. one-so-far rest r x z h)
       (λ v. []) (λ v r good z e a. close-so-far v rest r good z e) chunks w sized e refl;
-  advances = λ chunk w sized. take-uses chunk w (omega (arith, sized .out));
 }

@@ -1,4 +1,5 @@
 pub mod Session
 pub mod Output
 pub mod Loop
+pub mod Laws
 pub mod Worked

@@ -4,9 +4,12 @@ use Prim.Native.Nat.{ℕ, suc, _≤_, _<_}
 use mathlib.Core.Path.{_≡_}
 use mathlib.Core.Bool.{Bool, true, false}
 use mathlib.Core.List.{List, [], _++_}
-use lib.ListN.{length}
+use lib.ListN.{length, take}
 use Rattle.session.specs.Session.{Desk, desk, Sized, startOf, atByte, takeOf, endOf}
-use Rattle.session.specs.Output.{printed, printedSoFar, written}
+
+-- what is written: the bytes that are laid
+unfoldable pub written : Desk → List ℕ
+written d = take (d .session .laid) (d .out)
 
 -- a session with nothing read yet, and arrays of the sizes that are lent
 pub record Fresh (d : Desk) : Type 0 where
@@ -57,17 +60,3 @@ pub record Standing (first : Desk) (turns : ℕ) (chunk : List ℕ) (d : Desk) :
 pub record Begins (front whole : List ℕ) : Type 0 where
   pub rest : List ℕ
   pub same : front ++ rest ≡ whole
-
--- what holds wherever the loop may stand, for all that the input may go on with; after its end that is nothing
-pub record Loop : Type 0 where
-  -- more is read only once all that the lines so far give is written
-  pub reads : (first : Desk) → Fresh first → {turns : ℕ} {read wrote chunk : List ℕ} {d : Desk} → Reached first turns read wrote chunk false d
-      → Ready d → length chunk ≤ d .session .at → wrote ≡ printedSoFar read
-  -- a run that is over has written what document 01 says of the whole input
-  pub over : (first : Desk) → Fresh first → {turns : ℕ} {read wrote chunk : List ℕ} {end : Bool} {d : Desk} → Reached first turns read wrote chunk end d
-      → d .session .on ≡ false → d .session .laid ≡ 0 → (more : List ℕ) → (end ≡ true → more ≡ []) → wrote ≡ printed (read ++ more)
-  -- at any time, what is written is the first bytes of that
-  pub starts : (first : Desk) → Fresh first → {turns : ℕ} {read wrote chunk : List ℕ} {end : Bool} {d : Desk} → Reached first turns read wrote chunk end d
-      → (more : List ℕ) → (end ≡ true → more ≡ []) → Begins wrote (printed (read ++ more))
-  -- what is written before more is read is never taken back
-  pub so-far : (input more : List ℕ) → Begins (printedSoFar input) (printed (input ++ more)) × Begins (printedSoFar input) (printedSoFar (input ++ more))
