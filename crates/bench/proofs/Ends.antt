@@ -18,14 +18,14 @@ ended-unread r first d c e =
     let s = c .standing in
     let u : Reached first (c .turns) (s .read) (s .wrote) (c .chunk) false d =
     subst (λ (b : Bool). Reached first (c .turns) (s .read) (s .wrote) (c .chunk) b d) (unended (s .reached) (h .0 .on)) (s .reached) in
-    line-by-line .reads first (c .fresh) u (h .0) (h .1)
+    line-by-line .writes .reads first (c .fresh) u (h .0) (h .1)
 
 -- the statement
 pub ends : Ends
 ends = record {
   over = λ r first d c e.
       let h : How ending.Over (r .left) (c .chunk) d = subst (λ (x : Ending). How x (r .left) (c .chunk) d) e (c .how) in
-      line-by-line .over first (c .fresh) (c .standing .reached) (h .0) (h .1);
+      line-by-line .writes .over first (c .fresh) (c .standing .reached) (h .0) (h .1);
   unread = ended-unread;
-  starts = λ r first d c. line-by-line .starts first (c .fresh) (c .standing .reached);
+  starts = λ r first d c. line-by-line .writes .starts first (c .fresh) (c .standing .reached);
 }

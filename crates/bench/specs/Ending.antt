@@ -6,7 +6,8 @@ use mathlib.Core.Bool.{true, false}
 use mathlib.Core.List.{List, [], _++_}
 use lib.ListN.{length, take}
 use Rattle.session.specs.Session.{Desk}
-use Rattle.session.specs.Loop.{Fresh, Ready, Turned, Standing, Begins}
+use Rattle.session.specs.Loop.{Fresh, Ready, Turned, Standing}
+use Rattle.session.specs.Laws.{Begins}
 use Rattle.bench_promises.specs.RustBench.{rustPrinted, rustSoFar}
 use Rattle.bench.specs.declared.Brought.{Brought}
 use Rattle.bench.specs.declared.Brought.the-variants as brought

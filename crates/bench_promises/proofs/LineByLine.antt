@@ -24,7 +24,7 @@ use Rattle.lines.specs.Input.{linesFrom, restFrom}
 use Rattle.hex.specs.Line.{lineBytes, feeds}
 use Rattle.dialogue.specs.Bench.{requestThen, benchOf}
 use Rattle.session.specs.Output.{printed, early, printedSoFar}
-use Rattle.session.specs.Loop.{Begins}
+use Rattle.session.specs.Laws.{Begins, Writes}
 use Rattle.session.proofs.Loop.{laws}
 use Rattle.bench_promises.specs.Numbers.{number, field}
 use Rattle.bench_promises.specs.Kinds.{Row, rows, Asked, bad, call, askedBy, askedAmong, settings, askedIn}
@@ -179,15 +179,23 @@ longest-line = record {
   longer-outcome = λ asked longer h. long-bytes longer 8202 (omega arith) (λ s. heardIn asked s ≡ stopped answer.BadLine) refl (long-outcome asked);
 }
 
--- THE BENCH IS THE RUST
-pub line-by-line : LineByLine
-line-by-line = record {
-  lines = each-line;
+-- what is written is what the Rust does
+writes : Writes rustPrinted rustSoFar
+writes = record {
   over = λ first fresh {turns} {read} {wrote} {chunk} {end} {d} r off clear more none. laws .over first fresh r off clear more none ∙ all-printed (read ++ more);
   reads = λ first fresh {turns} {read} {wrote} {chunk} {d} r ready used. laws .reads first fresh r ready used ∙ soon-printed read;
-  starts = λ first fresh {turns} {read} {wrote} {chunk} {end} {d} r more none.
-      subst (Begins wrote) (all-printed (read ++ more)) (laws .starts first fresh r more none);
-  so-far = λ input more. rw (← soon-printed input, ← all-printed (input ++ more)) (laws .so-far input more .0);
-  figures = read-back;
-  longest = longest-line;
+  waits = λ first fresh {turns} {read} {wrote} {chunk} {d} r ready used. subst (λ (s : List ℕ). length wrote < length s) (all-printed read) (laws .waits first fresh r ready used);
+  ends = λ {first} {turns} {read} {wrote} {chunk} {d} r. laws .ends r;
+  advances = laws .advances;
+  clears = laws .clears;
+  starts = λ first fresh {turns} {read} {wrote} {chunk} {end} {d} r more none. subst (Begins wrote) (all-printed (read ++ more)) (laws .starts first fresh r more none);
+  so-far = λ input more.
+      let s = laws .so-far input more in (
+        rw (← soon-printed input, ← all-printed (input ++ more)) (s .0),
+        rw (← soon-printed input, ← soon-printed (input ++ more)) (s .1),
+      );
 }
+
+-- THE BENCH IS THE RUST
+pub line-by-line : LineByLine
+line-by-line = record { lines = each-line; writes = writes; figures = read-back; longest = longest-line }

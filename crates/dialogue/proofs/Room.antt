@@ -34,7 +34,9 @@ use Rattle.requests.specs.declared.request.Request.{Request}
 use Rattle.requests.specs.declared.request.Request.the-variants as request
 use Rattle.requests.proofs.Small.{Small, small-request}
 use Rattle.printing.specs.Printing.{printedOf, outPrinted, quadOf, writeSaid, readSaid, endSaid, cutSaid}
-use Rattle.dialogue.specs.Dialogue.{Saying, asked, last, bytesSaid, sizeOf, tellOf, zeros, lineShown, lastOf}
+use Rattle.dialogue.specs.Dialogue.{Saying, asked, last, bytesSaid, sizeOf, tellOf, zeros, lineShown, lastOf, closeOf}
+use Rattle.dialogue.specs.declared.Run.{Run}
+use Rattle.dialogue.specs.declared.Run.the-variants as run
 use Rattle.hex.specs.Line.{lineBytes, feedBytes}
 use Rattle.dialogue.specs.Bench.{thenSay, reportThen, toldThen, callLines, callRun, requestThen, benchOf}
 use Rattle.dialogue.proofs.Kept.{length-after}
@@ -65,6 +67,11 @@ short-last tally left buffer h = by (eqb left 0)
     by : (t : Bool) → Short (if t then cutSaid tally buffer else endSaid answer.BadLine tally buffer)
     by true = omega arith
     by false = short-end answer.BadLine tally buffer h
+
+pub short-close : (r : Run) (left : ℕ) (buffer : List ℕ) → length buffer ≤ 8192 → Short (closeOf r left buffer)
+unfolding closeOf
+short-close run.Fresh left buffer h = short-end answer.BadLine nothing [] (omega arith)
+short-close (run.Call call place) left buffer h = short-last (tallyOf call) left (take (place .buffer) buffer) (rw length-take (omega arith))
 
 short-tell : (t : Transfer) (frame : List ℕ) (tally : Tally) (buffer : List ℕ) → length frame ≤ 8192 → length buffer ≤ 8192 → Short (bytesSaid (tellOf t frame tally buffer))
 unfolding tellOf bytesSaid writeSaid readSaid pairOf

@@ -2,50 +2,58 @@
 -- Assumes nothing.
 use Prim.Native.Nat.{ℕ, zero, suc, _+_, _≤_, _<_}
 use mathlib.Core.Path.{_≡_, refl, sym, ap, subst, _∙_}
-use mathlib.Core.Bool.{Bool, true, false}
+use mathlib.Core.Bool.{Bool, true, false, false≢true}
 use mathlib.Core.List.{List, [], _∷_, _++_, append-nil, append-assoc}
 use native.Mathlib.Omega.{arith}
-use lib.ListN.{length, replicate, length-replicate}
+use lib.ListN.{length, replicate, length-append, length-replicate}
 use lib.Dec.{ltb}
 use borrow.Author.Tests.{lt-ltb, le-ltb}
 use Rattle.protocol.specs.Pick.{if_then_else_}
 use Rattle.lines.specs.declared.Took.{Took}
 use Rattle.lines.specs.declared.Took.the-variants as took
-use Rattle.dialogue.specs.Dialogue.{saidOf}
+use Rattle.hex.specs.Line.{feedBytes}
+use Rattle.printing.proofs.Laws.{length-feed}
+use Rattle.dialogue.specs.Dialogue.{last, bytesSaid, saidOf, closeOf}
+use Rattle.dialogue.proofs.Room.{short-close}
 use Rattle.session.specs.declared.Session.{Session}
 use Rattle.session.specs.Session.{Desk, desk, heldBytes, longestLine, outBytes, Sized, startOf, atByte, saidSession, spokenSession, laidOut, closing, laidDesk, lineOf, turnBy, turnOf, goesOn, turnsOf, takeOf, endSession, endOut, endOf}
 use Rattle.session.specs.Output.{printed, printedSoFar}
-use Rattle.session.specs.Loop.{written, Fresh, deskAt, Ready, Turn, took, brought, ended, Reached, begun, turned, put, Turned, Standing, Begins}
-use Rattle.session.specs.Laws.{Laws}
+use Rattle.session.specs.Loop.{written, Fresh, deskAt, Ready, Turn, took, brought, ended, Reached, begun, turned, put, Turned, Standing}
+use Rattle.session.specs.Laws.{Begins, Writes}
 use Rattle.session.proofs.Laws.{goes-on-inside}
-use Rattle.session.proofs.Kept.{length-laid}
+use Rattle.session.proofs.Kept.{length-buffer, length-laid}
+use Rattle.session.proofs.EachTurn.{written-said}
 use Rattle.session.proofs.Chunks.{chunkOut, chunksOut, bytesOut, bytesSoFar, concat}
 use Rattle.session.proofs.Whole.{off-chunk, off-chunks, take-uses, whole-bench}
 
--- what is lent for the output keeps its length
-out-turn : (u : Took) (chunk held : List ℕ) (w : Desk) → w .session .laid ≤ length (w .out) → length (turnBy u chunk held w .out) ≡ length (w .out)
-unfolding turnBy lineOf laidDesk laidOut
-out-turn (took.Here len next) chunk held w h = length-laid (w .session .laid) _ (w .out) h
-out-turn (took.Held len next) chunk held w h = length-laid (w .session .laid) _ (w .out) h
-out-turn (took.More have) chunk held w h = refl
-out-turn took.Long chunk held w h = length-laid (w .session .laid) _ (w .out) h
+-- what is lent for the output and for a call's buffer keeps its length
+abbrev Keeps : Desk → Desk → Type 0
+Keeps w v = (length (v .out) ≡ length (w .out)) × (length (v .buffer) ≡ length (w .buffer))
 
-out-turns : (turns : ℕ) (chunk : List ℕ) (w : Desk) → length (turnsOf turns chunk w .out) ≡ length (w .out)
+keeps-turn : (u : Took) (chunk held : List ℕ) (w : Desk) → w .session .laid ≤ length (w .out) → Keeps w (turnBy u chunk held w)
+unfolding turnBy lineOf laidDesk laidOut
+keeps-turn (took.Here len next) chunk held w h = (length-laid (w .session .laid) _ (w .out) h, length-buffer (w .session .run) _ (w .request) (w .outcome) (w .buffer))
+keeps-turn (took.Held len next) chunk held w h = (length-laid (w .session .laid) _ (w .out) h, length-buffer (w .session .run) _ (w .request) (w .outcome) (w .buffer))
+keeps-turn (took.More have) chunk held w h = (refl, refl)
+keeps-turn took.Long chunk held w h = (length-laid (w .session .laid) _ (w .out) h, refl)
+
+keeps-turns : (turns : ℕ) (chunk : List ℕ) (w : Desk) → Keeps w (turnsOf turns chunk w)
 unfolding turnsOf turnOf if_then_else_
-out-turns zero chunk w = refl
-out-turns (suc turns) chunk w = by (out-turns turns chunk (turnOf chunk w)) (goesOn (w .session .on) (w .session .at) (length chunk) (w .session .laid) (length (w .out))) refl
+keeps-turns zero chunk w = (refl, refl)
+keeps-turns (suc turns) chunk w = by (keeps-turns turns chunk (turnOf chunk w)) (goesOn (w .session .on) (w .session .at) (length chunk) (w .session .laid) (length (w .out))) refl
   where
-    by : length (turnsOf turns chunk (turnOf chunk w) .out) ≡ length (turnOf chunk w .out)
+    by : Keeps (turnOf chunk w) (turnsOf turns chunk (turnOf chunk w))
         → (f : Bool) → goesOn (w .session .on) (w .session .at) (length chunk) (w .session .laid) (length (w .out)) ≡ f
-        → length ((if f then turnsOf turns chunk (turnOf chunk w) else w) .out) ≡ length (w .out)
+        → Keeps w (if f then turnsOf turns chunk (turnOf chunk w) else w)
     by next true e =
         let g = goes-on-inside (w .session .on) (w .session .at) (length chunk) (w .session .laid) (length (w .out)) e in
-        next ∙ out-turn _ chunk _ w (omega arith)
-    by next false e = refl
+        let k = keeps-turn _ chunk _ w (omega arith) in
+        (next .0 ∙ k .0, next .1 ∙ k .1)
+    by next false e = (refl, refl)
 
-out-take : (chunk : List ℕ) (w : Desk) → length (takeOf chunk w .out) ≡ length (w .out)
+keeps-take : (chunk : List ℕ) (w : Desk) → Keeps w (takeOf chunk w)
 unfolding takeOf
-out-take chunk w = out-turns (length chunk) chunk _
+keeps-take chunk w = keeps-turns (length chunk) chunk _
 
 -- the chunk at hand is used up
 chunk-used : (takes : ℕ) (chunk : List ℕ) (d : Desk) (more : Desk → List ℕ) → d .session .on ≡ true → length chunk ≤ d .session .at → chunkOut takes chunk d more ≡ more d
@@ -86,6 +94,16 @@ none-laid : (d : Desk) → d .session .laid ≡ 0 → written d ≡ []
 unfolding written
 none-laid d e = rw e
 
+-- the end of the input gives a line
+end-some : (d : Desk) → d .session .on ≡ true → longestLine ≤ length (d .out) → length (d .buffer) ≤ 8192 → 0 < length (written (endOf d))
+unfolding endOf endSession endOut spokenSession laidOut closing bytesSaid if_then_else_
+end-some d o room small =
+    let x : List ℕ = closeOf (d .session .run) (d .session .have) (d .buffer) in
+    let short = short-close (d .session .run) (d .session .have) (d .buffer) small in
+    let e : written (endOf d) ≡ feedBytes x =
+    rw o (written-said (last x) (d .session .run) (d .session .at) 0 (d .held) (d .request) (d .outcome) (d .buffer) (d .out) short (omega arith)) in
+    rw (e, length-feed) (omega arith)
+
 -- what is read came in chunks. What they and any further ones give is what is written and laid, and what the chunk at hand and those give
 record Before (first : Desk) (read wrote chunk : List ℕ) (d : Desk) : Type 0 where
   chunks : List (List ℕ)
@@ -93,6 +111,7 @@ record Before (first : Desk) (read wrote chunk : List ℕ) (d : Desk) : Type 0 w
   takes : ℕ
   enough : length chunk ≤ takes + d .session .at
   room : longestLine ≤ length (d .out)
+  buffer : length (d .buffer) ≤ 8192
   same : (final : Desk → List ℕ) (more : List (List ℕ)) → Blind final
       → chunksOut final (chunks ++ more) first ≡ wrote ++ (written d ++ chunkOut takes chunk d (chunksOut final more))
 
@@ -115,6 +134,7 @@ module _ (first : Desk) where
     takes = 0;
     enough = omega arith;
     room = omega (arith, fresh .sized .out);
+    buffer = omega (arith, fresh .sized .buffer);
     same = λ final more b.
         let e : first .session .laid ≡ 0 = ap (λ (s : Session). s .laid) (fresh .start) in
         rw e;
@@ -134,7 +154,8 @@ module _ (first : Desk) where
           all = s .all ∙ sym (append-nil read);
           takes = n;
           enough = omega (arith, take-uses chunk d (s .room) (ready .on) inside, h);
-          room = omega (arith, out-take chunk d, s .room);
+          room = omega (arith, keeps-take chunk d .0, s .room);
+          buffer = omega (arith, keeps-take chunk d .1, s .buffer);
           same = λ final more b. same final more b ∙ rw (none-laid d (ready .clear), chunk-lasts n chunk d (chunksOut final more) (ready .on) inside);
         }
 
@@ -146,6 +167,7 @@ module _ (first : Desk) where
       takes = length more;
       enough = omega arith;
       room = s .room;
+      buffer = s .buffer;
       same = λ final rest b.
           ap (λ (l : List (List ℕ)). chunksOut final l first) (append-assoc (s .chunks) (more ∷ []) rest) ∙ s .same final (more ∷ rest) b
           ∙ rw (none-laid d (ready .clear), chunk-used (s .takes) chunk d (chunksOut final (more ∷ rest)) (ready .on) used);
@@ -174,6 +196,7 @@ module _ (first : Desk) where
       takes = s .takes;
       enough = s .enough;
       room = s .room;
+      buffer = s .buffer;
       same = λ final more b.
           s .same final more b ∙ sym (append-assoc wrote (written d) _)
           ∙ ap (λ (l : List ℕ). wrote ++ written d ++ l) (sym (blind-chunk (s .takes) chunk (chunksOut final more) (blind-chunks final more b) d));
@@ -211,6 +234,16 @@ module _ (first : Desk) where
         rw (none-laid d (ready .clear), chunk-used (s .takes) chunk d (chunksOut (λ v. []) []) (ready .on) used, ready .on) (append-nil wrote) in
         sym n ∙ sym e ∙ ap (λ (l : List (List ℕ)). chunksOut (λ v. []) l first) (append-nil (s .chunks))
         ∙ whole-bench .at-once (s .chunks) first (fresh .sized) (fresh .start) ∙ ap printedSoFar (s .all)
+
+    -- the last line that the end of the input would give
+    waits-all : (d : Desk) → Before first read wrote chunk d → Ready d → length chunk ≤ d .session .at → length wrote < length (printed read)
+    unfolding bytesOut chunksOut if_then_else_
+    waits-all d s ready used =
+        let e : bytesOut (s .chunks) first ≡ wrote ++ written (endOf d) =
+        ap (λ (l : List (List ℕ)). chunksOut (λ v. written (endOf v)) l first) (sym (append-nil (s .chunks))) ∙ s .same (λ v. written (endOf v)) [] blind-end
+        ∙ rw (none-laid d (ready .clear), chunk-used (s .takes) chunk d (chunksOut (λ v. written (endOf v)) []) (ready .on) used, ready .on) in
+        let p : printed read ≡ wrote ++ written (endOf d) = ap printed (sym (s .all)) ∙ sym (whole-bench .whole (s .chunks) first (fresh .sized) (fresh .start)) ∙ e in
+        rw (p, length-append) (omega (arith, end-some d (ready .on) (s .room) (s .buffer)))
 
     over-all : (end : Bool) (d : Desk) → Stands first read wrote chunk end d → d .session .on ≡ false → d .session .laid ≡ 0 → (more : List ℕ) → (end ≡ true → more ≡ [])
         → wrote ≡ printed (read ++ more)
@@ -286,18 +319,6 @@ so-far-begins input more =
       record { rest = b .rest; same = ap (λ (l : List ℕ). l ++ b .rest) (sym start) ∙ b .same ∙ now },
     )
 
--- the statement
-pub laws : Laws
-laws = record {
-  reads = λ first fresh {turns} {read} {wrote} {chunk} {d} r. reads-all first fresh read wrote chunk d (stands first fresh r);
-  over = λ first fresh {turns} {read} {wrote} {chunk} {end} {d} r. over-all first fresh read wrote chunk end d (stands first fresh r);
-  starts = λ first fresh {turns} {read} {wrote} {chunk} {end} {d} r. starts-all first fresh read wrote chunk end d (stands first fresh r);
-  so-far = so-far-begins;
-  advances = λ chunk d sized o inside. take-uses chunk d (omega (arith, sized .out)) o inside;
-}
-
--- ---- for the program: it stands a turn further
-
 end-off : (d : Desk) → d .session .on ≡ true → endOf d .session .on ≡ false
 unfolding endOf endSession spokenSession closing saidSession saidOf if_then_else_
 end-off d o = rw o
@@ -313,6 +334,34 @@ unfolding deskAt atByte
 unended begun o = refl
 unended (turned r ready t) o = unended-turn ready t o
 unended (put r) o = unended r o
+
+-- the end of the input is followed by nothing but writes
+over-end : {first : Desk} {turns : ℕ} {read wrote chunk : List ℕ} {end : Bool} {d : Desk} → Reached first turns read wrote chunk end d → end ≡ true → d .session .on ≡ false
+unfolding deskAt atByte
+over-end begun e = absurd (false≢true e)
+over-end (turned r ready (took inside)) e = absurd (false≢true e)
+over-end (turned r ready (brought more used some)) e = absurd (false≢true e)
+over-end (turned {d = d} r ready (ended used)) e = end-off d (ready .on)
+over-end (put r) e = over-end r e
+
+clear-desk : (d : Desk) → (deskAt (d .session .at) d .session .laid ≡ 0) × (deskAt (d .session .at) d .session .on ≡ d .session .on) × (deskAt (d .session .at) d .session .at ≡ d .session .at)
+unfolding deskAt atByte
+clear-desk d = (refl, refl, refl)
+
+-- the statement
+pub laws : Writes printed printedSoFar
+laws = record {
+  over = λ first fresh {turns} {read} {wrote} {chunk} {end} {d} r. over-all first fresh read wrote chunk end d (stands first fresh r);
+  reads = λ first fresh {turns} {read} {wrote} {chunk} {d} r. reads-all first fresh read wrote chunk d (stands first fresh r);
+  waits = λ first fresh {turns} {read} {wrote} {chunk} {d} r. waits-all first fresh read wrote chunk d (stands first fresh r);
+  ends = λ {first} {turns} {read} {wrote} {chunk} {d} r. over-end r refl;
+  advances = λ first fresh {turns} {read} {wrote} {chunk} {d} r ready inside. take-uses chunk d (stands first fresh r .room) (ready .on) inside;
+  clears = clear-desk;
+  starts = λ first fresh {turns} {read} {wrote} {chunk} {end} {d} r. starts-all first fresh read wrote chunk end d (stands first fresh r);
+  so-far = so-far-begins;
+}
+
+-- ---- for the program: it stands a turn further
 
 pub stands-first : (first : Desk) → Standing first 0 [] first
 stands-first first = record { read = []; wrote = []; end = false; reached = begun }

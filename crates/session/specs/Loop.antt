@@ -55,8 +55,3 @@ pub record Standing (first : Desk) (turns : ℕ) (chunk : List ℕ) (d : Desk) :
   pub wrote : List ℕ
   pub end : Bool
   pub reached : Reached first turns read wrote chunk end d
-
--- the first bytes of a list
-pub record Begins (front whole : List ℕ) : Type 0 where
-  pub rest : List ℕ
-  pub same : front ++ rest ≡ whole
