@@ -10,14 +10,14 @@ use Rattle.bench_promises.proofs.LineByLine.{line-by-line}
 use Rattle.bench.specs.declared.Stop.{Stop}
 use Rattle.bench.specs.declared.Ending.{Ending}
 use Rattle.bench.specs.declared.Ending.the-variants as ending
-use Rattle.bench.specs.Ending.{How, Came, Ends}
+use Rattle.bench.specs.Ending.{How, Stopped, Ends}
 
-ended-unread : (r : Stop) (first d : Desk) (c : Came r first d) → r .ending ≡ ending.Unread → c .standing .wrote ≡ rustSoFar (c .standing .read)
+ended-unread : (r : Stop) (first d : Desk) (c : Stopped r first d) → r .ending ≡ ending.Unread → c .standing .wrote ≡ rustSoFar (c .standing .read)
 ended-unread r first d c e =
     let h : How ending.Unread (r .left) (c .chunk) d = subst (λ (x : Ending). How x (r .left) (c .chunk) d) e (c .how) in
     let s = c .standing in
-    let u : Reached first (c .turns) (s .read) (s .wrote) (c .chunk) false d =
-    subst (λ (b : Bool). Reached first (c .turns) (s .read) (s .wrote) (c .chunk) b d) (unended (s .reached) (h .0 .on)) (s .reached) in
+    let u : Reached first (c .rounds) (s .read) (s .wrote) (c .chunk) false d =
+    subst (λ (b : Bool). Reached first (c .rounds) (s .read) (s .wrote) (c .chunk) b d) (unended (s .reached) (h .0 .on)) (s .reached) in
     line-by-line .writes .reads first (c .fresh) u (h .0) (h .1)
 
 -- the statement

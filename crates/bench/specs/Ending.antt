@@ -1,4 +1,4 @@
--- How the program comes to its end: by the turns that `session` speaks of, one after the other.
+-- How the program comes to its end: by the rounds that `session` speaks of, one after the other.
 -- Assumes nothing.
 use Prim.Native.Nat.{ℕ, _+_, _≤_, _<_}
 use mathlib.Core.Path.{_≡_}
@@ -6,12 +6,12 @@ use mathlib.Core.Bool.{true, false}
 use mathlib.Core.List.{List, [], _++_}
 use lib.ListN.{length, take}
 use Rattle.session.specs.Session.{Desk}
-use Rattle.session.specs.Loop.{Fresh, Ready, Turned, Standing}
+use Rattle.session.specs.Loop.{Fresh, Ready, OneRound, Standing}
 use Rattle.session.specs.Laws.{Begins}
 use Rattle.bench_promises.specs.RustBench.{rustPrinted, rustSoFar}
 use Rattle.bench.specs.declared.Brought.{Brought}
 use Rattle.bench.specs.declared.Brought.the-variants as brought
-use Rattle.bench.specs.declared.Left.{Left}
+use Rattle.bench.specs.declared.After.{After}
 use Rattle.bench.specs.declared.Stop.{Stop}
 use Rattle.bench.specs.declared.Ending.{Ending}
 use Rattle.bench.specs.declared.Ending.the-variants as ending
@@ -22,9 +22,9 @@ Brings (brought.Bytes n) chunk = (0 < n) × (n ≤ length chunk)
 Brings brought.End chunk = Unit {0}
 Brings brought.Failed chunk = Unit {0}
 
--- a turn, from the first bytes of an array and a desk to others; none is made where a read was due and failed
-pub record Makes (r : Left) (n : ℕ) (chunk : List ℕ) (d : Desk) (next : List ℕ) (v : Desk) : Type 0 where
-  pub made : r .made ≡ true → Turned (take n chunk) d (take (r .n) next) v
+-- a round, from the first bytes of an array and a desk to others; none is made where a read was due and failed
+pub record Makes (r : After) (n : ℕ) (chunk : List ℕ) (d : Desk) (next : List ℕ) (v : Desk) : Type 0 where
+  pub made : r .made ≡ true → OneRound (take n chunk) d (take (r .n) next) v
   pub unread : r .made ≡ false → (v ≡ d) × (length (take n chunk) ≤ d .session .at)
   pub fits : r .n ≤ length next
 
@@ -35,22 +35,22 @@ How ending.Unread left chunk d = Ready d × (length chunk ≤ d .session .at)
 How ending.Unwritten left chunk d = Unit {0}
 How ending.Spent left chunk d = left ≡ 0
 
--- it came there turn by turn, from a session with nothing read
-pub record Came (r : Stop) (first d : Desk) : Type 0 where
+-- it came there round by round, from a session with nothing read
+pub record Stopped (r : Stop) (first d : Desk) : Type 0 where
   pub fresh : Fresh first
-  pub turns : ℕ
+  pub rounds : ℕ
   pub chunk : List ℕ
-  pub counted : turns + r .left ≡ 18446744073709551615
-  pub standing : Standing first turns chunk d
+  pub counted : rounds + r .left ≡ 18446744073709551615
+  pub standing : Standing first rounds chunk d
   pub how : How (r .ending) (r .left) chunk d
 
 -- what is written at an end, for all that the input may go on with; after its end that is nothing
 pub record Ends : Type 0 where
   -- a run that is over has written what the Rust does with the whole input
-  pub over : (r : Stop) (first d : Desk) (c : Came r first d) → r .ending ≡ ending.Over → (more : List ℕ) → (c .standing .end ≡ true → more ≡ [])
+  pub over : (r : Stop) (first d : Desk) (c : Stopped r first d) → r .ending ≡ ending.Over → (more : List ℕ) → (c .standing .end ≡ true → more ≡ [])
       → c .standing .wrote ≡ rustPrinted (c .standing .read ++ more)
   -- where a read failed, all that the lines so far give is written
-  pub unread : (r : Stop) (first d : Desk) (c : Came r first d) → r .ending ≡ ending.Unread → c .standing .wrote ≡ rustSoFar (c .standing .read)
+  pub unread : (r : Stop) (first d : Desk) (c : Stopped r first d) → r .ending ≡ ending.Unread → c .standing .wrote ≡ rustSoFar (c .standing .read)
   -- at each, no other byte than that
-  pub starts : (r : Stop) (first d : Desk) (c : Came r first d) (more : List ℕ) → (c .standing .end ≡ true → more ≡ [])
+  pub starts : (r : Stop) (first d : Desk) (c : Stopped r first d) (more : List ℕ) → (c .standing .end ≡ true → more ≡ [])
       → Begins (c .standing .wrote) (rustPrinted (c .standing .read ++ more))

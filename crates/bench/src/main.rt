@@ -13,7 +13,7 @@ ghost use mathlib.Core.Bool.{true};
 ghost use Prim.Native.Nat.{_≤_};
 ghost use lib.ListN.{length, take as front};
 ghost use Rattle.session.specs.Session.{desk, Sized, startOf, atByte, takeOf};
-ghost use Rattle.bench.specs.Ending.{Brings, Makes, Came};
+ghost use Rattle.bench.specs.Ending.{Brings, Makes, Stopped};
 
 // What a read brought.
 enum Brought {
@@ -89,15 +89,15 @@ fn take(
     )
 }
 
-// What a turn left: whether it was made, the session, and how many bytes the chunk at hand has.
-struct Left {
+// What a round left: whether it was made, the session, and how many bytes the chunk at hand has.
+struct After {
     made: bool,
     session: Session,
     n: usize,
 }
 
-// One turn: lines of the chunk, while it lasts; after that the next chunk, or the end of the input. A read that fails makes none.
-fn turn(
+// One round: lines of the chunk, while it lasts; after that the next chunk, or the end of the input. A read that fails makes none.
+fn round(
     session: Session,
     n: usize,
     chunk: &mut [u8; 65536],
@@ -106,30 +106,30 @@ fn turn(
     outcome: &mut [u8; OUTCOME_BYTES],
     buffer: &mut [u8; BUFFER_BYTES],
     out: &mut [u8; OUT_BYTES],
-) -> Left
+) -> After
     requires { ⌜ n ≤ length (now chunk) ⌝ }
     ensures { λ r. ⌜ Makes r n (now (chunk .entry)) (desk session (now (held .entry)) (now (request .entry)) (now (outcome .entry)) (now (buffer .entry)) (now (out .entry))) (now (chunk .exit)) (desk (r .session) (now (held .exit)) (now (request .exit)) (now (outcome .exit)) (now (buffer .exit)) (now (out .exit))) ⌝ }
 {
     if session.at < n {
         let after = take(session, chunk, n, held, request, outcome, buffer, out);
-        return Left {
+        return After {
             made: true,
             session: after,
             n,
         };
     }
     match read(chunk) {
-        Brought::Bytes(k) => Left {
+        Brought::Bytes(k) => After {
             made: true,
             session: session::next_chunk(session),
             n: k,
         },
-        Brought::End => Left {
+        Brought::End => After {
             made: true,
             session: session::end(session, buffer, out),
             n: 0,
         },
-        Brought::Failed => Left {
+        Brought::Failed => After {
             made: false,
             session,
             n: 0,
@@ -145,18 +145,18 @@ enum Ending {
     Unread,
     // A write failed.
     Unwritten,
-    // As many turns as a u64 counts were made, which no input comes to.
+    // As many rounds as a u64 counts were made, which no input comes to.
     Spent,
 }
 
-// Where the program stopped: how, the session, and the turns that were left.
+// Where the program stopped: how, the session, and the rounds that were left.
 struct Stop {
     ending: Ending,
     session: Session,
     left: u64,
 }
 
-// The whole run, turn by turn. Its turns are counted down, since every loop has to be proved to end.
+// The whole run, round by round. Its rounds are counted down, since every loop has to be proved to end.
 fn run(
     chunk: &mut [u8; 65536],
     held: &mut [u8; HELD_BYTES],
@@ -166,7 +166,7 @@ fn run(
     out: &mut [u8; OUT_BYTES],
 ) -> Stop
     requires { ⌜ Sized (desk startOf (now held) (now request) (now outcome) (now buffer) (now out)) ⌝ }
-    ensures { λ r. ⌜ Came r (desk startOf (now (held .entry)) (now (request .entry)) (now (outcome .entry)) (now (buffer .entry)) (now (out .entry))) (desk (r .session) (now (held .exit)) (now (request .exit)) (now (outcome .exit)) (now (buffer .exit)) (now (out .exit))) ⌝ }
+    ensures { λ r. ⌜ Stopped r (desk startOf (now (held .entry)) (now (request .entry)) (now (outcome .entry)) (now (buffer .entry)) (now (out .entry))) (desk (r .session) (now (held .exit)) (now (request .exit)) (now (outcome .exit)) (now (buffer .exit)) (now (out .exit))) ⌝ }
 {
     let mut session = session::start();
     let mut n = 0;
@@ -179,16 +179,16 @@ fn run(
                 left,
             };
         }
-        let turn = turn(session, n, chunk, held, request, outcome, buffer, out);
-        let after = turn.session;
-        if !turn.made {
+        let round = round(session, n, chunk, held, request, outcome, buffer, out);
+        let after = round.session;
+        if !round.made {
             return Stop {
                 ending: Ending::Unread,
                 session: after,
                 left,
             };
         }
-        n = turn.n;
+        n = round.n;
         left -= 1;
         let wrote = write(after, out);
         if !wrote.all {

@@ -8,11 +8,11 @@ use native.Mathlib.Omega.{arith}
 use lib.ListN.{length, take, drop, getD, replicate, length-drop}
 use lib.Dec.{ltb, eqb}
 use borrow.Author.Needs.{needs}
-use borrow.Author.Tests.{lt-ltb, eq-eqb, eqb-true, ltb-false}
+use borrow.Author.Tests.{lt-ltb, eqb-true, ltb-false}
 use Rattle.hex.specs.Hex.{bytesOf, hexOf}
 use Rattle.hex.specs.BothWays.{AllBytes}
 use Rattle.hex.proofs.Laws.{length-hex}
-use Rattle.hex.proofs.Inverse.{bytes-hex, bytes-small}
+use Rattle.hex.proofs.Digits.{encoded-line, line-bytes, hexadecimal}
 use Rattle.protocol.specs.Pick.{if_then_else_}
 use Rattle.protocol.specs.declared.common.Config.{Config}
 use Rattle.protocol.specs.declared.error.Answer.the-variants as answer
@@ -33,15 +33,6 @@ use Rattle.bench_promises.specs.LineByLine.{Longest, LineByLine}
 use Rattle.bench_promises.proofs.Said.{end-said, read-back}
 use Rattle.bench_promises.proofs.Asked.{pair-at, settings-of}
 use Rattle.bench_promises.proofs.Rows.{same-bad, every-kind}
-
--- the bytes of a line are bytes
-line-bytes : (line : List ℕ) → AllBytes (lineBytes line)
-unfolding lineBytes if_then_else_
-line-bytes line = by (eqb (length (bytesOf line) * 2) (length line))
-  where
-    by : (t : Bool) → AllBytes (if t then bytesOf line else [])
-    by true = bytes-small line
-    by false = λ k. omega arith
 
 -- two bytes are a 16-bit number
 few-retries : (s : List ℕ) → 4 ≤ length s → AllBytes s → field 2 2 s ≤ 65535
@@ -156,11 +147,6 @@ command-bytes : AllBytes command
 command-bytes zero = omega arith
 command-bytes (suc k) = all-zero 8201 k
 
--- digits that were encoded are the line's bytes
-encoded-line : (s : List ℕ) → AllBytes s → lineBytes (hexOf s) ≡ s
-unfolding lineBytes if_then_else_
-encoded-line s small = let h : length s * 2 ≡ length (hexOf s) = sym (length-hex s) in rw (bytes-hex s small, eq-eqb (length s * 2) (length (hexOf s)) h)
-
 isBad : Asked → Bool
 isBad bad = true
 isBad (call f) = false
@@ -182,13 +168,13 @@ longest-line = record {
 -- what is written is what the Rust does
 writes : Writes rustPrinted rustSoFar
 writes = record {
-  over = λ first fresh {turns} {read} {wrote} {chunk} {end} {d} r off clear more none. laws .over first fresh r off clear more none ∙ all-printed (read ++ more);
-  reads = λ first fresh {turns} {read} {wrote} {chunk} {d} r ready used. laws .reads first fresh r ready used ∙ soon-printed read;
-  waits = λ first fresh {turns} {read} {wrote} {chunk} {d} r ready used. subst (λ (s : List ℕ). length wrote < length s) (all-printed read) (laws .waits first fresh r ready used);
-  ends = λ {first} {turns} {read} {wrote} {chunk} {d} r. laws .ends r;
+  over = λ first fresh {rounds} {read} {wrote} {chunk} {end} {d} r off clear more none. laws .over first fresh r off clear more none ∙ all-printed (read ++ more);
+  reads = λ first fresh {rounds} {read} {wrote} {chunk} {d} r ready used. laws .reads first fresh r ready used ∙ soon-printed read;
+  waits = λ first fresh {rounds} {read} {wrote} {chunk} {d} r ready used. subst (λ (s : List ℕ). length wrote < length s) (all-printed read) (laws .waits first fresh r ready used);
+  ends = λ {first} {rounds} {read} {wrote} {chunk} {d} r. laws .ends r;
   advances = laws .advances;
   clears = laws .clears;
-  starts = λ first fresh {turns} {read} {wrote} {chunk} {end} {d} r more none. subst (Begins wrote) (all-printed (read ++ more)) (laws .starts first fresh r more none);
+  starts = λ first fresh {rounds} {read} {wrote} {chunk} {end} {d} r more none. subst (Begins wrote) (all-printed (read ++ more)) (laws .starts first fresh r more none);
   so-far = λ input more.
       let s = laws .so-far input more in (
         rw (← soon-printed input, ← all-printed (input ++ more)) (s .0),
@@ -198,4 +184,4 @@ writes = record {
 
 -- THE BENCH IS THE RUST
 pub line-by-line : LineByLine
-line-by-line = record { lines = each-line; writes = writes; figures = read-back; longest = longest-line }
+line-by-line = record { lines = each-line; writes = writes; digits = hexadecimal; figures = read-back; longest = longest-line }

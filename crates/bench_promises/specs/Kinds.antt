@@ -57,8 +57,8 @@ fills kind size call = record {
 }
 
 -- the Rust's function, or the added refusal where it panics or has no such length: with no transfer
-abbrev or : Bool → Answer → Log → List BusOutcome → Came → Came
-or refused a log os came = if refused then Err a log os else came
+abbrev refusedIf : Bool → Answer → Log → List BusOutcome → Came → Came
+refusedIf refused a log os came = if refused then Err a log os else came
 
 -- another length than n
 abbrev pub unlike : ℕ → List ℕ → Bool
@@ -83,12 +83,12 @@ rows =
     ∷ reads 0x06 3 (λ config arguments buffer. rust.bufferRead config (field 0 1 arguments) buffer)
     ∷ writes 0x07 1 (λ config arguments payload. rust.bufferWrite config (field 0 1 arguments) payload)
     ∷ fills 0x08 28 (λ config buffer. rust-r5.readSecurityKeys config buffer)
-    ∷ writes 0x09 0 (λ config arguments keys log os. or (unlike 28 keys) answer.WrongBuffer log os (rust-r5.writeSecurityKeys config keys log os))
+    ∷ writes 0x09 0 (λ config arguments keys log os. refusedIf (unlike 28 keys) answer.WrongBuffer log os (rust-r5.writeSecurityKeys config keys log os))
     ∷ fills 0x0A 16 (λ config buffer. rust-r5.readAuthenticationKey config buffer)
-    ∷ writes 0x0B 0 (λ config arguments key log os. or (unlike 16 key) answer.WrongBuffer log os (rust-r5.writeAuthenticationKey config key log os))
+    ∷ writes 0x0B 0 (λ config arguments key log os. refusedIf (unlike 16 key) answer.WrongBuffer log os (rust-r5.writeAuthenticationKey config key log os))
     ∷ reads 0x0C 3 (λ config arguments buffer. rust-r5.readRegisterUnchecked config (field 0 1 arguments) buffer)
     ∷ writes 0x0D 1 (λ config arguments payload log os.
-    or (rust-r5.uncheckedPanics payload) answer.DataTooLarge log os (rust-r5.writeRegisterUnchecked config (field 0 1 arguments) payload log os))
+    refusedIf (rust-r5.uncheckedPanics payload) answer.DataTooLarge log os (rust-r5.writeRegisterUnchecked config (field 0 1 arguments) payload log os))
     ∷ record {
       kind = 0x0E;
       fixed = 4;
@@ -111,7 +111,7 @@ rows =
       call = λ config arguments payload buffer os. rust-r5.writeChargingVoltageOverride config (rust-r5.overrideFigures payload) begun os leaving buffer;
     }
     ∷ writes 0x15 0 (λ config arguments frame log os.
-    or (rust.writePanics (config .«pec_write») frame) answer.DataTooLarge log os (rust.writeWithRetries config frame (config .«pec_write») log os))
+    refusedIf (rust.writePanics (config .«pec_write») frame) answer.DataTooLarge log os (rust.writeWithRetries config frame (config .«pec_write») log os))
     ∷ []
 
 -- what a request line asks for: a function of the Rust, or nothing

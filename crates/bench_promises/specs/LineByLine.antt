@@ -7,13 +7,14 @@ use mathlib.Core.List.{List}
 use lib.ListN.{length}
 use Rattle.protocol.specs.declared.error.Answer.the-variants as answer
 use Rattle.hex.specs.Line.{lineBytes}
+use Rattle.hex.specs.Digits.{Hexadecimal}
 use Rattle.dialogue.specs.Bench.{benchOf}
 use Rattle.session.specs.Laws.{Writes}
 use Rattle.bench_promises.specs.Numbers.{ReadBack}
 use Rattle.bench_promises.specs.Kinds.{bad, askedIn}
 use Rattle.bench_promises.specs.RustBench.{stopped, heardIn, rustBench, rustPrinted, longest, rustSoFar}
 
--- a line of this many digits is valid, and every longer one is bad, as a request and as an outcome
+-- some line of this many digits is valid, and every longer one is bad, as a request and as an outcome
 pub record Longest (digits : ℕ) : Type 0 where
   pub line : List ℕ
   pub long : length line ≡ digits
@@ -26,6 +27,8 @@ pub record LineByLine : Type 0 where
   pub lines : (lines : List (List ℕ)) (rest : List ℕ) → benchOf lines rest ≡ rustBench lines rest
   -- so is what the program's loop writes, wherever it may stand
   pub writes : Writes rustPrinted rustSoFar
+  -- in upper-case hexadecimal
+  pub digits : Hexadecimal
   -- each figure that is printed is read back as what it was
   pub figures : ReadBack
   pub longest : Longest longest

@@ -118,7 +118,7 @@ pair-digits high low = by₁ (ltb 15 (valueOf high)) refl
     by₁ false e h = by₂ (ltb 15 (valueOf low)) refl (ltb-false 15 (valueOf high) e) h
 
 -- digits come back from their bytes, where every pair is good
-hex-bytes : (s : List ℕ) → length s ≡ length (bytesOf s) * 2 → hexOf (bytesOf s) ≡ s
+pub hex-bytes : (s : List ℕ) → length s ≡ length (bytesOf s) * 2 → hexOf (bytesOf s) ≡ s
 unfolding bytesOf hexOf if_then_else_
 hex-bytes [] h = refl
 hex-bytes (d ∷ []) h = absurd (omega arith)

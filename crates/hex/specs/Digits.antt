@@ -1,53 +1,43 @@
--- The sixteen digits in ASCII, and bytes that are none, as one table under one statement. (01, The bench program)
+-- The sixteen digits in ASCII, and what they make of bytes and of a line. (01, The bench program: upper-case hexadecimal)
 -- Assumes nothing.
-use Prim.Native.Nat.{ℕ}
-use mathlib.Core.Path.{_≡_, refl}
+use Prim.Native.Nat.{ℕ, _/_, _%_}
+use mathlib.Core.Path.{_≡_}
 use mathlib.Core.List.{List, [], _∷_}
-use Rattle.protocol.specs.Pick.{if_then_else_}
-use Rattle.hex.specs.Hex.{valueOf, digitOf}
+use mathlib.Core.Logic.{_⊎_}
+use lib.ListN.{getD}
+use Rattle.hex.specs.Hex.{hexOf}
+use Rattle.hex.specs.BothWays.{AllBytes}
+use Rattle.hex.specs.Line.{lineBytes}
 
-pub data Figure : Type 0 where
-  -- a value and its digit
-  digit : ℕ → ℕ → Figure
-  -- a byte that is no digit
-  none : ℕ → Figure
-
-abbrev pub figures : List Figure
-figures =
-    digit 0 0x30
-    ∷ digit 1 0x31
-    ∷ digit 2 0x32
-    ∷ digit 3 0x33
-    ∷ digit 4 0x34
-    ∷ digit 5 0x35
-    ∷ digit 6 0x36
-    ∷ digit 7 0x37
-    ∷ digit 8 0x38
-    ∷ digit 9 0x39
-    ∷ digit 10 0x41
-    ∷ digit 11 0x42
-    ∷ digit 12 0x43
-    ∷ digit 13 0x44
-    ∷ digit 14 0x45
-    ∷ digit 15 0x46
-    -- the bytes beside 0 and 9, and beside A and F
-    ∷ none 0x2F
-    ∷ none 0x3A
-    ∷ none 0x40
-    ∷ none 0x47
-    -- the lower-case a and f, a space, a carriage return
-    ∷ none 0x61
-    ∷ none 0x66
-    ∷ none 0x20
-    ∷ none 0x0D
+-- the digits of 0 to 15
+abbrev pub sixteen : List ℕ
+sixteen =
+    0x30
+    ∷ 0x31
+    ∷ 0x32
+    ∷ 0x33
+    ∷ 0x34
+    ∷ 0x35
+    ∷ 0x36
+    ∷ 0x37
+    ∷ 0x38
+    ∷ 0x39
+    ∷ 0x41
+    ∷ 0x42
+    ∷ 0x43
+    ∷ 0x44
+    ∷ 0x45
+    ∷ 0x46
     ∷ []
 
--- the definitions give each figure, the digits in both directions
-abbrev pub Hold : List Figure → Type 0
-Hold [] = Unit {0}
-Hold (digit v d ∷ more) = (digitOf v ≡ d) × (valueOf d ≡ v) × Hold more
-Hold (none d ∷ more) = (valueOf d ≡ 16) × Hold more
+-- two for each byte, the high one first
+unfoldable pub inDigits : List ℕ → List ℕ
+inDigits [] = []
+inDigits (b ∷ s) = getD sixteen (b / 16) 0 ∷ getD sixteen (b % 16) 0 ∷ inDigits s
 
-pub figures-hold : Hold figures
-unfolding valueOf digitOf if_then_else_
-figures-hold = (refl, refl, (refl, refl, (refl, refl, (refl, refl, (refl, refl, (refl, refl, (refl, refl, (refl, refl, (refl, refl, (refl, refl, (refl, refl, (refl, refl, (refl, refl, (refl, refl, (refl, refl, (refl, refl, (refl, (refl, (refl, (refl, (refl, (refl, (refl, (refl, tt))))))))))))))))))))))))
+pub record Hexadecimal : Type 0 where
+  -- bytes are written in these digits, and read from them
+  pub writes : (s : List ℕ) → AllBytes s → hexOf s ≡ inDigits s
+  pub reads : (s : List ℕ) → AllBytes s → lineBytes (inDigits s) ≡ s
+  -- a line that is anything else has no bytes
+  pub only : (line : List ℕ) → (lineBytes line ≡ []) ⊎ ((inDigits (lineBytes line) ≡ line) × AllBytes (lineBytes line))

@@ -8,14 +8,14 @@ use lib.Dec.{ltb}
 use Rattle.protocol.specs.Pick.{if_then_else_}
 use Rattle.session.specs.Session.{Desk, desk, Sized, startOf, atByte, takeOf, endOf}
 use Rattle.session.specs.Output.{printed, printedSoFar}
-use Rattle.session.specs.Loop.{written}
+use Rattle.session.specs.Loop.{laidBytes}
 
 -- a chunk, `take` after `take` while the run goes on and the chunk lasts, and then what follows it. One for each byte is enough (`advances`).
 unfoldable pub chunkOut : ℕ → List ℕ → Desk → (Desk → List ℕ) → List ℕ
 chunkOut zero chunk d more = more d
 chunkOut (suc takes) chunk d more =
     if d .session .on then
-    (if ltb (d .session .at) (length chunk) then written (takeOf chunk d) ++ chunkOut takes chunk (takeOf chunk d) more else more d)
+    (if ltb (d .session .at) (length chunk) then laidBytes (takeOf chunk d) ++ chunkOut takes chunk (takeOf chunk d) more else more d)
     else []
 
 -- chunk after chunk, and `final` once there is none
@@ -27,9 +27,9 @@ chunksOut final (chunk ∷ chunks) d =
 -- what the program writes for an input that comes in these chunks, each a read of its own. A read that brings nothing is the end; an empty chunk changes
 -- nothing
 unfoldable pub bytesOut : List (List ℕ) → Desk → List ℕ
-bytesOut chunks d = chunksOut (λ v. written (endOf v)) chunks d
+bytesOut chunks d = chunksOut (λ v. laidBytes (endOf v)) chunks d
 
--- what it has written once these chunks are read, where more may follow
+-- what it has laidBytes once these chunks are read, where more may follow
 unfoldable pub bytesSoFar : List (List ℕ) → Desk → List ℕ
 bytesSoFar chunks d = chunksOut (λ v. []) chunks d
 

@@ -28,7 +28,7 @@ use Rattle.dialogue.proofs.Kept.{length-stored}
 use Rattle.dialogue.proofs.Machine.{machineOf}
 use Rattle.dialogue.proofs.Room.{Short, AllShort, printed-whole}
 use Rattle.session.specs.Session.{Desk, desk, heldBytes, longestLine, Sized, usedUp, saidSession, spokenSession, laidOut, closing, laidDesk, lineOf, turnBy, turnOf, goesOn, turnsOf, atByte, takeOf}
-use Rattle.session.specs.Loop.{written}
+use Rattle.session.specs.Loop.{laidBytes}
 use Rattle.session.proofs.Laws.{goes-on-inside}
 use Rattle.session.proofs.Kept.{length-request, length-outcome, length-buffer, length-laid}
 use Rattle.session.proofs.Long.{long-says, close-some, long-input}
@@ -58,8 +58,8 @@ said-size (last s) room r at laid = refl
 
 -- a short line is laid whole after what is laid
 pub written-said : (say : Saying) (r : Run) (at laid : ℕ) (H R Y B O : List ℕ) → Short (bytesSaid say) → laid + longestLine ≤ length O
-    → written (desk (saidSession (saidOf say (length O - laid)) r at laid) H R Y B (take laid O ++ outPrinted (bytesSaid say) (drop laid O))) ≡ take laid O ++ feedBytes (bytesSaid say)
-unfolding written
+    → laidBytes (desk (saidSession (saidOf say (length O - laid)) r at laid) H R Y B (take laid O ++ outPrinted (bytesSaid say) (drop laid O))) ≡ take laid O ++ feedBytes (bytesSaid say)
+unfolding laidBytes
 written-said say r at laid H R Y B O h room = ap (λ (n : ℕ). take n (take laid O ++ outPrinted x (drop laid O))) size ∙ take-append-add (take laid O) _ (length (feedBytes x)) ∙ ap (λ (l : List ℕ). take laid O ++ l) (whole .1)
   where
     x : List ℕ
@@ -79,7 +79,7 @@ module _ (view : List (List ℕ) → List (List ℕ) → List ℕ) (Ends : List 
     (step : (line x : List ℕ) (lines more : List (List ℕ)) → view (line ∷ lines) (x ∷ more) ≡ feedBytes x ++ view lines more)
     (none : (lines : List (List ℕ)) → view lines [] ≡ [])
     (early : (rest x : List ℕ) → Ends rest → heldBytes < length rest → view [] (x ∷ []) ≡ feedBytes x) where
-  -- what is written from a desk on, once what is laid is written, is what the lines that are left give
+  -- what is laidBytes from a desk on, once what is laid is laidBytes, is what the lines that are left give
   abbrev pub Gives : (Desk → List ℕ) → Desk → List ℕ → Type 0
   Gives G w input = (lines : List (List ℕ)) (rest : List ℕ) → lines ≡ linesFrom (before w) input → rest ≡ restFrom (before w) input
       → AllShort (shown w lines rest) → Ends rest → G w ≡ view lines (shown w lines rest)
@@ -87,13 +87,13 @@ module _ (view : List (List ℕ) → List (List ℕ) → List ℕ) (Ends : List 
   -- the same with what is laid
   abbrev pub Lays : (Desk → List ℕ) → Desk → List ℕ → Type 0
   Lays G w input = (lines : List (List ℕ)) (rest : List ℕ) → lines ≡ linesFrom (before w) input → rest ≡ restFrom (before w) input
-      → AllShort (shown w lines rest) → Ends rest → G w ≡ written w ++ view lines (shown w lines rest)
+      → AllShort (shown w lines rest) → Ends rest → G w ≡ laidBytes w ++ view lines (shown w lines rest)
 
-  module _ (G : Desk → List ℕ) (off : (v : Desk) → v .session .on ≡ false → G v ≡ written v) where
+  module _ (G : Desk → List ℕ) (off : (v : Desk) → v .session .on ≡ false → G v ≡ laidBytes v) where
     said-lays : (say : Saying) (r : Run) (at laid : ℕ) (H R Y B O line : List ℕ) (lines more : List (List ℕ)) → laid + longestLine ≤ length O → AllShort (thenSay say more)
         → ((p : ℕ) → AllShort more
         → G (desk (record { run = r; have = 0; at = at; laid = p; on = true }) H R Y B (take laid O ++ outPrinted (bytesSaid say) (drop laid O)))
-        ≡ written (desk (record { run = r; have = 0; at = at; laid = p; on = true }) H R Y B (take laid O ++ outPrinted (bytesSaid say) (drop laid O))) ++ view lines more)
+        ≡ laidBytes (desk (record { run = r; have = 0; at = at; laid = p; on = true }) H R Y B (take laid O ++ outPrinted (bytesSaid say) (drop laid O))) ++ view lines more)
         → G (desk (saidSession (saidOf say (length O - laid)) r at laid) H R Y B (take laid O ++ outPrinted (bytesSaid say) (drop laid O))) ≡ take laid O ++ view (line ∷ lines) (thenSay say more)
     unfolding thenSay saidSession saidOf bytesSaid
     said-lays (asked s) r at laid H R Y B O line lines more e a go =
@@ -107,8 +107,8 @@ module _ (view : List (List ℕ) → List (List ℕ) → List ℕ) (Ends : List 
       -- a line is whole
       turn-line : (line H : List ℕ) (next : ℕ) (lines : List (List ℕ)) (rest : List ℕ) → length H ≡ heldBytes → w .session .at < next → next ≤ length chunk
           → lines ≡ linesFrom [] (drop next chunk ++ t) → rest ≡ restFrom [] (drop next chunk ++ t) → AllShort (shown w (line ∷ lines) rest) → Ends rest
-          → G (lineOf line next H w) ≡ written w ++ view (line ∷ lines) (shown w (line ∷ lines) rest)
-      unfolding lineOf laidDesk spokenSession laidOut machineOf written
+          → G (lineOf line next H w) ≡ laidBytes w ++ view (line ∷ lines) (shown w (line ∷ lines) rest)
+      unfolding lineOf laidDesk spokenSession laidOut machineOf laidBytes
       turn-line line H next lines rest h lt le p q a z =
           let s = dialogue.answerOf (w .session .run) line (w .request) (w .outcome) (w .buffer) in
           let R = dialogue.requestAfter (w .session .run) line (w .request) in
@@ -134,7 +134,7 @@ module _ (view : List (List ℕ) → List (List ℕ) → List ℕ) (Ends : List 
       turn-more : (H : List ℕ) (k : ℕ) → length H ≡ heldBytes → k ≤ heldBytes → take k H ≡ before w ++ drop (w .session .at) chunk
           → length (drop (w .session .at) chunk) ≤ length (beforeFeed (drop (w .session .at) chunk))
           → Lays (λ v. G (desk (usedUp (v .session .run) k (length chunk) (v .session .laid)) H (v .request) (v .outcome) (v .buffer) (v .out))) w (drop (w .session .at) chunk ++ t)
-      unfolding usedUp written
+      unfolding usedUp laidBytes
       turn-more H k h le e none-left lines rest p q a z =
           let s = drop (w .session .at) chunk in
           let m = lines-more s (before w) none-left in
@@ -151,23 +151,23 @@ module _ (view : List (List ℕ) → List (List ℕ) → List ℕ) (Ends : List 
 
       -- a line has no room
       closed : (H : List ℕ) (n : ℕ) → Short (dialogue.closeOf (w .session .run) 1 (w .buffer))
-          → G (tooLong n H w) ≡ written w ++ feedBytes (dialogue.closeOf (w .session .run) 1 (w .buffer))
-      unfolding laidDesk spokenSession laidOut closing written saidSession saidOf bytesSaid
+          → G (tooLong n H w) ≡ laidBytes w ++ feedBytes (dialogue.closeOf (w .session .run) 1 (w .buffer))
+      unfolding laidDesk spokenSession laidOut closing laidBytes saidSession saidOf bytesSaid
       closed H n short =
           off _ refl ∙ written-said (last (dialogue.closeOf (w .session .run) 1 (w .buffer))) (w .session .run) n (w .session .laid) H (w .request) (w .outcome) (w .buffer) (w .out) short fits
 
       -- its line feed never comes
       long-rest : (H : List ℕ) (n : ℕ) (rest : List ℕ) → heldBytes < length rest → AllShort (shown w [] rest) → Ends rest
-          → G (tooLong n H w) ≡ written w ++ view [] (shown w [] rest)
+          → G (tooLong n H w) ≡ laidBytes w ++ view [] (shown w [] rest)
       unfolding machineOf
       long-rest H n rest m a z =
           let c : dialogue.closeOf (w .session .run) (length rest) (w .buffer) ≡ dialogue.closeOf (w .session .run) 1 (w .buffer) = close-some (w .session .run) (length rest) (w .buffer) (omega arith) in
           let short : Short (dialogue.closeOf (w .session .run) 1 (w .buffer)) = rw c at (a .0) in
-          rw c (closed H n short ∙ ap (λ (l : List ℕ). written w ++ l) (sym (early rest _ z m)))
+          rw c (closed H n short ∙ ap (λ (l : List ℕ). laidBytes w ++ l) (sym (early rest _ z m)))
 
       -- its line feed comes later
       long-line : (H : List ℕ) (n : ℕ) (line : List ℕ) (lines : List (List ℕ)) (rest : List ℕ) → heldBytes < length line → AllShort (shown w (line ∷ lines) rest)
-          → G (tooLong n H w) ≡ written w ++ view (line ∷ lines) (shown w (line ∷ lines) rest)
+          → G (tooLong n H w) ≡ laidBytes w ++ view (line ∷ lines) (shown w (line ∷ lines) rest)
       unfolding machineOf thenSay
       long-line H n line lines rest m a =
           let x : List ℕ = dialogue.closeOf (w .session .run) 1 (w .buffer) in
@@ -175,7 +175,7 @@ module _ (view : List (List ℕ) → List (List ℕ) → List ℕ) (Ends : List 
           let y : length (w .outcome) * 2 < length line = omega (arith, good .sized .outcome) in
           let k : shown w (line ∷ lines) rest ≡ x ∷ [] = rw (long-says (w .session .run) line (w .request) (w .outcome) (w .buffer) r y) in
           let short : AllShort (x ∷ []) = subst AllShort k a in
-          closed H n (short .0) ∙ ap (λ (l : List ℕ). written w ++ l) (sym (ap (view (line ∷ lines)) k ∙ step line x lines [] ∙ rw (none lines) (append-nil (feedBytes x))))
+          closed H n (short .0) ∙ ap (λ (l : List ℕ). laidBytes w ++ l) (sym (ap (view (line ∷ lines)) k ∙ step line x lines [] ∙ rw (none lines) (append-nil (feedBytes x))))
 
       turn-long : (H : List ℕ) (n : ℕ) → heldBytes < length (before w) + length (beforeFeed (drop (w .session .at) chunk))
           → Lays (λ v. G (tooLong n H v)) w (drop (w .session .at) chunk ++ t)
@@ -184,9 +184,9 @@ module _ (view : List (List ℕ) → List (List ℕ) → List ℕ) (Ends : List 
           (λ c.
           let e : [] ≡ lines = sym (p ∙ c .0) in
           let m : heldBytes < length rest = subst (λ (l : List ℕ). heldBytes < length l) (sym q) (c .1) in
-          subst (λ (ls : List (List ℕ)). AllShort (shown w ls rest) → G (tooLong n H w) ≡ written w ++ view ls (shown w ls rest)) e (λ b. long-rest H n rest m b z) a)
+          subst (λ (ls : List (List ℕ)). AllShort (shown w ls rest) → G (tooLong n H w) ≡ laidBytes w ++ view ls (shown w ls rest)) e (λ b. long-rest H n rest m b z) a)
           (λ c.
-          subst (λ (ls : List (List ℕ)). AllShort (shown w ls rest) → G (tooLong n H w) ≡ written w ++ view ls (shown w ls rest)) (sym (p ∙ c .0)) (λ b. long-line H n _ _ rest (c .1) b) a)
+          subst (λ (ls : List (List ℕ)). AllShort (shown w ls rest) → G (tooLong n H w) ≡ laidBytes w ++ view ls (shown w ls rest)) (sym (p ∙ c .0)) (λ b. long-line H n _ _ rest (c .1) b) a)
           (long-input (before w) (drop (w .session .at) chunk) t heldBytes long)
 
       -- a line feed comes: the line that is whole, where it stands
@@ -204,7 +204,7 @@ module _ (view : List (List ℕ) → List (List ℕ) → List ℕ) (Ends : List 
           lines-append s t (before w) ∙ rw (m .0, m .1, h, ← i) (ap (λ (l : List (List ℕ)). (before w ++ beforeFeed s) ∷ l) (sym (lines-append (drop (suc k) s) t []))) in
           let y : restFrom (before w) (s ++ t) ≡ restFrom [] (drop next chunk ++ t) =
           rest-append s t (before w) ∙ rw (m .1, ← i) (sym (rest-append (drop (suc k) s) t [])) in
-          subst (λ (ls : List (List ℕ)). AllShort (shown w ls rest) → G (lineOf line next H w) ≡ written w ++ view ls (shown w ls rest)) (sym (p ∙ x))
+          subst (λ (ls : List (List ℕ)). AllShort (shown w ls rest) → G (lineOf line next H w) ≡ laidBytes w ++ view ls (shown w ls rest)) (sym (p ∙ x))
           (λ b. turn-line line H next (linesFrom [] (drop next chunk ++ t)) rest size (omega arith) (omega (arith, length-drop (w .session .at) chunk)) refl (q ∙ y) b z)
           a
 
@@ -232,7 +232,7 @@ module _ (view : List (List ℕ) → List (List ℕ) → List ℕ) (Ends : List 
               if i then took.Here k (w .session .at + k + 1) else took.Held (w .session .have + k) (w .session .at + k + 1)
 
           by : (f : Bool) → ltb (length (w .held)) (w .session .have + k) ≡ f → (g : Bool) → leb (length chunk - w .session .at) k ≡ g → (i : Bool) → eqb (w .session .have) 0 ≡ i
-              → G (turnBy (brought f g i) chunk (keptOf (brought f g i) (beforeFeed s) (w .held) (w .session .have)) w) ≡ written w ++ view lines (shown w lines rest)
+              → G (turnBy (brought f g i) chunk (keptOf (brought f g i) (beforeFeed s) (w .held) (w .session .have)) w) ≡ laidBytes w ++ view lines (shown w lines rest)
           by true e g d i o =
               let l : length (before w) ≡ w .session .have = length-take-le (w .session .have) (w .held) (omega (arith, good .sized .held, good .room)) in
               turn-long stored (length chunk) (omega (arith, ltb-true (length (w .held)) (w .session .have + k) e, good .sized .held)) lines rest p q a z
@@ -256,35 +256,35 @@ module _ (view : List (List ℕ) → List (List ℕ) → List ℕ) (Ends : List 
       (go : (v : Desk) → Good v → m < v .session .at → v .session .at ≤ length chunk → Gives M v (drop (v .session .at) chunk ++ t)) where
     -- the bytes that are laid, and those that come after them
     abbrev both : Desk → List ℕ
-    both v = written v ++ M v
+    both v = laidBytes v ++ M v
 
-    off-turns : (turns : ℕ) (v : Desk) → v .session .on ≡ false → both (turnsOf turns chunk v) ≡ written v
+    off-turns : (turns : ℕ) (v : Desk) → v .session .on ≡ false → both (turnsOf turns chunk v) ≡ laidBytes v
     unfolding turnsOf goesOn if_then_else_
-    off-turns zero v o = rw (off v o) (append-nil (written v))
+    off-turns zero v o = rw (off v o) (append-nil (laidBytes v))
     off-turns (suc turns) v o =
         let e : goesOn (v .session .on) (v .session .at) (length chunk) (v .session .laid) (length (v .out)) ≡ false =
         ap (λ (b : Bool). goesOn b (v .session .at) (length chunk) (v .session .laid) (length (v .out))) o in
-        rw (e, off v o) (append-nil (written v))
+        rw (e, off v o) (append-nil (laidBytes v))
 
     -- turn after turn
     turns-lay : (turns : ℕ) (w : Desk) → Good w → m < w .session .at → w .session .at ≤ length chunk
         → Lays (λ v. both (turnsOf turns chunk v)) w (drop (w .session .at) chunk ++ t)
     unfolding turnsOf if_then_else_
-    turns-lay zero w good lt le lines rest p q a z = ap (λ (l : List ℕ). written w ++ l) (go w good lt le lines rest p q a z)
+    turns-lay zero w good lt le lines rest p q a z = ap (λ (l : List ℕ). laidBytes w ++ l) (go w good lt le lines rest p q a z)
     turns-lay (suc turns) w good lt le lines rest p q a z =
         by (λ v g l k. turns-lay turns v g l k) (goesOn (w .session .on) (w .session .at) (length chunk) (w .session .laid) (length (w .out))) refl
       where
         by : ((v : Desk) → Good v → m < v .session .at → v .session .at ≤ length chunk → Lays (λ u. both (turnsOf turns chunk u)) v (drop (v .session .at) chunk ++ t))
             → (f : Bool) → goesOn (w .session .on) (w .session .at) (length chunk) (w .session .laid) (length (w .out)) ≡ f
-            → both (if f then turnsOf turns chunk (turnOf chunk w) else w) ≡ written w ++ view lines (shown w lines rest)
+            → both (if f then turnsOf turns chunk (turnOf chunk w) else w) ≡ laidBytes w ++ view lines (shown w lines rest)
         by next true e =
             let g = goes-on-inside (w .session .on) (w .session .at) (length chunk) (w .session .laid) (length (w .out)) e in
             turn (λ v. both (turnsOf turns chunk v)) (off-turns turns) chunk t w good (g .1) (g .2) (λ v k l n. next v k (omega arith) n) lines rest p q a z
-        by next false e = ap (λ (l : List ℕ). written w ++ l) (go w good lt le lines rest p q a z)
+        by next false e = ap (λ (l : List ℕ). laidBytes w ++ l) (go w good lt le lines rest p q a z)
 
     -- one `take`: it makes a turn at least
     pub take-gives : (w : Desk) → Good w → m ≡ w .session .at → w .session .at < length chunk → Gives (λ v. both (takeOf chunk v)) w (drop (w .session .at) chunk ++ t)
-    unfolding takeOf turnsOf atByte written goesOn if_then_else_
+    unfolding takeOf turnsOf atByte laidBytes goesOn if_then_else_
     take-gives w good start inside lines rest p q a z = by (length chunk) refl
       where
         fresh : Desk

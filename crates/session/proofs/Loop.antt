@@ -1,4 +1,4 @@
--- Wherever the loop may stand, what is written and what the chunk at hand still gives is what the chunks that were read give (`Chunks`).
+-- Wherever the loop may stand, what is laidBytes and what the chunk at hand still gives is what the chunks that were read give (`Chunks`).
 -- Assumes nothing.
 use Prim.Native.Nat.{ℕ, zero, suc, _+_, _≤_, _<_}
 use mathlib.Core.Path.{_≡_, refl, sym, ap, subst, _∙_}
@@ -18,7 +18,7 @@ use Rattle.dialogue.proofs.Room.{short-close}
 use Rattle.session.specs.declared.Session.{Session}
 use Rattle.session.specs.Session.{Desk, desk, heldBytes, longestLine, outBytes, Sized, startOf, atByte, saidSession, spokenSession, laidOut, closing, laidDesk, lineOf, turnBy, turnOf, goesOn, turnsOf, takeOf, endSession, endOut, endOf}
 use Rattle.session.specs.Output.{printed, printedSoFar}
-use Rattle.session.specs.Loop.{written, Fresh, deskAt, Ready, Turn, took, brought, ended, Reached, begun, turned, put, Turned, Standing}
+use Rattle.session.specs.Loop.{laidBytes, Fresh, deskAt, Ready, Round, answers, refills, ends, Reached, begun, round, put, OneRound, Standing}
 use Rattle.session.specs.Laws.{Begins, Writes}
 use Rattle.session.proofs.Laws.{goes-on-inside}
 use Rattle.session.proofs.Kept.{length-buffer, length-laid}
@@ -63,7 +63,7 @@ chunk-used (suc takes) chunk d more o h = rw (o, le-ltb (d .session .at) (length
 
 -- it lasts
 chunk-lasts : (takes : ℕ) (chunk : List ℕ) (d : Desk) (more : Desk → List ℕ) → d .session .on ≡ true → d .session .at < length chunk
-    → chunkOut (suc takes) chunk d more ≡ written (takeOf chunk d) ++ chunkOut takes chunk (takeOf chunk d) more
+    → chunkOut (suc takes) chunk d more ≡ laidBytes (takeOf chunk d) ++ chunkOut takes chunk (takeOf chunk d) more
 unfolding chunkOut if_then_else_
 chunk-lasts takes chunk d more o h = rw (o, lt-ltb (d .session .at) (length chunk) h)
 
@@ -81,8 +81,8 @@ unfolding chunksOut deskAt atByte
 blind-chunks final [] b v = rw (b v)
 blind-chunks final (chunk ∷ chunks) b v = refl
 
-blind-end : Blind (λ v. written (endOf v))
-unfolding deskAt atByte endOf endSession endOut written
+blind-end : Blind (λ v. laidBytes (endOf v))
+unfolding deskAt atByte endOf endSession endOut laidBytes
 blind-end v = refl
 
 concat-last : (chunks : List (List ℕ)) (chunk : List ℕ) → concat (chunks ++ (chunk ∷ [])) ≡ concat chunks ++ chunk
@@ -90,21 +90,21 @@ unfolding concat
 concat-last [] chunk = append-nil chunk
 concat-last (c ∷ chunks) chunk = rw (concat-last chunks chunk) (sym (append-assoc c (concat chunks) chunk))
 
-none-laid : (d : Desk) → d .session .laid ≡ 0 → written d ≡ []
-unfolding written
+none-laid : (d : Desk) → d .session .laid ≡ 0 → laidBytes d ≡ []
+unfolding laidBytes
 none-laid d e = rw e
 
 -- the end of the input gives a line
-end-some : (d : Desk) → d .session .on ≡ true → longestLine ≤ length (d .out) → length (d .buffer) ≤ 8192 → 0 < length (written (endOf d))
+end-some : (d : Desk) → d .session .on ≡ true → longestLine ≤ length (d .out) → length (d .buffer) ≤ 8192 → 0 < length (laidBytes (endOf d))
 unfolding endOf endSession endOut spokenSession laidOut closing bytesSaid if_then_else_
 end-some d o room small =
     let x : List ℕ = closeOf (d .session .run) (d .session .have) (d .buffer) in
     let short = short-close (d .session .run) (d .session .have) (d .buffer) small in
-    let e : written (endOf d) ≡ feedBytes x =
+    let e : laidBytes (endOf d) ≡ feedBytes x =
     rw o (written-said (last x) (d .session .run) (d .session .at) 0 (d .held) (d .request) (d .outcome) (d .buffer) (d .out) short (omega arith)) in
     rw (e, length-feed) (omega arith)
 
--- what is read came in chunks. What they and any further ones give is what is written and laid, and what the chunk at hand and those give
+-- what is read came in chunks. What they and any further ones give is what is laidBytes and laid, and what the chunk at hand and those give
 record Before (first : Desk) (read wrote chunk : List ℕ) (d : Desk) : Type 0 where
   chunks : List (List ℕ)
   all : concat chunks ≡ read
@@ -113,13 +113,13 @@ record Before (first : Desk) (read wrote chunk : List ℕ) (d : Desk) : Type 0 w
   room : longestLine ≤ length (d .out)
   buffer : length (d .buffer) ≤ 8192
   same : (final : Desk → List ℕ) (more : List (List ℕ)) → Blind final
-      → chunksOut final (chunks ++ more) first ≡ wrote ++ (written d ++ chunkOut takes chunk d (chunksOut final more))
+      → chunksOut final (chunks ++ more) first ≡ wrote ++ (laidBytes d ++ chunkOut takes chunk d (chunksOut final more))
 
 -- after the end
 record After (first : Desk) (read wrote : List ℕ) (d : Desk) : Type 0 where
   chunks : List (List ℕ)
   all : concat chunks ≡ read
-  same : bytesOut chunks first ≡ wrote ++ written d
+  same : bytesOut chunks first ≡ wrote ++ laidBytes d
 
 abbrev Stands : (first : Desk) (read wrote chunk : List ℕ) → Bool → Desk → Type 0
 Stands first read wrote chunk false d = Before first read wrote chunk d
@@ -127,7 +127,7 @@ Stands first read wrote chunk true d = After first read wrote d
 
 module _ (first : Desk) where
   at-begun : Fresh first → Before first [] [] [] first
-  unfolding startOf chunkOut concat written
+  unfolding startOf chunkOut concat laidBytes
   at-begun fresh = record {
     chunks = [];
     all = refl;
@@ -141,12 +141,12 @@ module _ (first : Desk) where
   }
 
   module _ (read wrote chunk : List ℕ) (d : Desk) (s : Before first read wrote chunk d) where
-    at-took : Ready d → d .session .at < length chunk → Before first (read ++ []) wrote chunk (takeOf chunk d)
-    at-took ready inside = by (s .takes) (s .enough) (s .same)
+    at-answers : Ready d → d .session .at < length chunk → Before first (read ++ []) wrote chunk (takeOf chunk d)
+    at-answers ready inside = by (s .takes) (s .enough) (s .same)
       where
         by : (n : ℕ) → length chunk ≤ n + d .session .at
             → ((final : Desk → List ℕ) (more : List (List ℕ)) → Blind final
-            → chunksOut final (s .chunks ++ more) first ≡ wrote ++ (written d ++ chunkOut n chunk d (chunksOut final more)))
+            → chunksOut final (s .chunks ++ more) first ≡ wrote ++ (laidBytes d ++ chunkOut n chunk d (chunksOut final more)))
             → Before first (read ++ []) wrote chunk (takeOf chunk d)
         by zero h same = absurd (omega arith)
         by (suc n) h same = record {
@@ -159,9 +159,9 @@ module _ (first : Desk) where
           same = λ final more b. same final more b ∙ rw (none-laid d (ready .clear), chunk-lasts n chunk d (chunksOut final more) (ready .on) inside);
         }
 
-    at-brought : (more : List ℕ) → Ready d → length chunk ≤ d .session .at → Before first (read ++ more) wrote more (deskAt 0 d)
-    unfolding deskAt atByte chunksOut written
-    at-brought more ready used = record {
+    at-refills : (more : List ℕ) → Ready d → length chunk ≤ d .session .at → Before first (read ++ more) wrote more (deskAt 0 d)
+    unfolding deskAt atByte chunksOut laidBytes
+    at-refills more ready used = record {
       chunks = s .chunks ++ (more ∷ []);
       all = concat-last (s .chunks) more ∙ rw (s .all);
       takes = length more;
@@ -173,23 +173,23 @@ module _ (first : Desk) where
           ∙ rw (none-laid d (ready .clear), chunk-used (s .takes) chunk d (chunksOut final (more ∷ rest)) (ready .on) used);
     }
 
-    at-end : Ready d → length chunk ≤ d .session .at → After first (read ++ []) wrote (endOf d)
+    at-ends : Ready d → length chunk ≤ d .session .at → After first (read ++ []) wrote (endOf d)
     unfolding bytesOut chunksOut if_then_else_
-    at-end ready used = record {
+    at-ends ready used = record {
       chunks = s .chunks;
       all = s .all ∙ sym (append-nil read);
       same =
-          ap (λ (l : List (List ℕ)). chunksOut (λ v. written (endOf v)) l first) (sym (append-nil (s .chunks))) ∙ s .same (λ v. written (endOf v)) [] blind-end
-          ∙ rw (none-laid d (ready .clear), chunk-used (s .takes) chunk d (chunksOut (λ v. written (endOf v)) []) (ready .on) used, ready .on);
+          ap (λ (l : List (List ℕ)). chunksOut (λ v. laidBytes (endOf v)) l first) (sym (append-nil (s .chunks))) ∙ s .same (λ v. laidBytes (endOf v)) [] blind-end
+          ∙ rw (none-laid d (ready .clear), chunk-used (s .takes) chunk d (chunksOut (λ v. laidBytes (endOf v)) []) (ready .on) used, ready .on);
     }
 
-    at-turn : {more next : List ℕ} {end : Bool} {v : Desk} → Ready d → Turn chunk d more next end v → Stands first (read ++ more) wrote next end v
-    at-turn ready (took inside) = at-took ready inside
-    at-turn ready (brought more used some) = at-brought more ready used
-    at-turn ready (ended used) = at-end ready used
+    at-round : {more next : List ℕ} {end : Bool} {v : Desk} → Ready d → Round chunk d more next end v → Stands first (read ++ more) wrote next end v
+    at-round ready (answers inside) = at-answers ready inside
+    at-round ready (refills more used some) = at-refills more ready used
+    at-round ready (ends used) = at-ends ready used
 
-    at-put : Before first read (wrote ++ written d) chunk (deskAt (d .session .at) d)
-    unfolding deskAt atByte written
+    at-put : Before first read (wrote ++ laidBytes d) chunk (deskAt (d .session .at) d)
+    unfolding deskAt atByte laidBytes
     at-put = record {
       chunks = s .chunks;
       all = s .all;
@@ -198,39 +198,39 @@ module _ (first : Desk) where
       room = s .room;
       buffer = s .buffer;
       same = λ final more b.
-          s .same final more b ∙ sym (append-assoc wrote (written d) _)
-          ∙ ap (λ (l : List ℕ). wrote ++ written d ++ l) (sym (blind-chunk (s .takes) chunk (chunksOut final more) (blind-chunks final more b) d));
+          s .same final more b ∙ sym (append-assoc wrote (laidBytes d) _)
+          ∙ ap (λ (l : List ℕ). wrote ++ laidBytes d ++ l) (sym (blind-chunk (s .takes) chunk (chunksOut final more) (blind-chunks final more b) d));
     }
 
-  put-end : (read wrote : List ℕ) (d : Desk) → After first read wrote d → After first read (wrote ++ written d) (deskAt (d .session .at) d)
-  unfolding deskAt atByte written
-  put-end read wrote d s = record { chunks = s .chunks; all = s .all; same = s .same ∙ sym (append-nil (wrote ++ written d)) }
+  put-end : (read wrote : List ℕ) (d : Desk) → After first read wrote d → After first read (wrote ++ laidBytes d) (deskAt (d .session .at) d)
+  unfolding deskAt atByte laidBytes
+  put-end read wrote d s = record { chunks = s .chunks; all = s .all; same = s .same ∙ sym (append-nil (wrote ++ laidBytes d)) }
 
-  put-either : (read wrote chunk : List ℕ) (end : Bool) (d : Desk) → Stands first read wrote chunk end d → Stands first read (wrote ++ written d) chunk end (deskAt (d .session .at) d)
+  put-either : (read wrote chunk : List ℕ) (end : Bool) (d : Desk) → Stands first read wrote chunk end d → Stands first read (wrote ++ laidBytes d) chunk end (deskAt (d .session .at) d)
   put-either read wrote chunk false d s = at-put read wrote chunk d s
   put-either read wrote chunk true d s = put-end read wrote d s
 
-  stands : Fresh first → {turns : ℕ} {read wrote chunk : List ℕ} {end : Bool} {d : Desk} → Reached first turns read wrote chunk end d → Stands first read wrote chunk end d
+  stands : Fresh first → {rounds : ℕ} {read wrote chunk : List ℕ} {end : Bool} {d : Desk} → Reached first rounds read wrote chunk end d → Stands first read wrote chunk end d
   stands fresh begun = at-begun fresh
-  stands fresh (turned r ready t) = at-turn _ _ _ _ (stands fresh r) ready t
+  stands fresh (round r ready t) = at-round _ _ _ _ (stands fresh r) ready t
   stands fresh (put {read = read} {wrote = wrote} {chunk = chunk} {end = end} {d = d} r) = put-either read wrote chunk end d (stands fresh r)
 
   module _ (fresh : Fresh first) (read wrote chunk : List ℕ) where
     all-before : (d : Desk) (s : Before first read wrote chunk d) (more : List ℕ)
-        → wrote ++ (written d ++ chunkOut (s .takes) chunk d (chunksOut (λ v. written (endOf v)) (more ∷ []))) ≡ printed (read ++ more)
+        → wrote ++ (laidBytes d ++ chunkOut (s .takes) chunk d (chunksOut (λ v. laidBytes (endOf v)) (more ∷ []))) ≡ printed (read ++ more)
     unfolding bytesOut
     all-before d s more =
-        sym (s .same (λ v. written (endOf v)) (more ∷ []) blind-end) ∙ whole-bench .whole (s .chunks ++ (more ∷ [])) first (fresh .sized) (fresh .start)
+        sym (s .same (λ v. laidBytes (endOf v)) (more ∷ []) blind-end) ∙ whole-bench .whole (s .chunks ++ (more ∷ [])) first (fresh .sized) (fresh .start)
         ∙ ap printed (concat-last (s .chunks) more ∙ rw (s .all))
 
-    all-after : (d : Desk) → After first read wrote d → (more : List ℕ) → more ≡ [] → wrote ++ written d ≡ printed (read ++ more)
+    all-after : (d : Desk) → After first read wrote d → (more : List ℕ) → more ≡ [] → wrote ++ laidBytes d ≡ printed (read ++ more)
     all-after d s more e = sym (s .same) ∙ whole-bench .whole (s .chunks) first (fresh .sized) (fresh .start) ∙ ap printed (s .all ∙ rw e (sym (append-nil read)))
 
     reads-all : (d : Desk) → Before first read wrote chunk d → Ready d → length chunk ≤ d .session .at → wrote ≡ printedSoFar read
     unfolding bytesSoFar chunksOut if_then_else_
     reads-all d s ready used =
         let e = s .same (λ v. []) [] (λ v. refl) in
-        let n : wrote ++ (written d ++ chunkOut (s .takes) chunk d (chunksOut (λ v. []) [])) ≡ wrote =
+        let n : wrote ++ (laidBytes d ++ chunkOut (s .takes) chunk d (chunksOut (λ v. []) [])) ≡ wrote =
         rw (none-laid d (ready .clear), chunk-used (s .takes) chunk d (chunksOut (λ v. []) []) (ready .on) used, ready .on) (append-nil wrote) in
         sym n ∙ sym e ∙ ap (λ (l : List (List ℕ)). chunksOut (λ v. []) l first) (append-nil (s .chunks))
         ∙ whole-bench .at-once (s .chunks) first (fresh .sized) (fresh .start) ∙ ap printedSoFar (s .all)
@@ -239,23 +239,23 @@ module _ (first : Desk) where
     waits-all : (d : Desk) → Before first read wrote chunk d → Ready d → length chunk ≤ d .session .at → length wrote < length (printed read)
     unfolding bytesOut chunksOut if_then_else_
     waits-all d s ready used =
-        let e : bytesOut (s .chunks) first ≡ wrote ++ written (endOf d) =
-        ap (λ (l : List (List ℕ)). chunksOut (λ v. written (endOf v)) l first) (sym (append-nil (s .chunks))) ∙ s .same (λ v. written (endOf v)) [] blind-end
-        ∙ rw (none-laid d (ready .clear), chunk-used (s .takes) chunk d (chunksOut (λ v. written (endOf v)) []) (ready .on) used, ready .on) in
-        let p : printed read ≡ wrote ++ written (endOf d) = ap printed (sym (s .all)) ∙ sym (whole-bench .whole (s .chunks) first (fresh .sized) (fresh .start)) ∙ e in
+        let e : bytesOut (s .chunks) first ≡ wrote ++ laidBytes (endOf d) =
+        ap (λ (l : List (List ℕ)). chunksOut (λ v. laidBytes (endOf v)) l first) (sym (append-nil (s .chunks))) ∙ s .same (λ v. laidBytes (endOf v)) [] blind-end
+        ∙ rw (none-laid d (ready .clear), chunk-used (s .takes) chunk d (chunksOut (λ v. laidBytes (endOf v)) []) (ready .on) used, ready .on) in
+        let p : printed read ≡ wrote ++ laidBytes (endOf d) = ap printed (sym (s .all)) ∙ sym (whole-bench .whole (s .chunks) first (fresh .sized) (fresh .start)) ∙ e in
         rw (p, length-append) (omega (arith, end-some d (ready .on) (s .room) (s .buffer)))
 
     over-all : (end : Bool) (d : Desk) → Stands first read wrote chunk end d → d .session .on ≡ false → d .session .laid ≡ 0 → (more : List ℕ) → (end ≡ true → more ≡ [])
         → wrote ≡ printed (read ++ more)
     over-all false d s o l more none =
-        let n : wrote ++ (written d ++ chunkOut (s .takes) chunk d (chunksOut (λ v. written (endOf v)) (more ∷ []))) ≡ wrote =
-        rw (none-laid d l, off-chunk (s .takes) chunk d (chunksOut (λ v. written (endOf v)) (more ∷ [])) (off-chunks (λ v. written (endOf v)) (more ∷ [])) o) (append-nil wrote) in
+        let n : wrote ++ (laidBytes d ++ chunkOut (s .takes) chunk d (chunksOut (λ v. laidBytes (endOf v)) (more ∷ []))) ≡ wrote =
+        rw (none-laid d l, off-chunk (s .takes) chunk d (chunksOut (λ v. laidBytes (endOf v)) (more ∷ [])) (off-chunks (λ v. laidBytes (endOf v)) (more ∷ [])) o) (append-nil wrote) in
         sym n ∙ all-before d s more
     over-all true d s o l more none = sym (append-nil wrote) ∙ ap (λ (x : List ℕ). wrote ++ x) (sym (none-laid d l)) ∙ all-after d s more (none refl)
 
     starts-all : (end : Bool) (d : Desk) → Stands first read wrote chunk end d → (more : List ℕ) → (end ≡ true → more ≡ []) → Begins wrote (printed (read ++ more))
     starts-all false d s more none = record { rest = _; same = all-before d s more }
-    starts-all true d s more none = record { rest = written d; same = all-after d s more (none refl) }
+    starts-all true d s more none = record { rest = laidBytes d; same = all-after d s more (none refl) }
 
 -- what a chunk gives, whatever follows it
 chunk-begins : (takes : ℕ) (chunk : List ℕ) (d : Desk) (none more : Desk → List ℕ) → ((v : Desk) → none v ≡ []) → Begins (chunkOut takes chunk d none) (chunkOut takes chunk d more)
@@ -265,9 +265,9 @@ chunk-begins (suc takes) chunk d none more n = by (d .session .on) (ltb (d .sess
   where
     by : (f g : Bool) → Begins (chunkOut takes chunk (takeOf chunk d) none) (chunkOut takes chunk (takeOf chunk d) more)
         → Begins
-        (if f then (if g then written (takeOf chunk d) ++ chunkOut takes chunk (takeOf chunk d) none else none d) else [])
-        (if f then (if g then written (takeOf chunk d) ++ chunkOut takes chunk (takeOf chunk d) more else more d) else [])
-    by true true b = record { rest = b .rest; same = append-assoc (written (takeOf chunk d)) _ (b .rest) ∙ ap (λ (l : List ℕ). written (takeOf chunk d) ++ l) (b .same) }
+        (if f then (if g then laidBytes (takeOf chunk d) ++ chunkOut takes chunk (takeOf chunk d) none else none d) else [])
+        (if f then (if g then laidBytes (takeOf chunk d) ++ chunkOut takes chunk (takeOf chunk d) more else more d) else [])
+    by true true b = record { rest = b .rest; same = append-assoc (laidBytes (takeOf chunk d)) _ (b .rest) ∙ ap (λ (l : List ℕ). laidBytes (takeOf chunk d) ++ l) (b .same) }
     by true false b = record { rest = more d; same = rw (n d) }
     by false g b = record { rest = []; same = refl }
 
@@ -308,10 +308,10 @@ two input more = rw (append-nil more)
 so-far-begins : (input more : List ℕ) → Begins (printedSoFar input) (printed (input ++ more)) × Begins (printedSoFar input) (printedSoFar (input ++ more))
 unfolding bytesOut bytesSoFar
 so-far-begins input more =
-    let a = one-begins (λ v. written (endOf v)) input (more ∷ []) in
+    let a = one-begins (λ v. laidBytes (endOf v)) input (more ∷ []) in
     let b = one-begins (λ v. []) input (more ∷ []) in
     let start : chunksOut (λ v. []) (input ∷ []) zeros ≡ printedSoFar input = one input in
-    let all : chunksOut (λ v. written (endOf v)) (input ∷ more ∷ []) zeros ≡ printed (input ++ more) =
+    let all : chunksOut (λ v. laidBytes (endOf v)) (input ∷ more ∷ []) zeros ≡ printed (input ++ more) =
     whole-bench .whole (input ∷ more ∷ []) zeros zeros-sized zeros-start ∙ ap printed (two input more) in
     let now : chunksOut (λ v. []) (input ∷ more ∷ []) zeros ≡ printedSoFar (input ++ more) =
     whole-bench .at-once (input ∷ more ∷ []) zeros zeros-sized zeros-start ∙ ap printedSoFar (two input more) in (
@@ -324,24 +324,24 @@ unfolding endOf endSession spokenSession closing saidSession saidOf if_then_else
 end-off d o = rw o
 
 -- a run that goes on has not come to the end of the input
-unended-turn : {chunk more next : List ℕ} {end : Bool} {d v : Desk} → Ready d → Turn chunk d more next end v → v .session .on ≡ true → end ≡ false
-unended-turn ready (took inside) o = refl
-unended-turn ready (brought more used some) o = refl
-unended-turn {d = d} ready (ended used) o = sym o ∙ end-off d (ready .on)
+unended-round : {chunk more next : List ℕ} {end : Bool} {d v : Desk} → Ready d → Round chunk d more next end v → v .session .on ≡ true → end ≡ false
+unended-round ready (answers inside) o = refl
+unended-round ready (refills more used some) o = refl
+unended-round {d = d} ready (ends used) o = sym o ∙ end-off d (ready .on)
 
-pub unended : {first : Desk} {turns : ℕ} {read wrote chunk : List ℕ} {end : Bool} {d : Desk} → Reached first turns read wrote chunk end d → d .session .on ≡ true → end ≡ false
+pub unended : {first : Desk} {rounds : ℕ} {read wrote chunk : List ℕ} {end : Bool} {d : Desk} → Reached first rounds read wrote chunk end d → d .session .on ≡ true → end ≡ false
 unfolding deskAt atByte
 unended begun o = refl
-unended (turned r ready t) o = unended-turn ready t o
+unended (round r ready t) o = unended-round ready t o
 unended (put r) o = unended r o
 
 -- the end of the input is followed by nothing but writes
-over-end : {first : Desk} {turns : ℕ} {read wrote chunk : List ℕ} {end : Bool} {d : Desk} → Reached first turns read wrote chunk end d → end ≡ true → d .session .on ≡ false
+over-end : {first : Desk} {rounds : ℕ} {read wrote chunk : List ℕ} {end : Bool} {d : Desk} → Reached first rounds read wrote chunk end d → end ≡ true → d .session .on ≡ false
 unfolding deskAt atByte
 over-end begun e = absurd (false≢true e)
-over-end (turned r ready (took inside)) e = absurd (false≢true e)
-over-end (turned r ready (brought more used some)) e = absurd (false≢true e)
-over-end (turned {d = d} r ready (ended used)) e = end-off d (ready .on)
+over-end (round r ready (answers inside)) e = absurd (false≢true e)
+over-end (round r ready (refills more used some)) e = absurd (false≢true e)
+over-end (round {d = d} r ready (ends used)) e = end-off d (ready .on)
 over-end (put r) e = over-end r e
 
 clear-desk : (d : Desk) → (deskAt (d .session .at) d .session .laid ≡ 0) × (deskAt (d .session .at) d .session .on ≡ d .session .on) × (deskAt (d .session .at) d .session .at ≡ d .session .at)
@@ -351,27 +351,27 @@ clear-desk d = (refl, refl, refl)
 -- the statement
 pub laws : Writes printed printedSoFar
 laws = record {
-  over = λ first fresh {turns} {read} {wrote} {chunk} {end} {d} r. over-all first fresh read wrote chunk end d (stands first fresh r);
-  reads = λ first fresh {turns} {read} {wrote} {chunk} {d} r. reads-all first fresh read wrote chunk d (stands first fresh r);
-  waits = λ first fresh {turns} {read} {wrote} {chunk} {d} r. waits-all first fresh read wrote chunk d (stands first fresh r);
-  ends = λ {first} {turns} {read} {wrote} {chunk} {d} r. over-end r refl;
-  advances = λ first fresh {turns} {read} {wrote} {chunk} {d} r ready inside. take-uses chunk d (stands first fresh r .room) (ready .on) inside;
+  over = λ first fresh {rounds} {read} {wrote} {chunk} {end} {d} r. over-all first fresh read wrote chunk end d (stands first fresh r);
+  reads = λ first fresh {rounds} {read} {wrote} {chunk} {d} r. reads-all first fresh read wrote chunk d (stands first fresh r);
+  waits = λ first fresh {rounds} {read} {wrote} {chunk} {d} r. waits-all first fresh read wrote chunk d (stands first fresh r);
+  ends = λ {first} {rounds} {read} {wrote} {chunk} {d} r. over-end r refl;
+  advances = λ first fresh {rounds} {read} {wrote} {chunk} {d} r ready inside. take-uses chunk d (stands first fresh r .room) (ready .on) inside;
   clears = clear-desk;
-  starts = λ first fresh {turns} {read} {wrote} {chunk} {end} {d} r. starts-all first fresh read wrote chunk end d (stands first fresh r);
+  starts = λ first fresh {rounds} {read} {wrote} {chunk} {end} {d} r. starts-all first fresh read wrote chunk end d (stands first fresh r);
   so-far = so-far-begins;
 }
 
--- ---- for the program: it stands a turn further
+-- ---- for the program: it stands a round further
 
 pub stands-first : (first : Desk) → Standing first 0 [] first
 stands-first first = record { read = []; wrote = []; end = false; reached = begun }
 
-pub stands-on : (first : Desk) (turns : ℕ) (chunk next : List ℕ) (d v : Desk) → Standing first turns chunk d → Ready d → Turned chunk d next v
-    → Standing first (suc turns) next v
-stands-on first turns chunk next d v s ready t =
-    let r : Reached first turns (s .read) (s .wrote) chunk false d =
-    subst (λ (b : Bool). Reached first turns (s .read) (s .wrote) chunk b d) (unended (s .reached) (ready .on)) (s .reached) in
-    record { read = s .read ++ t .more; wrote = s .wrote; end = t .end; reached = turned r ready (t .turn) }
+pub stands-on : (first : Desk) (rounds : ℕ) (chunk next : List ℕ) (d v : Desk) → Standing first rounds chunk d → Ready d → OneRound chunk d next v
+    → Standing first (suc rounds) next v
+stands-on first rounds chunk next d v s ready t =
+    let r : Reached first rounds (s .read) (s .wrote) chunk false d =
+    subst (λ (b : Bool). Reached first rounds (s .read) (s .wrote) chunk b d) (unended (s .reached) (ready .on)) (s .reached) in
+    record { read = s .read ++ t .more; wrote = s .wrote; end = t .end; reached = round r ready (t .round) }
 
-pub stands-put : (first : Desk) (turns : ℕ) (chunk : List ℕ) (d : Desk) → Standing first turns chunk d → Standing first turns chunk (deskAt (d .session .at) d)
-stands-put first turns chunk d s = record { read = s .read; wrote = s .wrote ++ written d; end = s .end; reached = put (s .reached) }
+pub stands-put : (first : Desk) (rounds : ℕ) (chunk : List ℕ) (d : Desk) → Standing first rounds chunk d → Standing first rounds chunk (deskAt (d .session .at) d)
+stands-put first rounds chunk d s = record { read = s .read; wrote = s .wrote ++ laidBytes d; end = s .end; reached = put (s .reached) }

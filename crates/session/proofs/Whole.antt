@@ -23,7 +23,7 @@ use Rattle.dialogue.proofs.Whole.{whole}
 use Rattle.session.specs.declared.Session.{Session}
 use Rattle.session.specs.Session.{Desk, desk, heldBytes, longestLine, Sized, startOf, atByte, spokenSession, laidOut, closing, turnOf, goesOn, turnsOf, takeOf, endSession, endOut, endOf}
 use Rattle.session.specs.Output.{printed, early, printedSoFar}
-use Rattle.session.specs.Loop.{written}
+use Rattle.session.specs.Loop.{laidBytes}
 use Rattle.session.proofs.Laws.{turn-uses, goes-on-inside}
 use Rattle.session.proofs.Chunks.{chunkOut, chunksOut, bytesOut, bytesSoFar, concat, WholeBench}
 use Rattle.session.proofs.EachTurn.{Good, shown, before, written-said, Gives, take-gives}
@@ -64,7 +64,7 @@ module _ (view : List (List ℕ) → List (List ℕ) → List ℕ) (Ends : List 
       by : ((v : Desk) → Good v → v .session .at ≤ length chunk → length chunk ≤ takes + v .session .at
           → Gives view Ends step none early (λ u. chunkOut takes chunk u more) v (drop (v .session .at) chunk ++ t))
           → (f : Bool) → ltb (w .session .at) (length chunk) ≡ f
-          → (if f then written (takeOf chunk w) ++ chunkOut takes chunk (takeOf chunk w) more else more w) ≡ view lines (shown w lines rest)
+          → (if f then laidBytes (takeOf chunk w) ++ chunkOut takes chunk (takeOf chunk w) more else more w) ≡ view lines (shown w lines rest)
       by next true e =
           take-gives view Ends step none early (λ v. chunkOut takes chunk v more) (λ v o. off-chunk takes chunk v more off o) chunk t (w .session .at)
           (λ v g lt at. next v g at (omega arith)) w good refl (ltb-true (w .session .at) (length chunk) e) lines rest p q a z
@@ -100,7 +100,7 @@ module _ (view : List (List ℕ) → List (List ℕ) → List ℕ) (Ends : List 
       chunks-give chunks w (record { sized = sized; room = omega arith; on = o }) lines rest (rw h) (rw h) (subst AllShort (sym m) (all-short lines rest)) z ∙ ap (view lines) m
 
 -- the last line, where the input has ended
-close-end : (w : Desk) (rest : List ℕ) → Good w → Unit {0} → rest ≡ before w → AllShort (shown w [] rest) → written (endOf w) ≡ feeds (shown w [] rest)
+close-end : (w : Desk) (rest : List ℕ) → Good w → Unit {0} → rest ≡ before w → AllShort (shown w [] rest) → laidBytes (endOf w) ≡ feeds (shown w [] rest)
 unfolding endOf endSession endOut spokenSession laidOut closing machineOf feeds dialogue.bytesSaid if_then_else_
 close-end w rest good z e a =
     let n : length rest ≡ w .session .have = ap length e ∙ length-take-le (w .session .have) (w .held) (omega (arith, good .room, good .sized .held)) in
@@ -119,7 +119,7 @@ none-so-far : (lines : List (List ℕ)) (n : ℕ) → feeds (take (length lines 
 unfolding feeds
 none-so-far lines n = rw (take-nil {A = List ℕ} (length lines + n))
 
--- nothing more is written where the line that is begun has room
+-- nothing more is laidBytes where the line that is begun has room
 early-none : (rest : List ℕ) → length rest ≤ heldBytes → early rest ≡ 0
 unfolding early if_then_else_
 early-none rest h = rw (le-ltb heldBytes (length rest) h)
@@ -176,7 +176,7 @@ unfolding bytesOut bytesSoFar printed printedSoFar feeds
 whole-bench = record {
   whole = λ chunks w sized e.
       gives-bench (λ lines more. feeds more) (λ rest. Unit {0}) (λ line x lines more. refl) (λ lines. refl) (λ rest x z h. append-nil (feedBytes x))
-      (λ v. written (endOf v)) close-end chunks w sized e tt;
+      (λ v. laidBytes (endOf v)) close-end chunks w sized e tt;
   at-once = λ chunks w sized e.
       let rest : List ℕ = restFrom [] (concat chunks) in
       gives-bench (λ lines more. feeds (take (length lines + early rest) more)) (λ r. r ≡ rest) (step-so-far (early rest)) (λ lines. none-so-far lines (early rest))

@@ -1,4 +1,4 @@
--- The program's loop, turn by turn: where it may stand, and what it has read and written there. (01, The bench program)
+-- The program's loop, round by round: where it may stand, and what it has read and laidBytes there. (01, The bench program)
 -- Assumes nothing.
 use Prim.Native.Nat.{ℕ, suc, _≤_, _<_}
 use mathlib.Core.Path.{_≡_}
@@ -7,9 +7,9 @@ use mathlib.Core.List.{List, [], _++_}
 use lib.ListN.{length, take}
 use Rattle.session.specs.Session.{Desk, desk, Sized, startOf, atByte, takeOf, endOf}
 
--- what is written: the bytes that are laid
-unfoldable pub written : Desk → List ℕ
-written d = take (d .session .laid) (d .out)
+-- what is laidBytes: the bytes that are laid
+unfoldable pub laidBytes : Desk → List ℕ
+laidBytes d = take (d .session .laid) (d .out)
 
 -- a session with nothing read yet, and arrays of the sizes that are lent
 pub record Fresh (d : Desk) : Type 0 where
@@ -20,38 +20,38 @@ pub record Fresh (d : Desk) : Type 0 where
 unfoldable pub deskAt : ℕ → Desk → Desk
 deskAt at d = desk (atByte (d .session) at) (d .held) (d .request) (d .outcome) (d .buffer) (d .out)
 
--- ready for a turn: the run goes on, and nothing is laid that is not written
+-- ready for a round: the run goes on, and nothing is laid that is not laidBytes
 pub record Ready (d : Desk) : Type 0 where
   pub on : d .session .on ≡ true
   pub clear : d .session .laid ≡ 0
 
--- one turn, from the chunk at hand: the bytes that it reads, the chunk that is at hand then, whether the input has ended, and the desk
-pub data Turn (chunk : List ℕ) (d : Desk) : List ℕ → List ℕ → Bool → Desk → Type 0 where
+-- one round, from the chunk at hand: the bytes that it reads, the chunk that is at hand then, whether the input has ends, and the desk
+pub data Round (chunk : List ℕ) (d : Desk) : List ℕ → List ℕ → Bool → Desk → Type 0 where
   -- lines of the chunk, while it lasts
-  took : d .session .at < length chunk → Turn chunk d [] chunk false (takeOf chunk d)
+  answers : d .session .at < length chunk → Round chunk d [] chunk false (takeOf chunk d)
   -- the next chunk, once this one is used up
-  brought : (more : List ℕ) → length chunk ≤ d .session .at → 0 < length more → Turn chunk d more more false (deskAt 0 d)
+  refills : (more : List ℕ) → length chunk ≤ d .session .at → 0 < length more → Round chunk d more more false (deskAt 0 d)
   -- or a read that brings nothing, which is the end of the input
-  ended : length chunk ≤ d .session .at → Turn chunk d [] [] true (endOf d)
+  ends : length chunk ≤ d .session .at → Round chunk d [] [] true (endOf d)
 
--- where the program may stand: the turns that it has made, all that it has read and written, the chunk at hand, whether the input has ended, and the desk
+-- where the program may stand: the rounds that it has made, all that it has read and laidBytes, the chunk at hand, whether the input has ends, and the desk
 pub data Reached (first : Desk) : ℕ → List ℕ → List ℕ → List ℕ → Bool → Desk → Type 0 where
   begun : Reached first 0 [] [] [] false first
-  turned : {turns : ℕ} {read wrote chunk more next : List ℕ} {end : Bool} {d v : Desk} → Reached first turns read wrote chunk false d → Ready d
-      → Turn chunk d more next end v → Reached first (suc turns) (read ++ more) wrote next end v
-  -- what is laid is written
-  put : {turns : ℕ} {read wrote chunk : List ℕ} {end : Bool} {d : Desk} → Reached first turns read wrote chunk end d
-      → Reached first turns read (wrote ++ written d) chunk end (deskAt (d .session .at) d)
+  round : {rounds : ℕ} {read wrote chunk more next : List ℕ} {end : Bool} {d v : Desk} → Reached first rounds read wrote chunk false d → Ready d
+      → Round chunk d more next end v → Reached first (suc rounds) (read ++ more) wrote next end v
+  -- what is laid is laidBytes
+  put : {rounds : ℕ} {read wrote chunk : List ℕ} {end : Bool} {d : Desk} → Reached first rounds read wrote chunk end d
+      → Reached first rounds read (wrote ++ laidBytes d) chunk end (deskAt (d .session .at) d)
 
--- a turn leads from a chunk and a desk to others
-pub record Turned (chunk : List ℕ) (d : Desk) (next : List ℕ) (v : Desk) : Type 0 where
+-- a round leads from a chunk and a desk to others
+pub record OneRound (chunk : List ℕ) (d : Desk) (next : List ℕ) (v : Desk) : Type 0 where
   pub more : List ℕ
   pub end : Bool
-  pub turn : Turn chunk d more next end v
+  pub round : Round chunk d more next end v
 
--- the program stands at a chunk and a desk, so many turns after its start
-pub record Standing (first : Desk) (turns : ℕ) (chunk : List ℕ) (d : Desk) : Type 0 where
+-- the program stands at a chunk and a desk, so many rounds after its start
+pub record Standing (first : Desk) (rounds : ℕ) (chunk : List ℕ) (d : Desk) : Type 0 where
   pub read : List ℕ
   pub wrote : List ℕ
   pub end : Bool
-  pub reached : Reached first turns read wrote chunk end d
+  pub reached : Reached first rounds read wrote chunk end d

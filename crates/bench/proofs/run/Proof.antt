@@ -1,11 +1,11 @@
--- `bench::run` meets its contract: the turns made and those left are all of them, and each that is made is a turn of `session`.
+-- `bench::run` meets its contract: the rounds made and those left are all of them, and each that is made is a round of `session`.
 -- Assumes nothing.
 use mathlib.Core.Path.{refl}
 use native.Mathlib.Omega.{arith}
 use borrow.Author.Needs.{needs}
 use borrow.Author.Tests.{not-true, not-false}
 use Rattle.session.specs.Session.{desk, startOf}
-use Rattle.bench.proofs.Laws.{Going, going-first, came-over, came-spent, came-unread, came-unwritten, goes-on}
+use Rattle.bench.proofs.Laws.{Going, going-first, stopped-over, stopped-spent, stopped-unread, stopped-unwritten, goes-on}
 use Rattle.bench.proofs.run.Statement.{statement}
 use Rattle.bench.proofs.run.Tie as tie
 
@@ -23,13 +23,13 @@ loop-holds : tie.Need-loop-holds Inv-loop μ-loop
 loop-holds c = rw (c .start .ensures) (going-first _ _ _ (record { sized = c .before .pre; start = refl }) (omega arith))
 
 returns : tie.Need-returns Inv-loop μ-loop
-returns c = came-over _ _ _ _ _ (c .before .before .before .loop .inv) (not-true _ (c .if1 .taken))
+returns c = stopped-over _ _ _ _ _ (c .before .before .before .loop .inv) (not-true _ (c .if1 .taken))
 
-turn-requires : tie.Need-turn-requires Inv-loop μ-loop
-turn-requires c κs = c .before .before .before .before .before .before .before .before .before .loop .inv .fits
+round-requires : tie.Need-round-requires Inv-loop μ-loop
+round-requires c κs = c .before .before .before .before .before .before .before .before .before .loop .inv .fits
 
 returns-2 : tie.Need-returns-2 Inv-loop μ-loop
-returns-2 c = came-unread _ _ _ _ _ (c .before .before .before .before .before .before .before .before .before .before .before .before .before .loop .inv) (not-false _ (c .before .before .before .before .before .before .before .before .before .before .if1 .left)) _ _ _ (c .before .before .before .turn .ensures) (not-true _ (c .if2 .taken))
+returns-2 c = stopped-unread _ _ _ _ _ (c .before .before .before .before .before .before .before .before .before .before .before .before .before .loop .inv) (not-false _ (c .before .before .before .before .before .before .before .before .before .before .if1 .left)) _ _ _ (c .before .before .before .round .ensures) (not-true _ (c .if2 .taken))
 
 sub-left : tie.Need-sub-left Inv-loop μ-loop
 sub-left c = omega (arith, c .before .before .before .before .before .before .before .before .before .before .before .before .loop-test .taken)
@@ -39,7 +39,7 @@ write-requires c κs = search needs
 
 returns-3 : tie.Need-returns-3 Inv-loop μ-loop
 returns-3 c =
-    came-unwritten _ _ _ _ _ (c .before .before .before .before .before .before .before .before .before .before .before .before .before .before .before .before .before .loop .inv) (not-false _ (c .before .before .before .before .before .before .before .before .before .before .before .before .before .before .if1 .left)) _ _ _ (c .before .before .before .before .before .before .before .turn .ensures) (not-false _ (c .before .before .before .before .if2 .left))
+    stopped-unwritten _ _ _ _ _ (c .before .before .before .before .before .before .before .before .before .before .before .before .before .before .before .before .before .loop .inv) (not-false _ (c .before .before .before .before .before .before .before .before .before .before .before .before .before .before .if1 .left)) _ _ _ (c .before .before .before .before .before .before .before .round .ensures) (not-false _ (c .before .before .before .before .if2 .left))
     (omega (arith, c .before .before .before .before .before .before .before .before .before .before .before .before .before .before .before .before .loop-test .taken))
 
 loop-less : tie.Need-loop-less Inv-loop μ-loop
@@ -47,11 +47,11 @@ loop-less c = omega (arith, c .before .before .before .before .before .before .b
 
 loop-again : tie.Need-loop-again Inv-loop μ-loop
 loop-again c =
-    goes-on _ _ _ _ _ (c .before .before .before .before .before .before .before .before .before .before .before .before .before .before .before .before .before .before .loop .inv) (not-false _ (c .before .before .before .before .before .before .before .before .before .before .before .before .before .before .before .if1 .left)) _ _ _ (c .before .before .before .before .before .before .before .before .turn .ensures) (not-false _ (c .before .before .before .before .before .if2 .left))
+    goes-on _ _ _ _ _ (c .before .before .before .before .before .before .before .before .before .before .before .before .before .before .before .before .before .before .loop .inv) (not-false _ (c .before .before .before .before .before .before .before .before .before .before .before .before .before .before .before .if1 .left)) _ _ _ (c .before .before .before .before .before .before .before .before .round .ensures) (not-false _ (c .before .before .before .before .before .if2 .left))
     (omega (arith, c .before .before .before .before .before .before .before .before .before .before .before .before .before .before .before .before .before .loop-test .taken)) _ (c .before .before .before .write .ensures (not-false _ (c .before .if3 .left)))
 
 returns-4 : tie.Need-returns-4 Inv-loop μ-loop
-returns-4 c = came-spent _ _ _ _ _ (c .before .loop .inv) (omega (arith, c .loop-test .left))
+returns-4 c = stopped-spent _ _ _ _ _ (c .before .loop .inv) (omega (arith, c .loop-test .left))
 
 pub run-spec : {M : Type 1} → statement M
 run-spec =
@@ -62,7 +62,7 @@ run-spec =
     start-requires
     loop-holds
     returns
-    turn-requires
+    round-requires
     returns-2
     sub-left
     write-requires

@@ -1,13 +1,13 @@
--- `bench::turn` meets its contract: each way through it is a turn of `session`, or a read that failed.
+-- `bench::round` meets its contract: each way through it is a round of `session`, or a read that failed.
 -- Assumes nothing.
 use mathlib.Core.Path.{subst}
 use native.Mathlib.Omega.{arith}
 use borrow.Author.Needs.{needs}
 use Rattle.bench.specs.declared.Brought.{Brought}
 use Rattle.bench.specs.Ending.{Brings}
-use Rattle.bench.proofs.Laws.{took-makes, brought-makes, ended-makes, failed-makes}
-use Rattle.bench.proofs.turn.Statement.{statement}
-use Rattle.bench.proofs.turn.Tie as tie
+use Rattle.bench.proofs.Laws.{answers-makes, refills-makes, ends-makes, failed-makes}
+use Rattle.bench.proofs.round.Statement.{statement}
+use Rattle.bench.proofs.round.Tie as tie
 
 take-requires : tie.Need-take-requires
 take-requires c κs = search needs
@@ -15,7 +15,7 @@ take-requires c κs = search needs
 returns : tie.Need-returns
 returns c =
     let a = c .before .before .before .before .before .before .before .before .before .args in
-    took-makes (a .chunk .now) (a .n) _ _ _ (search needs) (search needs) (c .take .ensures)
+    answers-makes (a .chunk .now) (a .n) _ _ _ (search needs) (search needs) (c .take .ensures)
 
 read-requires : tie.Need-read-requires
 read-requires c κs = search needs
@@ -39,20 +39,20 @@ returns-2 : tie.Need-returns-2
 returns-2 c =
     let a = c .before .before .before .before .before .before .before .before .args in
     let b = subst (λ (b : Brought). Brings b (c .before .before .before .before .read .last .0)) (c .before .before .k .given .1) (c .before .before .before .before .read .ensures) in
-    brought-makes (a .chunk .now) (a .n) _ _ _ _ (search needs) (omega (arith, b .0)) (omega (arith, b .1)) (c .next-chunk .ensures)
+    refills-makes (a .chunk .now) (a .n) _ _ _ _ (search needs) (omega (arith, b .0)) (omega (arith, b .1)) (c .next-chunk .ensures)
 
 returns-3 : tie.Need-returns-3
 returns-3 c =
     let a = c .before .before .before .before .before .before .before .before .before .args in
-    ended-makes (a .chunk .now) (a .n) _ _ _ _ (search needs) (c .end .ensures .0) (c .end .ensures .1)
+    ends-makes (a .chunk .now) (a .n) _ _ _ _ (search needs) (c .end .ensures .0) (c .end .ensures .1)
 
 returns-4 : tie.Need-returns-4
 returns-4 c =
     let a = c .before .before .before .before .before .before .args in
     failed-makes (a .chunk .now) (a .n) _ _ (search needs)
 
-pub turn-spec : {M : Type 1} → statement M
-turn-spec =
+pub round-spec : {M : Type 1} → statement M
+round-spec =
     tie.close
     (tie.spec
     take-requires
