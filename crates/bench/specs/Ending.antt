@@ -44,7 +44,7 @@ pub record Stopped (r : Stop) (first d : Desk) : Type 0 where
   pub standing : Standing first rounds chunk d
   pub how : How (r .ending) (r .left) chunk d
 
--- what is written at an end, for all that the input may go on with; after its end that is nothing
+-- what is written at an end; `more` is what the input may still bring
 pub record Ends : Type 0 where
   -- a run that is over has written what the Rust does with the whole input
   pub over : (r : Stop) (first d : Desk) (c : Stopped r first d) → r .ending ≡ ending.Over → (more : List ℕ) → (c .standing .end ≡ true → more ≡ [])

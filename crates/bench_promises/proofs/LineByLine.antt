@@ -28,7 +28,7 @@ use Rattle.session.specs.Laws.{Begins, Writes}
 use Rattle.session.proofs.Loop.{laws}
 use Rattle.bench_promises.specs.Numbers.{number, field}
 use Rattle.bench_promises.specs.Kinds.{Row, rows, Asked, bad, call, askedBy, askedAmong, settings, askedIn}
-use Rattle.bench_promises.specs.RustBench.{stopped, acknowledgedBy, errorBy, timeoutBy, heardIn, runAsked, rustBench, rustPrinted, longest, rustSoFar}
+use Rattle.bench_promises.specs.RustBench.{stopped, acknowledgedBy, errorBy, timeoutBy, heardIn, runAsked, rustBench, rustPrinted, longestDigits, rustSoFar}
 use Rattle.bench_promises.specs.LineByLine.{Longest, LineByLine}
 use Rattle.bench_promises.proofs.Said.{end-said, read-back}
 use Rattle.bench_promises.proofs.Asked.{pair-at, settings-of}
@@ -71,7 +71,7 @@ soon-printed input =
 
 -- ---- the longest line
 
--- a line of more digits has no bytes, or more than twice as few
+-- a line of more than 2 n digits has no bytes, or more than n
 long-bytes : (line : List ℕ) (n : ℕ) → n * 2 < length line → (P : List ℕ → Type 0) → P [] → ((s : List ℕ) → n < length s → P s) → P (lineBytes line)
 unfolding lineBytes if_then_else_
 long-bytes line n h P none some = by (eqb (length (bytesOf line) * 2) (length line)) refl
@@ -155,7 +155,7 @@ command-asked : isBad (askedIn command) ≡ false
 unfolding askedIn askedAmong askedBy number if_then_else_ isBad
 command-asked = refl
 
-longest-line : Longest longest
+longest-line : Longest longestDigits
 unfolding askedIn heardIn isBad if_then_else_
 longest-line = record {
   line = hexOf command;
@@ -182,6 +182,6 @@ writes = record {
       );
 }
 
--- THE BENCH IS THE RUST
+-- the statement
 pub line-by-line : LineByLine
 line-by-line = record { lines = each-line; writes = writes; digits = hexadecimal; figures = read-back; longest = longest-line }

@@ -2,7 +2,7 @@
 -- Assumes nothing.
 use Prim.Native.Nat.{ℕ, _+_, _-_, _≤_, _<_}
 use mathlib.Core.Path.{_≡_, refl, sym, ap, _∙_}
-use mathlib.Core.Bool.{Bool, true, false, false≢true}
+use mathlib.Core.Bool.{Bool, true, false, not, false≢true}
 use mathlib.Core.List.{List, [], _∷_}
 use native.Mathlib.Omega.{arith}
 use lib.ListN.{length, drop, getD, replicate, length-replicate, drop-of-length-le}
@@ -38,7 +38,7 @@ use Rattle.bench_promises.proofs.Said.{end-said}
 use Rattle.bench_promises.proofs.Follow.{lent, follow}
 use Rattle.bench_promises.proofs.Asked.{byte-at, pair-at, quad-at, missing, long, wide, called, other, exact}
 
--- the row at a place of the table
+-- row i of the table, that of kind i + 1
 abbrev row : ℕ → Row
 row i = getD rows i (record { kind = 0; fixed = 0; least = 0; most = 0; size = λ s. 0; call = λ config s p b os. Err answer.BadLine begun os leaving b })
 
@@ -160,14 +160,12 @@ module _ (line : List ℕ) (lines : List (List ℕ)) (rest : List ℕ) (c : Conf
   either-read false x y f h g = sym (g refl)
 
   unlike-not : (n : ℕ) (s : List ℕ) → unlike n s ≡ true → length s ≡ n → ⊥
-  unfolding if_then_else_
   unlike-not n s h e = false≢true (rw (eq-eqb (length s) n e) at h)
 
   unlike-same : (n : ℕ) (s : List ℕ) → unlike n s ≡ false → length s ≡ n
-  unfolding if_then_else_
   unlike-same n s = by (eqb (length s) n) refl
     where
-      by : (t : Bool) → eqb (length s) n ≡ t → (if t then false else true) ≡ false → length s ≡ n
+      by : (t : Bool) → eqb (length s) n ≡ t → not t ≡ false → length s ≡ n
       by true e h = eqb-true (length s) n e
       by false e h = absurd (false≢true (sym h))
 
@@ -176,11 +174,11 @@ module _ (line : List ℕ) (lines : List (List ℕ)) (rest : List ℕ) (c : Conf
     unfolding zeros
     steady i = refl
 
-    e : (os : List BusOutcome) → EqualByKind c 39 lent os
-    e os = equal-by-kind c small 39 (omega arith) lent steady os
+    by-kind : (os : List BusOutcome) → EqualByKind c 39 lent os
+    by-kind os = equal-by-kind c small 39 (omega arith) lent steady os
 
-    f : (os : List BusOutcome) → Equal c 39 lent os
-    f os = equal c small 39 (omega arith) lent steady os
+    by-name : (os : List BusOutcome) → Equal c 39 lent os
+    by-name os = equal c small 39 (omega arith) lent steady os
 
     small-buffer : (row : Row) → Within row → length (buffer row) ≤ 18446744073709551615
     small-buffer row w = rw (length-replicate {A = ℕ} (row .size args) 0xA5) (omega (arith, w .size))
@@ -189,10 +187,10 @@ module _ (line : List ℕ) (lines : List (List ℕ)) (rest : List ℕ) (c : Conf
     all-bytes i = rw (getD-drop 4 line i 0) (bytes (4 + i))
 
     same : (row : Row) (k : Kind) (os : List BusOutcome) → Defined k c (payload row) (buffer row) → rustOf k c (payload row) (buffer row) os ≡ fedAs row k os
-    same row k os d = sym (e os .same k (payload row) (buffer row) d)
+    same row k os d = sym (by-kind os .same k (payload row) (buffer row) d)
 
     added : (row : Row) (k : Kind) (os : List BusOutcome) (a : Answer) → Added c (payload row) (buffer row) k a → fedAs row k os ≡ (Err a begun os leaving buffer row)
-    added row k os a d = e os .added k (payload row) (buffer row) a d
+    added row k os a d = by-kind os .added k (payload row) (buffer row) a d
 
     own-size : (n : ℕ) → length (replicate {A = ℕ} n 0xA5) ≡ n
     own-size n = length-replicate {A = ℕ} n 0xA5
@@ -299,7 +297,7 @@ module _ (line : List ℕ) (lines : List (List ℕ)) (rest : List ℕ) (c : Conf
     write-charging-voltage-override : Same (exactOf kind.WriteChargingVoltageOverride c 0 10 0 (length args)) (askedBy (row 19) c args)
     write-charging-voltage-override =
         one (row 19) kind.WriteChargingVoltageOverride 10 0 (omega arith) refl refl (λ h. refl)
-        (λ w os. rw (← f os .override-figures (payload (row 19))) (same (row 19) _ os (omega (arith, w .least, w .most), all-bytes)))
+        (λ w os. rw (← by-name os .override-figures (payload (row 19))) (same (row 19) _ os (omega (arith, w .least, w .most), all-bytes)))
 
     write-with-retries : Same (calledOf kind.WriteWithRetries c 0 0 (length args)) (askedBy (row 20) c args)
     write-with-retries =

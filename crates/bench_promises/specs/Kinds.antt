@@ -1,7 +1,7 @@
 -- The kinds of docs/BENCH.md, one to a row: its arguments, and the Rust's function that they are for. (01, The bench program)
 -- Assumes nothing.
 use Prim.Native.Nat.{ℕ, _-_}
-use mathlib.Core.Bool.{Bool, true, false, _||_}
+use mathlib.Core.Bool.{Bool, not, _||_}
 use mathlib.Core.List.{List, [], _∷_}
 use lib.ListN.{length, drop, getD, replicate}
 use lib.Dec.{ltb, eqb}
@@ -14,13 +14,16 @@ use Rattle.original.specs.OriginalInterface as rust
 use Rattle.original.specs.OriginalR5 as rust-r5
 use Rattle.bench_promises.specs.Numbers.{field}
 
--- a kind: the bytes of its arguments before the payload, the fewest and the most bytes of payload, the length of its buffer by the arguments, and the call
 pub record Row : Type 0 where
   pub kind : ℕ
+  -- the bytes of its arguments before the payload
   pub fixed : ℕ
+  -- the fewest and the most bytes of payload
   pub least : ℕ
   pub most : ℕ
+  -- the length of its buffer, by the arguments
   pub size : List ℕ → ℕ
+  -- the Rust's function of its name
   pub call : Config → (arguments payload buffer : List ℕ) → List BusOutcome → Read
 
 -- a call that writes the rest of the line, with no buffer
@@ -62,8 +65,9 @@ refusedIf refused a log os came = if refused then Err a log os else came
 
 -- another length than n
 abbrev pub unlike : ℕ → List ℕ → Bool
-unlike n s = if eqb (length s) n then false else true
+unlike n s = not (eqb (length s) n)
 
+-- the table of docs/BENCH.md
 abbrev pub rows : List Row
 rows =
     writes 0x01 2 (λ config arguments payload. rust-r5.writeDataflash config (field 0 2 arguments) payload)

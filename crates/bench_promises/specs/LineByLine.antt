@@ -12,7 +12,7 @@ use Rattle.dialogue.specs.Bench.{benchOf}
 use Rattle.session.specs.Laws.{Writes}
 use Rattle.bench_promises.specs.Numbers.{ReadBack}
 use Rattle.bench_promises.specs.Kinds.{bad, askedIn}
-use Rattle.bench_promises.specs.RustBench.{stopped, heardIn, rustBench, rustPrinted, longest, rustSoFar}
+use Rattle.bench_promises.specs.RustBench.{stopped, heardIn, rustBench, rustPrinted, longestDigits, rustSoFar}
 
 -- some line of this many digits is valid, and every longer one is bad, as a request and as an outcome
 pub record Longest (digits : ℕ) : Type 0 where
@@ -29,6 +29,7 @@ pub record LineByLine : Type 0 where
   pub writes : Writes rustPrinted rustSoFar
   -- in upper-case hexadecimal
   pub digits : Hexadecimal
-  -- each figure that is printed is read back as what it was
+  -- each figure that its bytes can hold is read back as what it was
   pub figures : ReadBack
-  pub longest : Longest longest
+  -- the longest line
+  pub longest : Longest longestDigits

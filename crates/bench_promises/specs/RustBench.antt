@@ -1,4 +1,4 @@
--- The bench program as the Rust has it: the transfers that its function lists for the outcomes, then its answer, waits and buffer. (01, The bench program)
+-- The bench program over the Rust's functions: the transfers that its function lists for the outcomes, then its answer, waits and buffer. (01, The bench program)
 -- Assumes nothing.
 use Prim.Native.Nat.{ℕ, _+_}
 use mathlib.Core.List.{List, [], _∷_, _++_}
@@ -73,11 +73,15 @@ lastAsks (t ∷ u ∷ ts) = lastAsks (u ∷ ts)
 
 -- ---- the run
 
+-- the transfers that were made, and a last line
+abbrev closed : Log → List ℕ → List (List ℕ)
+closed log line = transferLines (log .transfers) ++ (line ∷ [])
+
 -- a function of the Rust that is given all outcomes so far has ended, or it waits for the one of its last transfer
 infixr 10 cameTo_waiting_
 unfoldable pub cameTo_waiting_ : Read → (Log → List ℕ → List (List ℕ)) → List (List ℕ)
-cameTo (Ok log os leaving buffer) waiting f = transferLines (log .transfers) ++ (endLine answer.Done (log .waits) buffer ∷ [])
-cameTo (Err a log os leaving buffer) waiting f = transferLines (log .transfers) ++ (endLine a (log .waits) buffer ∷ [])
+cameTo (Ok log os leaving buffer) waiting f = closed log (endLine answer.Done (log .waits) buffer)
+cameTo (Err a log os leaving buffer) waiting f = closed log (endLine a (log .waits) buffer)
 cameTo (Waiting log leaving buffer) waiting f = f log buffer
 
 infixr 10 heard_goes_stops_
@@ -89,12 +93,12 @@ heard stopped a goes f stops g = g a
 unfoldable pub runOf : (List BusOutcome → Read) → (os : List BusOutcome) → (lines : List (List ℕ)) → (rest : List ℕ) → List (List ℕ)
 runOf rust os [] rest =
     cameTo rust os
-    waiting (λ log buffer. transferLines (log .transfers) ++ (cutLine rest (log .waits) buffer ∷ []))
+    waiting (λ log buffer. closed log (cutLine rest (log .waits) buffer))
 runOf rust os (line ∷ lines) rest =
     cameTo rust os
     waiting (λ log buffer. heard heardIn (lastAsks (log .transfers)) (lineBytes line)
     goes (λ o. runOf rust (os ++ (o ∷ [])) lines rest)
-    stops (λ a. transferLines (log .transfers) ++ (endLine a (log .waits) buffer ∷ [])))
+    stops (λ a. closed log (endLine a (log .waits) buffer)))
 
 -- a bad request line has no waits and no buffer
 unfoldable pub runAsked : Asked → List (List ℕ) → List ℕ → List (List ℕ)
@@ -111,10 +115,13 @@ unfoldable pub rustPrinted : List ℕ → List ℕ
 rustPrinted input = feeds (rustBench (linesFrom [] input) (restFrom [] input))
 
 -- the digits of the longest line that is valid
-abbrev pub longest : ℕ
-longest = 16404
+abbrev pub longestDigits : ℕ
+longestDigits = 16404
+
+-- one line more, where what follows the last line feed is already longer
+abbrev early : List ℕ → ℕ
+early rest = if ltb longestDigits (length rest) then 1 else 0
 
 -- the same for an input that may go on: a line for each line that is whole, and for one that is begun and is too long already
 unfoldable pub rustSoFar : List ℕ → List ℕ
-rustSoFar input =
-    feeds (take (length (linesFrom [] input) + (if ltb longest (length (restFrom [] input)) then 1 else 0)) (rustBench (linesFrom [] input) (restFrom [] input)))
+rustSoFar input = feeds (take (length (linesFrom [] input) + early (restFrom [] input)) (rustBench (linesFrom [] input) (restFrom [] input)))

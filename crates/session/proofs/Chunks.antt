@@ -38,7 +38,7 @@ unfoldable pub concat : List (List ℕ) → List ℕ
 concat [] = []
 concat (chunk ∷ chunks) = chunk ++ concat chunks
 
--- however the input is cut into chunks, and whatever the lent arrays hold at first, that is what document 01 says of the whole input; and no line is held back
+-- however the input is cut into chunks, and whatever the lent arrays hold at first, that is what is printed for the whole input; and no line is held back
 pub record WholeBench : Type 0 where
   pub whole : (chunks : List (List ℕ)) (d : Desk) → Sized d → d .session ≡ startOf → bytesOut chunks d ≡ printed (concat chunks)
   pub at-once : (chunks : List (List ℕ)) (d : Desk) → Sized d → d .session ≡ startOf → bytesSoFar chunks d ≡ printedSoFar (concat chunks)

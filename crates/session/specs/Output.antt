@@ -10,7 +10,7 @@ use Rattle.hex.specs.Line.{feeds}
 use Rattle.dialogue.specs.Bench.{benchOf}
 use Rattle.session.specs.Session.{heldBytes}
 
--- what document 01 has the bench program write for an input
+-- what is printed for an input, by the calls' own definitions
 unfoldable pub printed : List ℕ → List ℕ
 printed input = feeds (benchOf (linesFrom [] input) (restFrom [] input))
 

@@ -159,7 +159,7 @@ runs =
     ((0x00 ∷ 0xAA ∷ 0xBB ∷ 0x6D ∷ []) ∷ (0xFE ∷ 0x00 ∷ 0x00 ∷ 0x00 ∷ 0x00 ∷ []) ∷ [])
     ∷ []
 
--- what document 01 has the program write, for each of them
+-- each input is printed as its row says
 abbrev pub Hold : List Run → Type 0
 Hold [] = Unit {0}
 Hold (text input output ∷ more) = (printed (ascii input) ≡ ascii output) × Hold more
