@@ -7,7 +7,8 @@ use mathlib.Core.List.{List, []}
 use native.Mathlib.Omega.{arith}
 use lib.ListN.{length, take, length-take}
 use Rattle.session.specs.declared.Session.{Session}
-use Rattle.session.specs.Session.{Desk, desk, startOf, atByte, takeOf, endSession, endOut, endOf}
+use Rattle.session.specs.Desk.{Desk, desk}
+use Rattle.session.specs.Session.{startOf, atByte, takeOf, endSession, endOut, endOf}
 use Rattle.session.specs.Loop.{Fresh, deskAt, answers, refills, ends, OneRound, Standing}
 use Rattle.session.proofs.Loop.{stands-first, stands-on, stands-put}
 use Rattle.bench.specs.declared.After.{After}

@@ -5,7 +5,7 @@ use mathlib.Core.Path.{_≡_}
 use mathlib.Core.Bool.{true, false}
 use mathlib.Core.List.{List, [], _++_}
 use lib.ListN.{length, take}
-use Rattle.session.specs.Session.{Desk}
+use Rattle.session.specs.Desk.{Desk}
 use Rattle.session.specs.Loop.{Fresh, Ready, OneRound, Standing}
 use Rattle.session.specs.Laws.{Begins}
 use Rattle.bench_promises.specs.RustBench.{rustPrinted, rustSoFar}

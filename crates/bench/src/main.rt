@@ -12,7 +12,8 @@ ghost use mathlib.Core.Path.{_≡_};
 ghost use mathlib.Core.Bool.{true};
 ghost use Prim.Native.Nat.{_≤_};
 ghost use lib.ListN.{length, take as front};
-ghost use Rattle.session.specs.Session.{desk, Sized, startOf, atByte, takeOf};
+ghost use Rattle.session.specs.Desk.{desk, Sized};
+ghost use Rattle.session.specs.Session.{startOf, atByte, takeOf};
 ghost use Rattle.bench.specs.Ending.{Brings, Makes, Stopped};
 
 // What a read brought.

@@ -6,7 +6,8 @@ use mathlib.Core.List.{List, [], _∷_, _++_}
 use lib.ListN.{length}
 use lib.Dec.{ltb}
 use Rattle.protocol.specs.Pick.{if_then_else_}
-use Rattle.session.specs.Session.{Desk, desk, Sized, startOf, atByte, takeOf, endOf}
+use Rattle.session.specs.Desk.{Desk, desk, Sized}
+use Rattle.session.specs.Session.{startOf, atByte, takeOf, endOf}
 use Rattle.session.specs.Output.{printed, printedSoFar}
 use Rattle.session.specs.Loop.{laidBytes}
 

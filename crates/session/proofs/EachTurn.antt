@@ -27,7 +27,8 @@ use Rattle.dialogue.specs.declared.Run.{Run}
 use Rattle.dialogue.proofs.Kept.{length-stored}
 use Rattle.dialogue.proofs.Machine.{machineOf}
 use Rattle.dialogue.proofs.Room.{Short, AllShort, printed-whole}
-use Rattle.session.specs.Session.{Desk, desk, heldBytes, longestLine, Sized, usedUp, saidSession, spokenSession, laidOut, closing, laidDesk, lineOf, turnBy, turnOf, goesOn, turnsOf, atByte, takeOf}
+use Rattle.session.specs.Desk.{Desk, desk, heldBytes, longestLine, Sized}
+use Rattle.session.specs.Session.{usedUp, saidSession, spokenSession, laidOut, closing, laidDesk, lineOf, turnBy, turnOf, goesOn, turnsOf, atByte, takeOf}
 use Rattle.session.specs.Loop.{laidBytes}
 use Rattle.session.proofs.Laws.{goes-on-inside}
 use Rattle.session.proofs.Kept.{length-request, length-outcome, length-buffer, length-laid}

@@ -21,7 +21,8 @@ use Rattle.dialogue.specs.declared.Run.{Run}
 use Rattle.dialogue.specs.declared.Said.the-variants as said
 use Rattle.dialogue.specs.declared.Turned.{Turned}
 use Rattle.session.specs.declared.Session.{Session}
-use Rattle.session.specs.Session.{Desk, desk, longestLine, usedUp, saidSession, spokenSession, laidOut, closing, laidDesk, lineOf, turnBy, turnOf, goesOn, turnsOf}
+use Rattle.session.specs.Desk.{Desk, desk, longestLine}
+use Rattle.session.specs.Session.{usedUp, saidSession, spokenSession, laidOut, closing, laidDesk, lineOf, turnBy, turnOf, goesOn, turnsOf}
 
 -- what is after the laid bytes is all that is lent
 all-after : (out : List ℕ) (laid : ℕ) → take (length out - laid) (drop laid out) ≡ drop laid out

@@ -16,7 +16,8 @@ use Rattle.printing.proofs.Laws.{length-feed}
 use Rattle.dialogue.specs.Dialogue.{last, bytesSaid, saidOf, closeOf}
 use Rattle.dialogue.proofs.Room.{short-close}
 use Rattle.session.specs.declared.Session.{Session}
-use Rattle.session.specs.Session.{Desk, desk, heldBytes, longestLine, outBytes, Sized, startOf, atByte, saidSession, spokenSession, laidOut, closing, laidDesk, lineOf, turnBy, turnOf, goesOn, turnsOf, takeOf, endSession, endOut, endOf}
+use Rattle.session.specs.Desk.{Desk, desk, heldBytes, longestLine, outBytes, Sized}
+use Rattle.session.specs.Session.{startOf, atByte, saidSession, spokenSession, laidOut, closing, laidDesk, lineOf, turnBy, turnOf, goesOn, turnsOf, takeOf, endSession, endOut, endOf}
 use Rattle.session.specs.Output.{printed, printedSoFar}
 use Rattle.session.specs.Loop.{laidBytes, Fresh, deskAt, Ready, Round, answers, refills, ends, Reached, begun, round, put, OneRound, Standing}
 use Rattle.session.specs.Laws.{Begins, Writes}

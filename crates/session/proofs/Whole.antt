@@ -21,7 +21,8 @@ use Rattle.dialogue.proofs.Machine.{machineOf}
 use Rattle.dialogue.proofs.Room.{Short, AllShort, all-short}
 use Rattle.dialogue.proofs.Whole.{whole}
 use Rattle.session.specs.declared.Session.{Session}
-use Rattle.session.specs.Session.{Desk, desk, heldBytes, longestLine, Sized, startOf, atByte, spokenSession, laidOut, closing, turnOf, goesOn, turnsOf, takeOf, endSession, endOut, endOf}
+use Rattle.session.specs.Desk.{Desk, desk, heldBytes, longestLine, Sized}
+use Rattle.session.specs.Session.{startOf, atByte, spokenSession, laidOut, closing, turnOf, goesOn, turnsOf, takeOf, endSession, endOut, endOf}
 use Rattle.session.specs.Output.{printed, early, printedSoFar}
 use Rattle.session.specs.Loop.{laidBytes}
 use Rattle.session.proofs.Laws.{turn-uses, goes-on-inside}

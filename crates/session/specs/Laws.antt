@@ -1,11 +1,12 @@
--- What the program has laidBytes, wherever its loop may stand. (01, The bench program)
+-- What the program has written, wherever its loop may stand. (01, The bench program)
 -- Assumes nothing.
 use Prim.Native.Nat.{ℕ, _≤_, _<_}
 use mathlib.Core.Path.{_≡_}
 use mathlib.Core.Bool.{Bool, true, false}
 use mathlib.Core.List.{List, [], _++_}
 use lib.ListN.{length}
-use Rattle.session.specs.Session.{Desk, takeOf}
+use Rattle.session.specs.Desk.{Desk}
+use Rattle.session.specs.Session.{takeOf}
 use Rattle.session.specs.Loop.{Fresh, deskAt, Ready, Reached}
 
 -- the first bytes of a list
@@ -13,13 +14,13 @@ pub record Begins (front whole : List ℕ) : Type 0 where
   pub rest : List ℕ
   pub same : front ++ rest ≡ whole
 
--- `all` is what is to be laidBytes for an input, and `soFar` what the first bytes of one give before more is read. It holds of each standing, for all that the
--- input may go on with; after its end that is nothing
+-- `all` is what is to be written for an input, and `soFar` what the first bytes of one give before more is read. `more` is what the input may still bring:
+-- nothing, once it has ended
 pub record Writes (all soFar : List ℕ → List ℕ) : Type 0 where
-  -- a run that is over has laidBytes all
+  -- a run that is over has written all
   pub over : (first : Desk) → Fresh first → {rounds : ℕ} {read wrote chunk : List ℕ} {end : Bool} {d : Desk} → Reached first rounds read wrote chunk end d
       → d .session .on ≡ false → d .session .laid ≡ 0 → (more : List ℕ) → (end ≡ true → more ≡ []) → wrote ≡ all (read ++ more)
-  -- more is read only once all that the lines so far give is laidBytes
+  -- more is read only once all that the lines so far give is written
   pub reads : (first : Desk) → Fresh first → {rounds : ℕ} {read wrote chunk : List ℕ} {d : Desk} → Reached first rounds read wrote chunk false d
       → Ready d → length chunk ≤ d .session .at → wrote ≡ soFar read
   -- and only where something is left to write, if the input were to end there
@@ -30,10 +31,10 @@ pub record Writes (all soFar : List ℕ → List ℕ) : Type 0 where
   -- a round with lines of a chunk uses a byte at least, so that the chunk comes to its end
   pub advances : (first : Desk) → Fresh first → {rounds : ℕ} {read wrote chunk : List ℕ} {d : Desk} → Reached first rounds read wrote chunk false d
       → Ready d → d .session .at < length chunk → d .session .at < takeOf chunk d .session .at
-  -- once what is laid is laidBytes, nothing is laid, and the run stands where it stood: it is over, or ready for a round
+  -- once what is laid is written, nothing is laid, and the run stands where it stood: it is over, or ready for a round
   pub clears : (d : Desk) → (deskAt (d .session .at) d .session .laid ≡ 0) × (deskAt (d .session .at) d .session .on ≡ d .session .on) × (deskAt (d .session .at) d .session .at ≡ d .session .at)
-  -- at any time, what is laidBytes is the first bytes of all
+  -- at any time, what is written is the first bytes of all
   pub starts : (first : Desk) → Fresh first → {rounds : ℕ} {read wrote chunk : List ℕ} {end : Bool} {d : Desk} → Reached first rounds read wrote chunk end d
       → (more : List ℕ) → (end ≡ true → more ≡ []) → Begins wrote (all (read ++ more))
-  -- and what is laidBytes before more is read is never taken back
+  -- and what is written before more is read is never taken back
   pub so-far : (input more : List ℕ) → Begins (soFar input) (all (input ++ more)) × Begins (soFar input) (soFar (input ++ more))

@@ -1,13 +1,14 @@
--- The program's loop, round by round: where it may stand, and what it has read and laidBytes there. (01, The bench program)
+-- The program's loop, round by round: where it may stand, and what it has read and written there. (01, The bench program)
 -- Assumes nothing.
 use Prim.Native.Nat.{ℕ, suc, _≤_, _<_}
 use mathlib.Core.Path.{_≡_}
 use mathlib.Core.Bool.{Bool, true, false}
 use mathlib.Core.List.{List, [], _++_}
 use lib.ListN.{length, take}
-use Rattle.session.specs.Session.{Desk, desk, Sized, startOf, atByte, takeOf, endOf}
+use Rattle.session.specs.Desk.{Desk, desk, Sized}
+use Rattle.session.specs.Session.{startOf, atByte, takeOf, endOf}
 
--- what is laidBytes: the bytes that are laid
+-- the bytes that are laid, to be written
 unfoldable pub laidBytes : Desk → List ℕ
 laidBytes d = take (d .session .laid) (d .out)
 
@@ -20,12 +21,12 @@ pub record Fresh (d : Desk) : Type 0 where
 unfoldable pub deskAt : ℕ → Desk → Desk
 deskAt at d = desk (atByte (d .session) at) (d .held) (d .request) (d .outcome) (d .buffer) (d .out)
 
--- ready for a round: the run goes on, and nothing is laid that is not laidBytes
+-- ready for a round: the run goes on, and nothing is laid that is not written
 pub record Ready (d : Desk) : Type 0 where
   pub on : d .session .on ≡ true
   pub clear : d .session .laid ≡ 0
 
--- one round, from the chunk at hand: the bytes that it reads, the chunk that is at hand then, whether the input has ends, and the desk
+-- one round, from the chunk at hand: the bytes that it reads, the chunk that is at hand then, whether the input has ended, and the desk
 pub data Round (chunk : List ℕ) (d : Desk) : List ℕ → List ℕ → Bool → Desk → Type 0 where
   -- lines of the chunk, while it lasts
   answers : d .session .at < length chunk → Round chunk d [] chunk false (takeOf chunk d)
@@ -34,12 +35,12 @@ pub data Round (chunk : List ℕ) (d : Desk) : List ℕ → List ℕ → Bool �
   -- or a read that brings nothing, which is the end of the input
   ends : length chunk ≤ d .session .at → Round chunk d [] [] true (endOf d)
 
--- where the program may stand: the rounds that it has made, all that it has read and laidBytes, the chunk at hand, whether the input has ends, and the desk
+-- where the program may stand: the rounds that it has made, all that it has read and written, the chunk at hand, whether the input has ended, and the desk
 pub data Reached (first : Desk) : ℕ → List ℕ → List ℕ → List ℕ → Bool → Desk → Type 0 where
   begun : Reached first 0 [] [] [] false first
   round : {rounds : ℕ} {read wrote chunk more next : List ℕ} {end : Bool} {d v : Desk} → Reached first rounds read wrote chunk false d → Ready d
       → Round chunk d more next end v → Reached first (suc rounds) (read ++ more) wrote next end v
-  -- what is laid is laidBytes
+  -- what is laid is written
   put : {rounds : ℕ} {read wrote chunk : List ℕ} {end : Bool} {d : Desk} → Reached first rounds read wrote chunk end d
       → Reached first rounds read (wrote ++ laidBytes d) chunk end (deskAt (d .session .at) d)
 

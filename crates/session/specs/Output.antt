@@ -8,7 +8,7 @@ use Rattle.protocol.specs.Pick.{if_then_else_}
 use Rattle.lines.specs.Input.{linesFrom, restFrom}
 use Rattle.hex.specs.Line.{feeds}
 use Rattle.dialogue.specs.Bench.{benchOf}
-use Rattle.session.specs.Session.{heldBytes}
+use Rattle.session.specs.Desk.{heldBytes}
 
 -- what is printed for an input, by the calls' own definitions
 unfoldable pub printed : List ℕ → List ℕ

@@ -13,7 +13,8 @@ ghost use Prim.Native.Nat.{_+_, _≤_};
 ghost use lib.ListN.{length};
 ghost use lib.Dec.{leb};
 ghost use Rattle.dialogue.specs.Dialogue.{answerOf, requestAfter, outcomeAfter, bufferAfter};
-ghost use Rattle.session.specs.Session.{desk, longestLine, Sized, startOf, atByte, goesOn, spokenSession, laidOut, closing, turnOf, turnsOf, takeOf, endSession, endOut};
+ghost use Rattle.session.specs.Desk.{desk, longestLine, Sized};
+ghost use Rattle.session.specs.Session.{startOf, atByte, goesOn, spokenSession, laidOut, closing, turnOf, turnsOf, takeOf, endSession, endOut};
 
 // The sizes of what is lent. Each has room for the longest that it may hold: a line's digits, the bytes of a request and of an outcome, a call's buffer,
 // and a line that is printed.

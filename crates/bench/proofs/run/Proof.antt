@@ -4,7 +4,8 @@ use mathlib.Core.Path.{refl}
 use native.Mathlib.Omega.{arith}
 use borrow.Author.Needs.{needs}
 use borrow.Author.Tests.{not-true, not-false}
-use Rattle.session.specs.Session.{desk, startOf}
+use Rattle.session.specs.Desk.{desk}
+use Rattle.session.specs.Session.{startOf}
 use Rattle.bench.proofs.Laws.{Going, going-first, stopped-over, stopped-spent, stopped-unread, stopped-unwritten, goes-on}
 use Rattle.bench.proofs.run.Statement.{statement}
 use Rattle.bench.proofs.run.Tie as tie

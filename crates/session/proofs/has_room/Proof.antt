@@ -4,7 +4,7 @@ use Prim.Native.Nat.{_+_, _<_}
 use mathlib.Core.Path.{sym}
 use native.Mathlib.Omega.{arith}
 use borrow.Author.Tests.{lt-leb}
-use Rattle.session.specs.Session.{longestLine}
+use Rattle.session.specs.Desk.{longestLine}
 use Rattle.session.proofs.Laws.{room-left}
 use Rattle.session.proofs.has_room.Statement.{statement}
 use Rattle.session.proofs.has_room.Tie as tie

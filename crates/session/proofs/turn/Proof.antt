@@ -2,7 +2,8 @@
 -- Assumes nothing.
 use mathlib.Core.Path.{refl}
 use borrow.Author.Needs.{needs}
-use Rattle.session.specs.Session.{desk, usedUp}
+use Rattle.session.specs.Desk.{desk}
+use Rattle.session.specs.Session.{usedUp}
 use Rattle.session.proofs.Laws.{took-here, took-held, took-more, took-long}
 use Rattle.session.proofs.turn.Statement.{statement}
 use Rattle.session.proofs.turn.Tie as tie

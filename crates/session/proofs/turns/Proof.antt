@@ -5,7 +5,8 @@ use mathlib.Core.Path.{_≡_, refl, sym, ap, _∙_}
 use native.Mathlib.Omega.{arith}
 use lib.ListN.{length}
 use borrow.Author.Needs.{needs}
-use Rattle.session.specs.Session.{Desk, desk, turnOf, turnsOf}
+use Rattle.session.specs.Desk.{Desk, desk}
+use Rattle.session.specs.Session.{turnOf, turnsOf}
 use Rattle.session.proofs.Laws.{turn-uses, goes-on-inside, Leads, leads-on, leads-end}
 use Rattle.session.proofs.turns.Statement.{statement}
 use Rattle.session.proofs.turns.Tie as tie
