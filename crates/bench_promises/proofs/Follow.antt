@@ -184,7 +184,11 @@ module _ (rust : List BusOutcome → Read) (rest payload : List ℕ) (c : Call) 
         where
           by : (zero one two : Bool)
               → (heard (if zero then acknowledgedBy (brings m) s else if one then errorBy s else if two then timeoutBy s else stopped answer.BadLine) goes onward stops stop)
-              ≡ transferLines (done ++ (m ∷ [])) ++ toldThen (if zero then acknowledgedLine (length (b ∷ s)) else if one then errorLine (getD (b ∷ s) 1 0) (length (b ∷ s)) else if two then timeoutLine (length (b ∷ s)) else told.Bad) c payload buffer (b ∷ s) go
+              ≡ transferLines (done ++ (m ∷ []))
+              ++ toldThen
+              (if zero then acknowledgedLine (length (b ∷ s)) else
+              if one then errorLine (getD (b ∷ s) 1 0) (length (b ∷ s)) else
+              if two then timeoutLine (length (b ∷ s)) else told.Bad) c payload buffer (b ∷ s) go
           by true one two = acknowledged b s
           by false true two = error b s
           by false false true = timeout b s
@@ -197,7 +201,8 @@ module _ (rust : List BusOutcome → Read) (rest payload : List ℕ) (c : Call) 
           (outcome-line (lineBytes text) ∙ rw lines-append (append-assoc (transferLines done) (transferLine m ∷ []) _))
 
   -- the call has shown its answer
-  module _ (a : Answer) (over : rust os ≡ (answered a (record { transfers = done; waits = waits }) [] leaving buffer)) (line : lineShown c payload buffer ≡ last (endSaid a (tallyOf c) buffer)) where
+  module _ (a : Answer) (over : rust os ≡ (answered a (record { transfers = done; waits = waits }) [] leaving buffer))
+      (line : lineShown c payload buffer ≡ last (endSaid a (tallyOf c) buffer)) where
     answers : (lines : List (List ℕ)) → runOf rust os lines rest ≡ transferLines done ++ callRun c payload buffer lines rest
     unfolding runOf callRun thenSay
     answers [] = rw (over, line) (ended a _)

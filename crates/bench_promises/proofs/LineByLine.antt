@@ -128,7 +128,9 @@ long-outcome asked (b ∷ x ∷ y ∷ s) h =
     let l : 8192 < length (x ∷ y ∷ s) = omega arith in
     rw (lt-ltb 8192 (length (x ∷ y ∷ s)) l) (by (eqb b 0) (eqb b 1) (eqb b 2))
   where
-    by : (zero one two : Bool) → (if zero then stopped answer.BadLine else if one then stopped answer.BadLine else if two then stopped answer.BadLine else stopped answer.BadLine) ≡ stopped answer.BadLine
+    by : (zero one two : Bool)
+        → (if zero then stopped answer.BadLine else if one then stopped answer.BadLine else if two then stopped answer.BadLine else stopped answer.BadLine)
+        ≡ stopped answer.BadLine
     by true one two = refl
     by false true two = refl
     by false false true = refl

@@ -106,7 +106,8 @@ module _ (line : List ℕ) (lines : List (List ℕ)) (rest : List ℕ) (c : Conf
           rw (t .good within) (same-call row k (e within))
 
   -- a payload of any length up to 8,192
-  any-length : (row : Row) (k : Kind) (size : ℕ) → row .least ≡ 0 → row .most ≡ 8192 → (row .fixed ≤ length args → size ≡ row .size args) → Tests row k (calledOf k c (row .fixed) size (length args))
+  any-length : (row : Row) (k : Kind) (size : ℕ) → row .least ≡ 0 → row .most ≡ 8192 → (row .fixed ≤ length args → size ≡ row .size args)
+      → Tests row k (calledOf k c (row .fixed) size (length args))
   any-length row k size l m e = record {
     missing = missing k c (row .fixed) size (length args);
     short = λ f h. absurd (omega arith);
@@ -262,7 +263,8 @@ module _ (line : List ℕ) (lines : List (List ℕ)) (rest : List ℕ) (c : Conf
     write-register-unchecked =
         any (row 12) (kind.WriteRegisterUnchecked (getD args 0 0)) 0 refl refl (λ h. refl)
         (λ w os. rw (byte-at 0 args (omega (arith, w .fixed)))
-        (either (rust-r5.uncheckedPanics (payload (row 12))) _ _ (buffer (row 12)) _ (λ t. added (row 12) _ os answer.DataTooLarge (long-register (getD args 0 0) t)) (λ t. sym (same (row 12) _ os t))))
+        (either (rust-r5.uncheckedPanics (payload (row 12))) _ _ (buffer (row 12)) _
+        (λ t. added (row 12) _ os answer.DataTooLarge (long-register (getD args 0 0) t)) (λ t. sym (same (row 12) _ os t))))
 
     send-access-key : Same (exactOf (kind.SendAccessKey (pairAt 0 args) (pairAt 2 args)) c 4 0 0 (length args)) (askedBy (row 13) c args)
     send-access-key =

@@ -102,7 +102,8 @@ module _ (c : WriteCall) (payload : List ℕ) where
   unfolding writing.nextOf writing.shownOf case_waiting_ended_ if_then_else_ writeOf
   reads-none = by (c .phase) (fitsOf (c .task .lent) (length payload) 39) (writing.ownBytes c) (laidOf (c .task .plan .pec) (writing.dueBytes c payload) 39)
     where
-      by : (p : Phase) (f own : Bool) (l : Laid) → brought (case p waiting (if f then (if own then transfer.Write (length payload) else writeOf l) else transfer.Refused answer.WrongBuffer) ended transfer.Ended) ≡ 0
+      by : (p : Phase) (f own : Bool) (l : Laid)
+          → brought (case p waiting (if f then (if own then transfer.Write (length payload) else writeOf l) else transfer.Refused answer.WrongBuffer) ended transfer.Ended) ≡ 0
       by phase.Waiting true true l = refl
       by phase.Waiting true false (laid.Frame n) = refl
       by phase.Waiting true false laid.NoRoom = refl
@@ -175,7 +176,8 @@ module _ (c : ReadCall) (payload buffer : List ℕ) where
   asked-r h = let w = open-r h in rw (w .1, w .0) (by (c .heading) refl)
     where
       by : (b : Bool) → c .heading ≡ b
-          → brought (if b then writeOf (laidOf (c .task .plan .«head_pec») (parts.headBytes (c .task .plan .head) (c .received)) 39) else transfer.Read (reading.dueAsk c .command) (bytesAsked (reading.dueAsk c)))
+          → brought (if b then writeOf (laidOf (c .task .plan .«head_pec») (parts.headBytes (c .task .plan .head) (c .received)) 39)
+          else transfer.Read (reading.dueAsk c .command) (bytesAsked (reading.dueAsk c)))
           ≡ (if b then 0 else bytesAsked (reading.dueAsk c))
       by true e = brought-head (laidOf (c .task .plan .«head_pec») (parts.headBytes (c .task .plan .head) (c .received)) 39)
       by false e = refl
@@ -192,7 +194,8 @@ module _ (c : ReadCall) (payload buffer : List ℕ) where
   unfolding reading.weighOf reading.acknowledgedOf reading.heardHead reading.heardBlock reading.verdictOf heardOf case_acknowledged_error_timeout_ if_then_else_
   wrong-r s = by (c .heading)
     where
-      by : (b : Bool) → (length s ≡ (if b then 0 else bytesAsked (reading.dueAsk c)) → ⊥) → (if b then reading.heardHead (length s) else reading.heardBlock (reading.dueAsk c) s) ≡ verdict.Refused answer.WrongReply
+      by : (b : Bool) → (length s ≡ (if b then 0 else bytesAsked (reading.dueAsk c)) → ⊥)
+          → (if b then reading.heardHead (length s) else reading.heardBlock (reading.dueAsk c) s) ≡ verdict.Refused answer.WrongReply
       by true e = rw (ne-eqb (length s) 0 e)
       by false e = rw (ne-eqb (bytesAsked (reading.dueAsk c)) (length s) (λ q. e (sym q)))
 

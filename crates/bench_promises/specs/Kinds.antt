@@ -14,6 +14,7 @@ use Rattle.original.specs.OriginalInterface as rust
 use Rattle.original.specs.OriginalR5 as rust-r5
 use Rattle.bench_promises.specs.Numbers.{field}
 
+-- what a line of a kind asks for
 pub record Row : Type 0 where
   pub kind : ℕ
   -- the bytes of its arguments before the payload

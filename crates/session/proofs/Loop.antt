@@ -345,19 +345,16 @@ over-end (round r ready (refills more used some)) e = absurd (false≢true e)
 over-end (round {d = d} r ready (ends used)) e = end-off d (ready .on)
 over-end (put r) e = over-end r e
 
-clear-desk : (d : Desk) → (deskAt (d .session .at) d .session .laid ≡ 0) × (deskAt (d .session .at) d .session .on ≡ d .session .on) × (deskAt (d .session .at) d .session .at ≡ d .session .at)
-unfolding deskAt atByte
-clear-desk d = (refl, refl, refl)
-
 -- the statement
 pub laws : Writes printed printedSoFar
+unfolding deskAt atByte
 laws = record {
   over = λ first fresh {rounds} {read} {wrote} {chunk} {end} {d} r. over-all first fresh read wrote chunk end d (stands first fresh r);
   reads = λ first fresh {rounds} {read} {wrote} {chunk} {d} r. reads-all first fresh read wrote chunk d (stands first fresh r);
   waits = λ first fresh {rounds} {read} {wrote} {chunk} {d} r. waits-all first fresh read wrote chunk d (stands first fresh r);
   ends = λ {first} {rounds} {read} {wrote} {chunk} {d} r. over-end r refl;
   advances = λ first fresh {rounds} {read} {wrote} {chunk} {d} r ready inside. take-uses chunk d (stands first fresh r .room) (ready .on) inside;
-  clears = clear-desk;
+  clears = λ d. (refl, refl, refl);
   starts = λ first fresh {rounds} {read} {wrote} {chunk} {end} {d} r. starts-all first fresh read wrote chunk end d (stands first fresh r);
   so-far = so-far-begins;
 }

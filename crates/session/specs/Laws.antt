@@ -32,7 +32,8 @@ pub record Writes (all soFar : List ℕ → List ℕ) : Type 0 where
   pub advances : (first : Desk) → Fresh first → {rounds : ℕ} {read wrote chunk : List ℕ} {d : Desk} → Reached first rounds read wrote chunk false d
       → Ready d → d .session .at < length chunk → d .session .at < takeOf chunk d .session .at
   -- once what is laid is written, nothing is laid, and the run stands where it stood: it is over, or ready for a round
-  pub clears : (d : Desk) → (deskAt (d .session .at) d .session .laid ≡ 0) × (deskAt (d .session .at) d .session .on ≡ d .session .on) × (deskAt (d .session .at) d .session .at ≡ d .session .at)
+  pub clears : (d : Desk) → (deskAt (d .session .at) d .session .laid ≡ 0)
+      × (deskAt (d .session .at) d .session .on ≡ d .session .on) × (deskAt (d .session .at) d .session .at ≡ d .session .at)
   -- at any time, what is written is the first bytes of all
   pub starts : (first : Desk) → Fresh first → {rounds : ℕ} {read wrote chunk : List ℕ} {end : Bool} {d : Desk} → Reached first rounds read wrote chunk end d
       → (more : List ℕ) → (end ≡ true → more ≡ []) → Begins wrote (all (read ++ more))

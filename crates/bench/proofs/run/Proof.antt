@@ -30,7 +30,10 @@ round-requires : tie.Need-round-requires Inv-loop μ-loop
 round-requires c κs = c .before .before .before .before .before .before .before .before .before .loop .inv .fits
 
 returns-2 : tie.Need-returns-2 Inv-loop μ-loop
-returns-2 c = stopped-unread _ _ _ _ _ (c .before .before .before .before .before .before .before .before .before .before .before .before .before .loop .inv) (not-false _ (c .before .before .before .before .before .before .before .before .before .before .if1 .left)) _ _ _ (c .before .before .before .round .ensures) (not-true _ (c .if2 .taken))
+returns-2 c =
+    let round = c .before .before .before in
+    let test = round .before .before .before .before .before .before .before in
+    stopped-unread _ _ _ _ _ (test .before .before .before .loop .inv) (not-false _ (test .if1 .left)) _ _ _ (round .round .ensures) (not-true _ (c .if2 .taken))
 
 sub-left : tie.Need-sub-left Inv-loop μ-loop
 sub-left c = omega (arith, c .before .before .before .before .before .before .before .before .before .before .before .before .loop-test .taken)
@@ -40,16 +43,22 @@ write-requires c κs = search needs
 
 returns-3 : tie.Need-returns-3 Inv-loop μ-loop
 returns-3 c =
-    stopped-unwritten _ _ _ _ _ (c .before .before .before .before .before .before .before .before .before .before .before .before .before .before .before .before .before .loop .inv) (not-false _ (c .before .before .before .before .before .before .before .before .before .before .before .before .before .before .if1 .left)) _ _ _ (c .before .before .before .before .before .before .before .round .ensures) (not-false _ (c .before .before .before .before .if2 .left))
-    (omega (arith, c .before .before .before .before .before .before .before .before .before .before .before .before .before .before .before .before .loop-test .taken))
+    let round = c .before .before .before .before .before .before .before in
+    let test = round .before .before .before .before .before .before .before in
+    let loop = test .before .before in
+    stopped-unwritten _ _ _ _ _ (loop .before .loop .inv) (not-false _ (test .if1 .left)) _ _ _ (round .round .ensures) (not-false _ (c .before .before .before .before .if2 .left))
+    (omega (arith, loop .loop-test .taken))
 
 loop-less : tie.Need-loop-less Inv-loop μ-loop
 loop-less c = omega (arith, c .before .before .before .before .before .before .before .before .before .before .before .before .before .before .before .before .before .loop-test .taken)
 
 loop-again : tie.Need-loop-again Inv-loop μ-loop
 loop-again c =
-    goes-on _ _ _ _ _ (c .before .before .before .before .before .before .before .before .before .before .before .before .before .before .before .before .before .before .loop .inv) (not-false _ (c .before .before .before .before .before .before .before .before .before .before .before .before .before .before .before .if1 .left)) _ _ _ (c .before .before .before .before .before .before .before .before .round .ensures) (not-false _ (c .before .before .before .before .before .if2 .left))
-    (omega (arith, c .before .before .before .before .before .before .before .before .before .before .before .before .before .before .before .before .before .loop-test .taken)) _ (c .before .before .before .write .ensures (not-false _ (c .before .if3 .left)))
+    let round = c .before .before .before .before .before .before .before .before in
+    let test = round .before .before .before .before .before .before .before in
+    let loop = test .before .before in
+    goes-on _ _ _ _ _ (loop .before .loop .inv) (not-false _ (test .if1 .left)) _ _ _ (round .round .ensures) (not-false _ (c .before .before .before .before .before .if2 .left))
+    (omega (arith, loop .loop-test .taken)) _ (c .before .before .before .write .ensures (not-false _ (c .before .if3 .left)))
 
 returns-4 : tie.Need-returns-4 Inv-loop μ-loop
 returns-4 c = stopped-spent _ _ _ _ _ (c .before .loop .inv) (omega (arith, c .loop-test .left))
