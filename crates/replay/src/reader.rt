@@ -102,24 +102,27 @@ fn take(r: Reader, chunk: &[u8], held: &mut [u8]) -> Reader {
     }
 }
 
-// The end that a failed read brings. It stays the end, so that `errno` stays that of this read.
-fn failed(r: Reader) -> Reader {
-    line(part(FAILED, r.at, r.end, 0, 0), r.at, 0, END)
-}
-
-// Whether no read has failed.
-pub(crate) fn is_sound(r: Reader) -> bool {
-    r.fd != FAILED
+// The end that a failed read brings, at a place of a chunk. It stays the end, so that `errno` stays that of this read.
+fn failed(at: usize, end: usize) -> Reader {
+    Reader {
+        fd: FAILED,
+        at,
+        end,
+        have: 0,
+        long: 0,
+        len: 0,
+        tag: END,
+    }
 }
 
 // The next chunk; at the end of the file, what is held is the last line.
 fn refill(r: Reader, chunk: &mut [u8], held: &[u8]) -> Reader {
     if r.fd == FAILED {
-        return failed(r);
+        return failed(r.at, r.end);
     }
     let got = libc::read(r.fd, chunk);
     if got < 0 {
-        return failed(r);
+        return failed(r.at, r.end);
     }
     let n = io::count(got, chunk);
     if 0 < n {
