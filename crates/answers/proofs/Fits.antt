@@ -4,11 +4,12 @@ use Prim.Native.Nat.{ℕ, _+_, _-_, _≤_, _<_}
 use mathlib.Core.Path.{_≡_, refl}
 use mathlib.Core.Bool.{Bool, true, false}
 use native.Mathlib.Omega.{arith}
-use lib.Dec.{ltb, leb, eqb}
-use borrow.Author.Tests.{ltb-false, leb-true, eqb-true, eqb-false}
+use lib.Dec.{ltb, eqb}
+use borrow.Author.Tests.{ltb-false, eqb-true, eqb-false}
 use Rattle.protocol.specs.Pick.{if_then_else_}
 use Rattle.protocol.specs.Bytes.{blocksOf}
 use Rattle.protocol.specs.Window.{inWindow}
+use Rattle.protocol.proofs.WindowLaws.{within}
 use Rattle.engine.specs.Limit.{windowed, commanded, measured, admitted}
 use Rattle.engine.specs.declared.bus.Phase.the-variants as phase
 use Rattle.engine.specs.declared.limit.Limit.{Limit}
@@ -24,14 +25,16 @@ Fits limit.Window start n = (0 < n) × (0x4000 ≤ start) × (start + (n - 1) �
 Fits (limit.Command input) start n = n ≤ 32
 
 window-fits : (start n : ℕ) → windowed start n ≡ phase.Waiting → Fits limit.Window start n
-unfolding windowed inWindow if_then_else_
-window-fits start n e = by (eqb n 0) refl (leb 0x4000 start) refl (leb (start + (n - 1)) 0x5FFF) refl
+unfolding windowed if_then_else_
+window-fits start n e = by (inWindow start n) refl (eqb n 0) refl
   where
-    by : (a : Bool) → eqb n 0 ≡ a → (b : Bool) → leb 0x4000 start ≡ b → (c : Bool) → leb (start + (n - 1)) 0x5FFF ≡ c → Fits limit.Window start n
-    by true a b p c q = let z : _≡_ {A = ℕ} 0 1 = cc (rw a at e) in absurd (omega arith)
-    by false a false p c q = let z : _≡_ {A = ℕ} 0 1 = cc (rw (a, p) at e) in absurd (omega arith)
-    by false a true p false q = let z : _≡_ {A = ℕ} 0 1 = cc (rw (a, p, q) at e) in absurd (omega arith)
-    by false a true p true q = let h = eqb-false n 0 a in (omega arith, leb-true _ _ p, leb-true _ _ q)
+    by : (a : Bool) → inWindow start n ≡ a → (b : Bool) → eqb n 0 ≡ b → Fits limit.Window start n
+    by false a b p = let z : _≡_ {A = ℕ} 0 1 = cc (rw a at e) in absurd (omega arith)
+    by true a true p = let z : _≡_ {A = ℕ} 0 1 = cc (rw (a, p) at e) in absurd (omega arith)
+    by true a false p =
+        let h = eqb-false n 0 p in
+        let w = within start n a (omega arith) in
+        (omega arith, w .0, omega (arith, w .1))
 
 command-fits : (input n : ℕ) → commanded input n ≡ phase.Waiting → n ≤ 32
 unfolding commanded if_then_else_

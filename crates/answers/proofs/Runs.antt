@@ -6,10 +6,11 @@ use mathlib.Core.Bool.{Bool, true, false}
 use mathlib.Core.List.{List, [], _∷_}
 use native.Mathlib.Omega.{arith}
 use lib.Dec.{leb, eqb}
-use borrow.Author.Tests.{leb-true, leb-false, eqb-true, eqb-false}
+use borrow.Author.Tests.{leb-false, eqb-true, eqb-false}
 use Rattle.protocol.specs.Pick.{if_then_else_}
 use Rattle.protocol.specs.Bytes.{blocksOf}
 use Rattle.protocol.specs.Window.{inWindow}
+use Rattle.protocol.proofs.WindowLaws.{within}
 use Rattle.protocol.specs.declared.error.Answer.{Answer}
 use Rattle.protocol.specs.declared.error.Answer.the-variants as answer
 use Rattle.engine.specs.Pick.{case_waiting_ended_, case_acknowledged_error_timeout_, case_retry_spent_}
@@ -155,11 +156,11 @@ over-stays (x ∷ es) call a e = let q : reportedW call x ≡ call = rw e in ap 
 
 -- a transfer inside the window has at most 256 blocks
 pub window-few : (start n : ℕ) → inWindow start n ≡ true → blocksOf n ≤ 256
-unfolding inWindow
-window-few start n e = by (eqb n 0) refl (leb 0x4000 start) refl (leb (start + (n - 1)) 0x5FFF) refl
+window-few start n e = by (eqb n 0) refl
   where
-    by : (a : Bool) → eqb n 0 ≡ a → (b : Bool) → leb 0x4000 start ≡ b → (c : Bool) → leb (start + (n - 1)) 0x5FFF ≡ c → blocksOf n ≤ 256
-    by true a b p c q = let none = eqb-true n 0 a in omega arith
-    by false a true p true q = omega (arith, leb-true 0x4000 start p, leb-true (start + (n - 1)) 0x5FFF q)
-    by false a false p c q = let z : _≡_ {A = ℕ} 0 1 = cc (rw (a, p) at e) in absurd (omega arith)
-    by false a true p false q = let z : _≡_ {A = ℕ} 0 1 = cc (rw (a, p, q) at e) in absurd (omega arith)
+    by : (t : Bool) → eqb n 0 ≡ t → blocksOf n ≤ 256
+    by true t = let none = eqb-true n 0 t in omega arith
+    by false t =
+        let some = eqb-false n 0 t in
+        let w = within start n e (omega arith) in
+        omega (arith, w .0, w .1)

@@ -1,14 +1,15 @@
 -- At the start each answer is given exactly when its row says so.
 -- Assumes nothing.
 use Prim.Native.Nat.{ℕ, _+_, _-_, _≤_, _<_}
-use mathlib.Core.Path.{_≡_, refl, sym}
-use mathlib.Core.Bool.{Bool, true, false, _&&_, false≢true}
+use mathlib.Core.Path.{_≡_, refl}
+use mathlib.Core.Bool.{Bool, true, false}
 use mathlib.Core.Logic.{_⊎_, inl, inr, _↔_}
 use native.Mathlib.Omega.{arith}
-use lib.Dec.{ltb, leb, eqb}
-use borrow.Author.Tests.{ltb-true, ltb-false, leb-false, eqb-true, eqb-false, lt-ltb, le-ltb, lt-leb, eq-eqb, ne-eqb}
+use lib.Dec.{ltb, eqb}
+use borrow.Author.Tests.{ltb-true, ltb-false, eqb-true, eqb-false, lt-ltb, le-ltb, eq-eqb, ne-eqb}
 use Rattle.protocol.specs.Pick.{if_then_else_}
 use Rattle.protocol.specs.Window.{inWindow}
+use Rattle.protocol.proofs.WindowLaws.{empty, outside, without}
 use Rattle.protocol.specs.declared.error.Answer.the-variants as answer
 use Rattle.engine.specs.Limit.{windowed, commanded, measured, admitted}
 use Rattle.engine.specs.declared.bus.Phase.{Phase}
@@ -22,41 +23,18 @@ use Rattle.answers.proofs.Laws.{InTable, row-of}
 abbrev Holds : Limit → ℕ → ℕ → ℕ → Phase → Type 0
 Holds l start n w = InTable (Starts start n w l)
 
--- outside the window, in numbers
-outside : (start n : ℕ) → inWindow start n ≡ false → (0 < n) × ((start < 0x4000) ⊎ (0x5FFF < start + (n - 1)))
-unfolding inWindow
-outside start n e = by (eqb n 0) refl (leb 0x4000 start) refl (leb (start + (n - 1)) 0x5FFF) refl
-  where
-    by : (a : Bool) → eqb n 0 ≡ a → (b : Bool) → leb 0x4000 start ≡ b → (c : Bool) → leb (start + (n - 1)) 0x5FFF ≡ c
-        → (0 < n) × ((start < 0x4000) ⊎ (0x5FFF < start + (n - 1)))
-    by true a b p c q = let z : true ≡ false = rw a at e in absurd (false≢true (sym z))
-    by false a false p c q = let h = eqb-false n 0 a in (omega arith, inl (leb-false _ _ p))
-    by false a true p false q = let h = eqb-false n 0 a in (omega arith, inr (leb-false _ _ q))
-    by false a true p true q = let z : true ≡ false = rw (a, p, q) at e in absurd (false≢true (sym z))
-
-inside : (start n : ℕ) → 0 < n → (start < 0x4000) ⊎ (0x5FFF < start + (n - 1)) → inWindow start n ≡ false
-unfolding inWindow
-inside start n h (inl l) = let p : n ≡ 0 → ⊥ = λ e. omega arith in rw (ne-eqb n 0 p, lt-leb 0x4000 start l)
-inside start n h (inr l) =
-    let p : n ≡ 0 → ⊥ = λ e. omega arith in
-    rw (ne-eqb n 0 p, lt-leb (start + (n - 1)) 0x5FFF l) (by (leb 0x4000 start))
-  where
-    by : (t : Bool) → (t && false) ≡ false
-    by true = refl
-    by false = refl
-
 -- ---- an answer that is given is its row's
 
 windowed-holds : (start n w : ℕ) → 39 ≤ w → Holds limit.Window start n w (windowed start n)
 unfolding windowed if_then_else_
 windowed-holds start n w k = by (inWindow start n) refl (eqb n 0) refl
   where
-    out : 0 < n → (start < 0x4000) ⊎ (0x5FFF < start + (n - 1)) → Starts start n w limit.Window 5 0
+    out : 0 < n → (start < 0x4000) ⊎ (0x6000 < start + n) → Starts start n w limit.Window 5 0
     out some (inl h) = below k some h
-    out some (inr h) = beyond k some h
+    out some (inr h) = beyond k some (omega arith)
 
     by : (t : Bool) → inWindow start n ≡ t → (z : Bool) → eqb n 0 ≡ z → Holds limit.Window start n w (windowed start n)
-    by false t z q = let h = outside start n t in rw t (out (h .0) (h .1))
+    by false t z q = let h = without start n t in rw t (out (h .0) (h .1))
     by true t true q = rw (t, q) (nothing-to-do k (eqb-true n 0 q))
     by true t false q = rw (t, q) tt
 
@@ -103,13 +81,13 @@ module _ (start n w : ℕ) where
   large false = (refl, refl)
 
   admitted-row : (l : Limit) (k d : ℕ) → Starts start n w l k d → Says k d (admitted l start n w)
-  unfolding admitted measured windowed commanded inWindow if_then_else_
-  admitted-row l k d (nothing-to-do room none) = rw (le-ltb w 39 room, eq-eqb n 0 none) (refl, refl)
+  unfolding admitted measured windowed commanded if_then_else_
+  admitted-row l k d (nothing-to-do room none) = rw (le-ltb w 39 room, empty start n none, eq-eqb n 0 none) (refl, refl)
   admitted-row l k d (too-large most room h) = rw (le-ltb w 39 room, lt-ltb most n h) (refl, refl)
   admitted-row l k d (large-input input room h) = rw (le-ltb w 39 room, lt-ltb 32 input h) (refl, refl)
   admitted-row l k d (large-output input room h) = rw (le-ltb w 39 room, lt-ltb 32 n h) (large (ltb 32 input))
-  admitted-row l k d (below room some h) = rw (le-ltb w 39 room, inside start n some (inl h)) (refl, refl)
-  admitted-row l k d (beyond room some h) = rw (le-ltb w 39 room, inside start n some (inr h)) (refl, refl)
+  admitted-row l k d (below room some h) = rw (le-ltb w 39 room, outside start n some (inl h)) (refl, refl)
+  admitted-row l k d (beyond room some h) = rw (le-ltb w 39 room, outside start n some (inr (omega arith))) (refl, refl)
   admitted-row l k d (input-given input room some h j) =
       let p : input ≡ 0 → ⊥ = λ e. omega arith in
       rw (le-ltb w 39 room, le-ltb 32 input h, le-ltb 32 n j, ne-eqb input 0 p) (refl, refl)

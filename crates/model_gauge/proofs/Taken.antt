@@ -3,19 +3,20 @@
 use Prim.Native.Nat.{ℕ, _+_, _-_, _*_, _≤_, _<_, min}
 use mathlib.Core.Path.{_≡_, refl, sym, ap, _∙_}
 use mathlib.Core.Bool.{Bool, true, false}
-use mathlib.Core.Logic.{_⊎_, ⊎-elim, ⊎-map}
+use mathlib.Core.Logic.{⊎-map}
 use mathlib.Core.List.{List, [], _∷_, _++_, append-assoc, append-nil}
 use native.Mathlib.Omega.{arith}
 use lib.ListN.{length, take, drop, length-drop, drop-of-length-le}
 use lib.Dec.{leb}
 use lib.Seq.{take-all, take-length, take-append-seam, drop-drop}
-use borrow.Author.Tests.{leb-true, leb-false, le-leb, lt-leb, ne-eqb}
+use borrow.Author.Tests.{leb-true, leb-false}
 use Rattle.smbus_pec.specs.Pec.{pecOf}
 use Rattle.protocol.specs.Pick.{if_then_else_}
 use Rattle.protocol.specs.Bytes.{storedAt}
 use Rattle.protocol.specs.Frame.{sealed}
 use Rattle.protocol.specs.Window.{inWindow}
 use Rattle.protocol.proofs.Shared.{laws}
+use Rattle.protocol.proofs.WindowLaws.{inside, outside}
 use Rattle.model_gauge.specs.Frame.{readFrame}
 use Rattle.model_gauge.specs.Gauge.{taken as taking, untaken, heardFrame, acts, effectOf}
 use Rattle.model_gauge.specs.Forms.{counted}
@@ -24,23 +25,6 @@ use Rattle.model_gauge.specs.declared.frame.Form.the-variants as form
 use Rattle.model_gauge.specs.declared.gauge.Gauge.{Gauge}
 use Rattle.model_gauge.proofs.Laws.{stores}
 use Rattle.model_gauge.proofs.Forms.{forms}
-
--- ---- the window in numbers
-
-inside : (at n : ℕ) → 1 ≤ n → 0x4000 ≤ at → at + n ≤ 0x6000 → inWindow at n ≡ true
-unfolding inWindow
-inside at n some low high = rw (ne-eqb n 0 (λ e. omega arith), le-leb 0x4000 at low, le-leb (at + (n - 1)) 0x5FFF (omega arith))
-
-outside : (at n : ℕ) → 1 ≤ n → (at < 0x4000) ⊎ (0x6000 < at + n) → inWindow at n ≡ false
-unfolding inWindow
-outside at n some = ⊎-elim before (past (leb 0x4000 at) refl)
-  where
-    before : at < 0x4000 → inWindow at n ≡ false
-    before h = rw (ne-eqb n 0 (λ e. omega arith), lt-leb 0x4000 at h)
-
-    past : (t : Bool) → leb 0x4000 at ≡ t → 0x6000 < at + n → inWindow at n ≡ false
-    past true t h = rw (ne-eqb n 0 (λ e. omega arith), t, lt-leb (at + (n - 1)) 0x5FFF (omega arith))
-    past false t h = rw (ne-eqb n 0 (λ e. omega arith), t)
 
 -- ---- what is stored from a place on
 
@@ -102,12 +86,12 @@ pub taken : Taken
 unfolding effectOf
 taken = record {
   block = λ pec low high at room bytes flash gauge here fits some few from to.
-      block-in (counted pec low high bytes) at gauge flash bytes (block-read pec low high at bytes here some few) (inside at (length bytes) some from to) (data-back pec low high bytes)
+      block-in (counted pec low high bytes) at gauge flash bytes (block-read pec low high at bytes here some few) (inside at (length bytes) from to) (data-back pec low high bytes)
       ∙ ap (λ (l : List ℕ). taking [] gauge l) (laid (at - 0x4000) room bytes flash fits);
   block-outside = λ pec low high at bytes flash gauge here some few off.
       block-out (counted pec low high bytes) at gauge flash (length bytes) (block-read pec low high at bytes here some few) (outside at (length bytes) some off);
   address = λ pec low high at flash gauge here from to.
-      address-in (counted pec low high []) at gauge flash (address-read pec low high at here) (inside at 1 (omega arith) from (omega arith));
+      address-in (counted pec low high []) at gauge flash (address-read pec low high at here) (inside at 1 from (omega arith));
   address-outside = λ pec low high at flash gauge here off.
       address-out (counted pec low high []) at gauge flash (address-read pec low high at here) (outside at 1 (omega arith) (⊎-map (λ h. h) (λ h. omega arith) off));
   wherever = λ frame flash gauge. stores frame gauge flash;

@@ -13,6 +13,7 @@ use Rattle.protocol.specs.Bytes.{over}
 use Rattle.protocol.specs.declared.common.Config.{Config}
 use Rattle.protocol.specs.declared.error.Answer.{Answer}
 use Rattle.protocol.specs.declared.error.Answer.the-variants as answer
+use Rattle.protocol.proofs.WindowLaws.{within}
 use Rattle.interface.specs.Plans as machine
 use Rattle.original.specs.Bus.{BusOutcome, begun, Err, Read, _leaving_, copied}
 use Rattle.original.specs.Fed.{Lending, Lends, reads}
@@ -23,7 +24,7 @@ use Rattle.original.specs.Fronts.{Layout, plain, mac, allBrought, transf
 use Rattle.original.proofs.PlainRead as plain-read
 use Rattle.original.proofs.MacRead as mac-read
 use Rattle.original.proofs.FlashRead as flash-read
-use Rattle.original.proofs.Range.{range-window, in-range}
+use Rattle.original.proofs.Range.{range-window}
 use Rattle.original.proofs.ReadCalls.{read-dataflash-by}
 use Rattle.original.proofs.Brought.{Comes, stopped, in-front, in-blocks}
 use Rattle.original.proofs.ReadFronts.{untouched, plain-comes, mac-comes, flash-comes}
@@ -125,7 +126,7 @@ module _ (config : Config) (outcomes : List BusOutcome) where
           (stopped (mac (config .«pec_read»)) buffer [] [] outcomes _ refl (untouched buffer) (λ h. refl))
       by true t false e =
           let some : 0 < length buffer = omega (arith, eqb-false (length buffer) 0 e) in
-          let far : (0x4000 ≤ start) × (start + length buffer ≤ 0x6000) = in-range start (length buffer) (sym (range-window start (length buffer)) ∙ t) some in
+          let far : (0x4000 ≤ start) × (start + length buffer ≤ 0x6000) = within start (length buffer) (sym (range-window start (length buffer)) ∙ t) some in
           flash-comes start (config .«pec_read») buffer (far .1) outcomes true (config .«max_bus_retries») [] begun some refl
 
 -- `max_bus_retries` is 0 to 65,535, and every work buffer has the same length, of at least 39 bytes

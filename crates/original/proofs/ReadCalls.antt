@@ -17,6 +17,7 @@ use Rattle.protocol.specs.declared.common.Config.{Config}
 use Rattle.protocol.specs.declared.error.Answer.the-variants as answer
 use Rattle.protocol.specs.declared.frame.MacCommand.{MacCommand}
 use Rattle.protocol.specs.declared.frame.MacCommand.the-variants as mac
+use Rattle.protocol.proofs.WindowLaws.{within}
 use Rattle.engine.specs.Limit.{measured, admitted, windowed, commanded}
 use Rattle.engine.specs.declared.limit.Limit.{Limit}
 use Rattle.engine.specs.declared.limit.Limit.the-variants as limit
@@ -37,7 +38,7 @@ use Rattle.original.proofs.MacRead as mac-read
 use Rattle.original.proofs.OnlyHead as only-head
 use Rattle.original.proofs.FlashRead as flash-read
 use Rattle.original.proofs.Laws.{measure, fixed-pair}
-use Rattle.original.proofs.Range.{range-window, in-range}
+use Rattle.original.proofs.Range.{range-window}
 
 -- the bytes of a figure, low byte first, taken either way round
 figure-bytes : (low high : ℕ) → figureOf low high ≡ rust-r5.i16FromLeBytes low high
@@ -182,7 +183,7 @@ module _ (config : Config) (small : config .«max_bus_retries» ≤ 65535) (w : 
       ∙ rw (range-window, t) (sym (flash-read.loop-done start (config .«pec_read») (config .«max_bus_retries») buffer 0 true begun outcomes (omega (arith, eqb-true (length buffer) 0 e))))
   dataflash-by start buffer true t false e =
       let some : 0 < length buffer = omega (arith, eqb-false (length buffer) 0 e) in
-      let far : (0x4000 ≤ start) × (start + length buffer ≤ 0x6000) = in-range start (length buffer) t some in
+      let far : (0x4000 ≤ start) × (start + length buffer ≤ 0x6000) = within start (length buffer) t some in
       started (machine-r5.readDataflash config start) (length buffer) w lent buffer outcomes (rw (le-ltb w 39 roomy, t, e))
       ∙ flash-read.same start (config .«max_bus_retries») limit.Window (length buffer) w lent steady roomy (far .0) (far .1) outcomes (config .«pec_read») true 0 (config .«max_bus_retries») 0 buffer [] refl some (omega arith)
       ∙ rw (range-window, t)

@@ -19,6 +19,7 @@ use Rattle.protocol.specs.declared.common.Config.{Config}
 use Rattle.protocol.specs.declared.error.Answer.the-variants as answer
 use Rattle.engine.specs.Limit.{measured, admitted, windowed}
 use Rattle.protocol.specs.Window.{inWindow}
+use Rattle.protocol.proofs.WindowLaws.{within}
 use Rattle.engine.specs.declared.limit.Limit.the-variants as limit
 use Rattle.engine.specs.declared.bus.Phase.the-variants as phase
 use Rattle.writing.specs.Frames.{isFlash, isPlain, firstAddress, bytesAt, halfBytes, infoCBytes, blockBytes, frameCount}
@@ -30,7 +31,7 @@ use Rattle.original.specs.Fed.{Lending, Lends, answered, writes}
 use Rattle.original.specs.OriginalInterface as rust
 use Rattle.original.specs.OriginalR5 as rust-r5
 use Rattle.original.proofs.WriteTurns.{own, frameAt, each, frames-in-turn, no-frame}
-use Rattle.original.proofs.Range.{range-window, in-range}
+use Rattle.original.proofs.Range.{range-window}
 use Rattle.original.proofs.FlashWrite.{all-chunks}
 use Rattle.original.proofs.OneFrame.{one-frame, limited}
 use Rattle.original.proofs.Laws.{fixed-pair, settle-by, settle-settle, settle-last}
@@ -210,7 +211,7 @@ module _ (config : Config) (small : config .«max_bus_retries» ≤ 65535) (w : 
           no-frame (machine-r5.writeDataflash config start) bytes w lent answer.Done outcomes (rw (le-ltb w 39 roomy, t, e)) ∙ rw (range-window, t, z)
       by true t false e =
           let some : 0 < length bytes = omega (arith, eqb-false (length bytes) 0 e) in
-          let far : (0x4000 ≤ start) × (start + length bytes ≤ 0x6000) = in-range start (length bytes) t some in
+          let far : (0x4000 ≤ start) × (start + length bytes ≤ 0x6000) = within start (length bytes) t some in
           frames-in-turn (machine-r5.writeDataflash config start) bytes w lent steady (λ i j o. omega (arith, block-length start i bytes)) (omega arith) small ((length bytes - 1) / 32) outcomes (omega arith) (rw (le-ltb w 39 roomy, t, e))
           ∙ all-chunks config start bytes w (far .1) ((length bytes - 1) / 32) (length bytes) begun outcomes refl some (omega arith)
           ∙ rw (range-window, t)

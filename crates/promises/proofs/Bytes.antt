@@ -12,9 +12,9 @@ use lib.ListN.{length, take, getD, length-take}
 use lib.Seq.{getD-take, ext-getD}
 use borrow.Author.Tests.{eqb-true, eqb-false, ltb-true, ltb-false}
 use Rattle.protocol.specs.Window.{inWindow}
+use Rattle.protocol.proofs.WindowLaws.{within}
 use Rattle.promises.specs.Flash.{placeOf, byteAt, store, Overlaid, Stands}
 use Rattle.promises.proofs.Store.{store-length, store-before, store-in, store-after, store-empty}
-use Rattle.promises.proofs.Window.{within}
 
 -- the address of each place of the flash
 place-of : (j : ℕ) → placeOf (0x4000 + j) ≡ j

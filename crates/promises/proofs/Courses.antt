@@ -13,6 +13,7 @@ use Rattle.protocol.specs.Window.{inWindow}
 use Rattle.protocol.specs.declared.common.Config.{Config}
 use Rattle.protocol.specs.declared.error.Answer.{Answer}
 use Rattle.protocol.specs.declared.error.Answer.the-variants as answer
+use Rattle.protocol.proofs.WindowLaws.{within}
 use Rattle.engine.specs.Pick.{case_waiting_ended_}
 use Rattle.engine.specs.Bus as bus
 use Rattle.engine.specs.Made.{Made, write}
@@ -41,7 +42,6 @@ use Rattle.promises.specs.Events.{each}
 use Rattle.promises.specs.Writes.{WriteWorld, began, shows, step, run}
 use Rattle.promises.specs.Demand3.{clean, Told, endIn, Tells, EndedWell, ended-well, Accepted}
 use Rattle.promises.specs.Courses.{eventAt, eventsAt, beside, ran, ranIn, stoppedAt, left-over, Leaves, Runs, started, ran-on, GoOnCourses, OnCourses}
-use Rattle.promises.proofs.Window.{within}
 use Rattle.promises.proofs.Frames.{block-acts}
 use Rattle.promises.proofs.Machine.{worldAt, frameOf, shows-block, shows-ended, lays, hands-out, laid-long, is-taken, nothing-lent, made-sent, made-ended}
 use Rattle.promises.proofs.Stopped.{ToldAt, Going, going-step, going, run-empty, stopped}

@@ -11,6 +11,7 @@ use borrow.Author.Tests.{eqb-true, eqb-false}
 use Rattle.protocol.specs.Frame.{sealed, pairOf, macBytes}
 use Rattle.protocol.specs.declared.common.Config.{Config}
 use Rattle.protocol.specs.declared.error.Answer.the-variants as answer
+use Rattle.protocol.proofs.WindowLaws.{within}
 use Rattle.engine.specs.Budget.{nothing}
 use Rattle.engine.specs.declared.budget.Budget.{Budget}
 use Rattle.engine.specs.declared.budget.Tally.{Tally}
@@ -23,7 +24,6 @@ use Rattle.promises.specs.Flash.{blockFrame}
 use Rattle.promises.specs.Events.{Event}
 use Rattle.promises.specs.Writes.{WriteWorld, began, shows, handed, run}
 use Rattle.promises.specs.Demand3.{Accepted}
-use Rattle.promises.proofs.Window.{within}
 use Rattle.promises.proofs.Machine.{worldAt, frameOf, shows-block, lays, hands-out, shows-ended}
 use Rattle.promises.proofs.Stopped.{going, run-empty}
 

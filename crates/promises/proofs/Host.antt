@@ -13,6 +13,7 @@ use Rattle.protocol.specs.Pick.{if_then_else_}
 use Rattle.protocol.specs.Bytes.{over}
 use Rattle.protocol.specs.declared.common.Config.{Config}
 use Rattle.protocol.specs.declared.error.Answer.the-variants as answer
+use Rattle.protocol.proofs.WindowLaws.{within}
 use Rattle.engine.specs.Pick.{case_waiting_ended_, case_acknowledged_error_timeout_}
 use Rattle.engine.specs.Bus.{fitsOf}
 use Rattle.engine.specs.Budget.{nothing}
@@ -29,7 +30,6 @@ use Rattle.promises.specs.Events.{each}
 use Rattle.promises.specs.Host.{Doing, transfers, reports, events, Misplaced, has-ended, wrong-buffer, wrong-reply, Allowed}
 use Rattle.promises.specs.Writes.{WriteWorld, began, holding, shows, step, run, does, May, hosted, Alike}
 use Rattle.promises.specs.Demand3.{Accepted}
-use Rattle.promises.proofs.Window.{within}
 use Rattle.promises.proofs.Machine.{worldAt, callAt, frameOf, shows-block, laid-long, made-sent, made-ended}
 use Rattle.promises.proofs.Stopped.{Going, going-step, going, run-empty}
 use Rattle.promises.proofs.Hosted.{answers, not-fits, hosted-run}

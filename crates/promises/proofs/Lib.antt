@@ -2,7 +2,6 @@ pub mod Demand1
 pub mod Demand2
 pub mod Store
 pub mod Overlay
-pub mod Window
 pub mod Bytes
 pub mod Frames
 pub mod Machine

@@ -13,6 +13,7 @@ use Rattle.protocol.specs.Answer.{numberOf}
 use Rattle.protocol.specs.declared.common.Config.{Config}
 use Rattle.protocol.specs.declared.error.Answer.{Answer}
 use Rattle.protocol.specs.declared.error.Answer.the-variants as answer
+use Rattle.protocol.proofs.WindowLaws.{within}
 use Rattle.engine.specs.Pick.{case_waiting_ended_, case_acknowledged_error_timeout_}
 use Rattle.engine.specs.Budget.{nothing}
 use Rattle.engine.specs.declared.budget.Budget.{Budget}
@@ -30,7 +31,6 @@ use Rattle.promises.specs.Events.{busError, timedOut, Event, acknowledge
 use Rattle.promises.specs.OverOriginal.{outcomeIn, outcomesIn, madeIn, laidOver, stopOf}
 use Rattle.promises.specs.Writes.{WriteWorld, began, shows, step, run}
 use Rattle.promises.specs.Demand3.{endIn, Accepted}
-use Rattle.promises.proofs.Window.{within}
 use Rattle.promises.proofs.Machine.{worldAt, callAt, frameOf, shows-block, shows-ended, lays, hands-out, laid-long, is-taken, made-sent}
 use Rattle.promises.proofs.Stopped.{Going, going-step, going, run-ended, run-empty}
 

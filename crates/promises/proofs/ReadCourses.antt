@@ -13,6 +13,7 @@ use Rattle.protocol.specs.declared.common.Config.{Config}
 use Rattle.protocol.specs.declared.error.Answer.{Answer}
 use Rattle.protocol.specs.declared.error.Answer.the-variants as answer
 use Rattle.protocol.proofs.Laws.{take-over}
+use Rattle.protocol.proofs.WindowLaws.{within}
 use Rattle.engine.specs.Pick.{case_waiting_ended_}
 use Rattle.engine.specs.Bus as bus
 use Rattle.engine.specs.Made.{write, read}
@@ -41,7 +42,6 @@ use Rattle.promises.specs.Demand3.{endIn, Accepted}
 use Rattle.promises.specs.Courses.{eventsAt, left-over}
 use Rattle.promises.specs.Reads.{ReadWorld, readBegan, heard, readShows, readStep, readRun}
 use Rattle.promises.specs.Reading.{inModel, readRan, readRanIn, readStoppedAt}
-use Rattle.promises.proofs.Window.{within}
 use Rattle.promises.proofs.Courses.{eventIn, eventsIn, events-at, effect-in, same-after, drive-both, fates-both, sound-both}
 use Rattle.promises.proofs.CourseRows.{is-admitted}
 use Rattle.promises.proofs.Frames.{address-acts, address-points, address-stores}

@@ -14,6 +14,7 @@ use Rattle.protocol.specs.Reply.{bytesAsked, heardOf}
 use Rattle.protocol.specs.declared.common.Config.{Config}
 use Rattle.protocol.specs.declared.error.Answer.{Answer}
 use Rattle.protocol.specs.declared.error.Answer.the-variants as answer
+use Rattle.protocol.proofs.WindowLaws.{within}
 use Rattle.engine.specs.Pick.{case_waiting_ended_, case_acknowledged_error_timeout_}
 use Rattle.engine.specs.Bus.{fitsOf}
 use Rattle.engine.specs.Budget.{nothing}
@@ -37,7 +38,6 @@ use Rattle.promises.specs.Events.{after, flashAfter, ackedAfter, each}
 use Rattle.promises.specs.Host.{Doing, transfers, reports, events, Misplaced, has-ended, wrong-buffer, wrong-reply, Allowed}
 use Rattle.promises.specs.Reads.{ReadWorld, readBegan, lending, readShows, readStep, readRun, readDoes, ReadMay, readHosted, ReadAlike}
 use Rattle.promises.specs.Demand3.{Accepted}
-use Rattle.promises.proofs.Window.{within}
 use Rattle.promises.proofs.Hosted.{answers, not-fits, hosted-run}
 use Rattle.promises.proofs.ReadSteps.{pointedBy, readAt, readWorld, headOf, shows-head, shows-read, head-long, made-head, broughtAt, made-read, heard-same, made-over}
 use Rattle.promises.proofs.Reading.{Reading, buffer-long, reading-step}

@@ -13,6 +13,7 @@ use Rattle.protocol.specs.Bytes.{over}
 use Rattle.protocol.specs.declared.common.Config.{Config}
 use Rattle.protocol.specs.declared.error.Answer.{Answer}
 use Rattle.protocol.specs.declared.error.Answer.the-variants as answer
+use Rattle.protocol.proofs.WindowLaws.{within}
 use Rattle.engine.specs.Pick.{case_waiting_ended_}
 use Rattle.engine.specs.Budget.{nothing}
 use Rattle.engine.specs.Limit.{windowed, measured, admitted}
@@ -28,7 +29,6 @@ use Rattle.promises.specs.Events.{Event}
 use Rattle.promises.specs.Reads.{ReadWorld, readBegan, readShows, readStep, readRun, Coming, comes, damaged as spoilt, readOver, Damages, readNoisily}
 use Rattle.promises.specs.Reading.{all-got, ReadTold, ReadPromised}
 use Rattle.promises.specs.Demand3.{Accepted}
-use Rattle.promises.proofs.Window.{within}
 use Rattle.promises.proofs.Stopped.{stays}
 use Rattle.promises.proofs.ReadSteps.{readWorld, shows-head, shows-read, made-over, damaged-over}
 use Rattle.promises.proofs.Reading.{Kept, Reading, buffer-long, reading-run, reading-noise}

@@ -16,6 +16,7 @@ use Rattle.protocol.specs.Answer.{numberOf}
 use Rattle.protocol.specs.declared.common.Config.{Config}
 use Rattle.protocol.specs.declared.error.Answer.{Answer}
 use Rattle.protocol.specs.declared.error.Answer.the-variants as answer
+use Rattle.protocol.proofs.WindowLaws.{within}
 use Rattle.engine.specs.Pick.{case_waiting_ended_}
 use Rattle.engine.specs.Budget.{nothing}
 use Rattle.engine.specs.Bus.{phaseAfter}
@@ -36,7 +37,6 @@ use Rattle.promises.specs.Reads.{ReadWorld, readShows, readRun}
 use Rattle.promises.specs.Demand3.{endIn, EndedWell, clean, Accepted}
 use Rattle.promises.specs.Courses.{eventsAt, ran}
 use Rattle.promises.specs.Reading.{flashBytes, ReadAnswered, all-got, gave-up, disbelieved, ReadTold, readRan, readRanIn, ReadsTrue}
-use Rattle.promises.proofs.Window.{within}
 use Rattle.promises.proofs.Courses.{run-leaves, heard-sound, heard-in, unbroken}
 use Rattle.promises.proofs.ReadSteps.{readWorld, headOf, head-long}
 use Rattle.promises.proofs.Reading.{flash-long, step-head-heard, blockAfter, step-read-heard, block-after}

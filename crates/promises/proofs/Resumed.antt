@@ -17,6 +17,7 @@ use Rattle.protocol.specs.Window.{inWindow}
 use Rattle.protocol.specs.declared.common.Config.{Config}
 use Rattle.protocol.specs.declared.error.Answer.{Answer}
 use Rattle.protocol.specs.declared.error.Answer.the-variants as answer
+use Rattle.protocol.proofs.WindowLaws.{within, window-rest}
 use Rattle.engine.specs.Pick.{case_waiting_ended_}
 use Rattle.engine.specs.Bus.{phaseAfter}
 use Rattle.engine.specs.Budget.{nothing}
@@ -37,7 +38,6 @@ use Rattle.promises.specs.Writes.{WriteWorld, began, shows, run}
 use Rattle.promises.specs.Demand3.{clean, Answered, all-acked, some-acked, none-acked, Told, Promised, endIn, Tells, EndedWell, givenCount, Goes, ended-well, went-on, started-over, GoOver, Accepted}
 use Rattle.promises.proofs.Overlay.{overlaid-all, overlaid-rest}
 use Rattle.promises.proofs.Store.{store-empty}
-use Rattle.promises.proofs.Window.{within, window-rest}
 use Rattle.promises.proofs.Bytes.{nothing-over}
 use Rattle.promises.proofs.Machine.{worldAt, frameOf, laid-long, step-acknowledged}
 use Rattle.promises.proofs.Stopped.{began-is, run-ended, run-empty, stopped}

@@ -14,6 +14,7 @@ use Rattle.protocol.specs.Bytes.{over, blocksOf}
 use Rattle.protocol.specs.declared.common.Config.{Config}
 use Rattle.protocol.specs.declared.error.Answer.{Answer}
 use Rattle.protocol.specs.declared.error.Answer.the-variants as answer
+use Rattle.protocol.proofs.WindowLaws.{within}
 use Rattle.engine.specs.Pick.{case_retry_spent_}
 use Rattle.engine.specs.Bus.{phaseAfter}
 use Rattle.engine.specs.Budget.{failed as failedOf, nothing, waited}
@@ -32,7 +33,6 @@ use Rattle.promises.specs.Writes.{WriteWorld, began, shows, step, run}
 use Rattle.promises.specs.Demand3.{Answered, all-acked, some-acked, none-acked, Told, Promised, Accepted}
 use Rattle.promises.proofs.Overlay.{overlaid-long, overlaid-none, landed}
 use Rattle.promises.proofs.Store.{store-nothing}
-use Rattle.promises.proofs.Window.{within}
 use Rattle.promises.proofs.Bytes.{agree}
 use Rattle.promises.proofs.Frames.{stores-block}
 use Rattle.promises.proofs.Machine.{whyOf, why-number, worldAt, callAt, frameOf, shows-block, shows-ended, laid-long, step-acknowledged, step-failed, step-unheard, made-ended}
