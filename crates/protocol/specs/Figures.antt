@@ -1,4 +1,4 @@
--- The figures of document 01 on each side of a line: PECs, windows and the settings that a driver starts with, as one table under one statement.
+-- The figures of document 01 on each side of a line, PECs and windows, and the settings that a driver starts with, as one table under one statement.
 -- Assumes nothing.
 use mathlib.Core.Path.{_≡_, refl}
 use mathlib.Core.Bool.{Bool, true, false, _&&_}
