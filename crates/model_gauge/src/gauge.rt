@@ -4,6 +4,7 @@ use crate::frame::Form;
 use engine::bus::Outcome;
 use protocol::bytes;
 use protocol::consts::BQ_ADDR;
+use protocol::consts::DF_END_ADDRESS;
 use protocol::consts::DF_FIRST_ADDRESS;
 use protocol::consts::DF_SIZE_BYTES;
 use protocol::consts::LARGEST_DF_BLOCK_SIZE_BYTES;
@@ -52,7 +53,7 @@ fn onward(address: u16) -> u16
     if address < 0x5FE0 {
         address + 32
     } else {
-        0x6000
+        DF_END_ADDRESS
     }
 }
 

@@ -16,6 +16,7 @@ use Rattle.protocol.specs.Laws.{Laws}
 use Rattle.protocol.specs.declared.frame.Laid.the-variants.{Frame, NoRoom}
 use Rattle.protocol.specs.declared.reply.Ask.{Ask}
 use Rattle.protocol.specs.declared.reply.Heard.the-variants.{WrongLength, WrongPec, Good}
+use Rattle.protocol.proofs.WindowLaws.{by-last}
 
 copies : (most k : ℕ) (block buffer : List ℕ) → k ≡ min most (min (length block) (length buffer)) → blockIn most block buffer ≡ take k block ++ drop k buffer
 unfolding blockIn over
@@ -64,6 +65,8 @@ good ask reply h c = by (ask .pec) refl
 pub laws : Laws
 unfolding sealed if_then_else_
 laws = record {
+  window-end = (refl, refl);
+  window-by-last = by-last;
   copies = copies;
   stores = stores;
   stores-none = stores-none;

@@ -7,7 +7,7 @@ use mathlib.Core.Logic.{_⊎_, inl, inr}
 use native.Mathlib.Omega.{arith}
 use lib.Dec.{leb, eqb}
 use borrow.Author.Tests.{le-leb, lt-leb, leb-true, leb-false, ne-eqb, eqb-true, eqb-false}
-use Rattle.protocol.specs.Window.{inWindow}
+use Rattle.protocol.specs.Window.{inWindow, inWindowByLast}
 
 -- an empty transfer passes at any address
 pub empty : (start len : ℕ) → len ≡ 0 → inWindow start len ≡ true
@@ -21,17 +21,20 @@ inside start len low high = by (eqb len 0) refl
   where
     by : (t : Bool) → eqb len 0 ≡ t → inWindow start len ≡ true
     by true t = rw t
-    by false t = let some = eqb-false len 0 t in rw (t, le-leb 0x4000 start low, le-leb (start + (len - 1)) 0x5FFF (omega arith))
+    by false t =
+        let some = eqb-false len 0 t in
+        rw (t, le-leb 0x4000 start low, le-leb start 0x5FFF (omega arith), le-leb len (0x6000 - start) (omega arith))
 
 -- one that is not empty and starts before the window or runs past its end does not
 pub outside : (start len : ℕ) → 0 < len → (start < 0x4000) ⊎ (0x6000 < start + len) → inWindow start len ≡ false
 unfolding inWindow
 outside start len some (inl low) = rw (ne-eqb len 0 (λ e. omega arith), lt-leb 0x4000 start low)
-outside start len some (inr far) = by (leb 0x4000 start) refl
+outside start len some (inr far) = by (leb 0x4000 start) refl (leb start 0x5FFF) refl
   where
-    by : (t : Bool) → leb 0x4000 start ≡ t → inWindow start len ≡ false
-    by true t = rw (ne-eqb len 0 (λ e. omega arith), t, lt-leb (start + (len - 1)) 0x5FFF (omega arith))
-    by false t = rw (ne-eqb len 0 (λ e. omega arith), t)
+    by : (a : Bool) → leb 0x4000 start ≡ a → (b : Bool) → leb start 0x5FFF ≡ b → inWindow start len ≡ false
+    by true a true b = rw (ne-eqb len 0 (λ e. omega arith), a, b, lt-leb len (0x6000 - start) (omega (arith, leb-true start 0x5FFF b)))
+    by true a false b = rw (ne-eqb len 0 (λ e. omega arith), a, b)
+    by false a t b = rw (ne-eqb len 0 (λ e. omega arith), a)
 
 -- so what passes and is not empty lies inside
 pub within : (start len : ℕ) → inWindow start len ≡ true → 0 < len → (0x4000 ≤ start) × (start + len ≤ 0x6000)
@@ -69,3 +72,16 @@ window-rest start len b e l = by (eqb len 0) refl
         let some = eqb-false len 0 t in
         let w = within start len e (omega arith) in
         inside (start + b) (len - b) (omega (arith, w .0)) (omega (arith, w .1, l))
+
+-- every answer is that of document 01's formula
+pub by-last : (start len : ℕ) → inWindow start len ≡ inWindowByLast start len
+unfolding inWindowByLast
+by-last start len = by (eqb len 0) refl (leb 0x4000 start) refl (leb (start + (len - 1)) 0x5FFF) refl
+  where
+    by : (z : Bool) → eqb len 0 ≡ z → (a : Bool) → leb 0x4000 start ≡ a → (b : Bool) → leb (start + (len - 1)) 0x5FFF ≡ b → inWindow start len ≡ inWindowByLast start len
+    by true z a p b q = rw (empty start len (eqb-true len 0 z), z)
+    by false z true p true q =
+        let some = eqb-false len 0 z in rw (inside start len (leb-true _ _ p) (omega (arith, leb-true (start + (len - 1)) 0x5FFF q)), z, p, q)
+    by false z true p false q =
+        let some = eqb-false len 0 z in rw (outside start len (omega arith) (inr (omega (arith, leb-false (start + (len - 1)) 0x5FFF q))), z, p, q)
+    by false z false p b q = let some = eqb-false len 0 z in rw (outside start len (omega arith) (inl (leb-false _ _ p)), z, p)

@@ -1,5 +1,5 @@
--- What the parts that all calls share come to, in plain lists: the block copier, how many blocks there are, the part to send, the one builder, the fixed
--- pairs, when a reply is believed, settings without PEC. (01, The step machine; Frames and retries)
+-- What the parts that all calls share come to, in plain lists and numbers: the window, the block copier, how many blocks there are, the part to send, the one
+-- builder, the fixed pairs, when a reply is believed, settings without PEC. (01, The step machine; Frames and retries)
 -- Assumes nothing.
 use Prim.Native.Nat.{ℕ, _+_, _*_, _≤_, _<_, min}
 use mathlib.Core.Path.{_≡_}
@@ -11,6 +11,7 @@ use Rattle.protocol.specs.Bytes.{blockIn, storedAt, blocksOf, sendOf}
 use Rattle.protocol.specs.Common.{noPec}
 use Rattle.protocol.specs.Frame.{sealed, fixedPair, laidOf, workLaid}
 use Rattle.protocol.specs.Reply.{bytesAsked, checkedOf, heardOf}
+use Rattle.protocol.specs.Window.{windowFirst, windowLast, windowSize, windowEnd, inWindow, inWindowByLast}
 use Rattle.protocol.specs.declared.common.Config.{Config}
 use Rattle.protocol.specs.declared.frame.Laid.the-variants.{Frame, NoRoom}
 use Rattle.protocol.specs.declared.frame.MacCommand.the-variants.{SecurityKeys, AuthenticationKey, ChargingVoltageOverride, MfgInfoC}
@@ -18,6 +19,10 @@ use Rattle.protocol.specs.declared.reply.Ask.{Ask}
 use Rattle.protocol.specs.declared.reply.Heard.the-variants.{WrongLength, WrongPec, Good}
 
 pub record Laws : Type 0 where
+  -- 6000 hex is the first address plus the size, and the address after the last
+  pub window-end : (windowEnd ≡ windowFirst + windowSize) × (windowEnd ≡ windowLast + 1)
+  -- every answer of the window is that of document 01's formula, whatever the start and the length
+  pub window-by-last : (start len : ℕ) → inWindow start len ≡ inWindowByLast start len
   -- the block copier lays as many bytes over the front as it may, as the block has and as there is room for
   pub copies : (most k : ℕ) (block buffer : List ℕ) → k ≡ min most (min (length block) (length buffer)) → blockIn most block buffer ≡ take k block ++ drop k buffer
   -- from its middle onward: what follows the first `at` bytes is lent to the copier; where they are more than there are, nothing is

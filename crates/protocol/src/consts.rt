@@ -1,4 +1,4 @@
-// The sizes and commands of the gauge, under the names of consts.rs.
+// The sizes and commands of the gauge, under the names of consts.rs where it has them.
 
 pub const LARGEST_REG_SIZE_BYTES: usize = 32;
 
@@ -43,8 +43,11 @@ pub const DEFAULT_BUS_RETRIES: u16 = 3;
 
 pub const DEFAULT_ERROR_BACKOFF_DELAY_MS: u32 = 10;
 
-// How many addresses the window has.
-pub const DF_SIZE_BYTES: usize = 0x2000;
+// The first address past the window, 6000 hex.
+pub const DF_END_ADDRESS: u16 = DF_LAST_ADDRESS + 1;
+
+// How many addresses the window has: 8,192.
+pub const DF_SIZE_BYTES: usize = (DF_END_ADDRESS - DF_FIRST_ADDRESS) as usize;
 
 // The longest frame that a plain write puts a PEC after.
 pub const LARGEST_PLAIN_SIZE_BYTES: usize = 38;
