@@ -13,6 +13,7 @@ use Rattle.protocol.specs.Pick.{if_then_else_}
 use Rattle.protocol.specs.Answer.{numberOf}
 use Rattle.protocol.specs.declared.error.Answer.{Answer}
 use Rattle.protocol.specs.declared.error.Answer.the-variants as answer
+use Rattle.protocol.proofs.AnswerLaws.{done-only}
 use Rattle.engine.specs.declared.bus.Transfer.{Transfer}
 use Rattle.engine.specs.declared.bus.Transfer.the-variants as transfer
 use Rattle.writing.proofs.Shown.{write-work}
@@ -34,7 +35,7 @@ use Rattle.original.specs.Fed.{Lending, reply, answered, shows_sending_transfer
 use Rattle.original.specs.ByKind.{came_taken_refused_, fed}
 use Rattle.bench_promises.specs.RustBench.{transferLine, transferLines, endLine, cutLine, outcome, stopped, acknowledgedBy, errorBy, timeoutBy, heardIn, lastAsks, cameTo_waiting_, heard_goes_stops_, runOf}
 use Rattle.bench_promises.proofs.Steps.{IsTaken, Failure, Takes, takes}
-use Rattle.bench_promises.proofs.Said.{end-said, last-said, read-said, done-only}
+use Rattle.bench_promises.proofs.Said.{end-said, last-said, read-said}
 
 -- ---- lists of transfers
 

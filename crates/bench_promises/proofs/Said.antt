@@ -8,7 +8,7 @@ use native.Mathlib.Omega.{arith}
 use lib.ListN.{length}
 use borrow.Author.Tests.{ne-eqb}
 use Rattle.protocol.specs.Pick.{if_then_else_}
-use Rattle.protocol.specs.Answer.{numberOf, detailOf}
+use Rattle.protocol.specs.Answer.{detailOf}
 use Rattle.protocol.specs.Frame.{pairOf}
 use Rattle.protocol.specs.declared.error.Answer.{Answer}
 use Rattle.protocol.specs.declared.error.Answer.the-variants as answer
@@ -43,21 +43,6 @@ last-said tally (b ∷ rest) buffer = rw (ne-eqb (suc (length rest)) 0 (λ e. om
 pub read-said : (command count : ℕ) → readSaid command count ≡ 0x01 ∷ command ∷ lowFirst 2 count
 unfolding readSaid
 read-said command count = rw (← pair-low count)
-
--- the answer of number 0 is that the call ended well
-pub done-only : (a : Answer) → numberOf a ≡ 0 → a ≡ answer.Done
-done-only answer.Done e = refl
-done-only (answer.I2c code) e = absurd (omega arith)
-done-only answer.Timeout e = absurd (omega arith)
-done-only answer.Pec e = absurd (omega arith)
-done-only answer.DataTooLarge e = absurd (omega arith)
-done-only answer.DataFlashAddressOutOfRange e = absurd (omega arith)
-done-only (answer.PartialDataFlashWrite n) e = absurd (omega arith)
-done-only answer.NotACommand e = absurd (omega arith)
-done-only answer.WrongBuffer e = absurd (omega arith)
-done-only answer.WrongReply e = absurd (omega arith)
-done-only answer.NothingOutstanding e = absurd (omega arith)
-done-only answer.BadLine e = absurd (omega arith)
 
 -- ---- read back
 

@@ -13,6 +13,7 @@ use Rattle.protocol.specs.Answer.{numberOf}
 use Rattle.protocol.specs.declared.common.Config.{Config}
 use Rattle.protocol.specs.declared.error.Answer.{Answer}
 use Rattle.protocol.specs.declared.error.Answer.the-variants as answer
+use Rattle.protocol.proofs.AnswerLaws.{done-only}
 use Rattle.protocol.proofs.WindowLaws.{within}
 use Rattle.engine.specs.Pick.{case_waiting_ended_, case_acknowledged_error_timeout_}
 use Rattle.engine.specs.Budget.{nothing}
@@ -46,18 +47,11 @@ transfers-answered a log os = by (eqb (numberOf a) 0)
 
 stop-answered : (a : Answer) (log : Log) (os : List BusOutcome) → end.Answered a ≡ stopOf (answered a log os)
 unfolding answered if_then_else_
-stop-answered answer.Done log os = refl
-stop-answered (answer.I2c code) log os = refl
-stop-answered answer.Timeout log os = refl
-stop-answered answer.Pec log os = refl
-stop-answered answer.DataTooLarge log os = refl
-stop-answered answer.DataFlashAddressOutOfRange log os = refl
-stop-answered (answer.PartialDataFlashWrite committed) log os = refl
-stop-answered answer.NotACommand log os = refl
-stop-answered answer.WrongBuffer log os = refl
-stop-answered answer.WrongReply log os = refl
-stop-answered answer.NothingOutstanding log os = refl
-stop-answered answer.BadLine log os = refl
+stop-answered a log os = by (eqb (numberOf a) 0) refl
+  where
+    by : (t : Bool) → eqb (numberOf a) 0 ≡ t → end.Answered a ≡ stopOf (if t then Ok log os else Err a log os)
+    by true e = rw (done-only a (eqb-true (numberOf a) 0 e))
+    by false e = refl
 
 -- ---- an event, in the Rust's words
 

@@ -1,3 +1,4 @@
+pub mod AnswerLaws
 pub mod Cases
 pub mod Laws
 pub mod Shared
