@@ -38,9 +38,18 @@ use Rattle.bench_promises.proofs.Said.{end-said}
 use Rattle.bench_promises.proofs.Follow.{lent, follow}
 use Rattle.bench_promises.proofs.Asked.{byte-at, pair-at, quad-at, missing, long, wide, called, other, exact}
 
--- row i of the table, that of kind i + 1
+-- of two rows the first, or the second
+abbrev pick : Bool → Row → Row → Row
+pick true first second = first
+pick false first second = second
+
+-- the row of a kind
+abbrev rowAmong : List Row → ℕ → Row
+rowAmong [] k = record { kind = 0; fixed = 0; least = 0; most = 0; size = λ s. 0; call = λ config s p b os. Err answer.BadLine begun os leaving b }
+rowAmong (first ∷ more) k = pick (eqb k (first .kind)) first (rowAmong more k)
+
 abbrev row : ℕ → Row
-row i = getD rows i (record { kind = 0; fixed = 0; least = 0; most = 0; size = λ s. 0; call = λ config s p b os. Err answer.BadLine begun os leaving b })
+row k = rowAmong rows k
 
 module _ (line : List ℕ) (lines : List (List ℕ)) (rest : List ℕ) (c : Config) where
   abbrev args : List ℕ
@@ -196,116 +205,116 @@ module _ (line : List ℕ) (lines : List (List ℕ)) (rest : List ℕ) (c : Conf
     own-size : (n : ℕ) → length (replicate {A = ℕ} n 0xA5) ≡ n
     own-size n = length-replicate {A = ℕ} n 0xA5
 
-    write-dataflash : Same (calledOf (kind.WriteDataflash (pairAt 0 args)) c 2 0 (length args)) (askedBy (row 0) c args)
+    write-dataflash : Same (calledOf (kind.WriteDataflash (pairAt 0 args)) c 2 0 (length args)) (askedBy (row 0x01) c args)
     write-dataflash =
-        any (row 0) (kind.WriteDataflash (pairAt 0 args)) 0 refl refl (λ h. refl)
-        (λ w os. rw (pair-at 0 args (omega (arith, w .fixed))) (same (row 0) _ os tt))
+        any (row 0x01) (kind.WriteDataflash (pairAt 0 args)) 0 refl refl (λ h. refl)
+        (λ w os. rw (pair-at 0 args (omega (arith, w .fixed))) (same (row 0x01) _ os tt))
 
-    read-dataflash : Same (exactOf (kind.ReadDataflash (pairAt 0 args)) c 4 0 (pairAt 2 args) (length args)) (askedBy (row 1) c args)
+    read-dataflash : Same (exactOf (kind.ReadDataflash (pairAt 0 args)) c 4 0 (pairAt 2 args) (length args)) (askedBy (row 0x02) c args)
     read-dataflash =
-        one (row 1) (kind.ReadDataflash (pairAt 0 args)) 0 (pairAt 2 args) (omega arith) refl refl (λ h. sym (pair-at 2 args h))
-        (λ w os. rw (pair-at 0 args (omega (arith, w .fixed))) (same (row 1) _ os tt))
+        one (row 0x02) (kind.ReadDataflash (pairAt 0 args)) 0 (pairAt 2 args) (omega arith) refl refl (λ h. sym (pair-at 2 args h))
+        (λ w os. rw (pair-at 0 args (omega (arith, w .fixed))) (same (row 0x02) _ os tt))
 
-    write-register : Same (calledOf (kind.WriteRegister (getD args 0 0)) c 1 0 (length args)) (askedBy (row 2) c args)
+    write-register : Same (calledOf (kind.WriteRegister (getD args 0 0)) c 1 0 (length args)) (askedBy (row 0x03) c args)
     write-register =
-        any (row 2) (kind.WriteRegister (getD args 0 0)) 0 refl refl (λ h. refl)
-        (λ w os. rw (byte-at 0 args (omega (arith, w .fixed))) (same (row 2) _ os tt))
+        any (row 0x03) (kind.WriteRegister (getD args 0 0)) 0 refl refl (λ h. refl)
+        (λ w os. rw (byte-at 0 args (omega (arith, w .fixed))) (same (row 0x03) _ os tt))
 
-    read-register : Same (exactOf (kind.ReadRegister (getD args 0 0)) c 3 0 (pairAt 1 args) (length args)) (askedBy (row 3) c args)
+    read-register : Same (exactOf (kind.ReadRegister (getD args 0 0)) c 3 0 (pairAt 1 args) (length args)) (askedBy (row 0x04) c args)
     read-register =
-        one (row 3) (kind.ReadRegister (getD args 0 0)) 0 (pairAt 1 args) (omega arith) refl refl (λ h. sym (pair-at 1 args h))
-        (λ w os. rw (byte-at 0 args (omega (arith, w .fixed))) (same (row 3) _ os tt))
+        one (row 0x04) (kind.ReadRegister (getD args 0 0)) 0 (pairAt 1 args) (omega arith) refl refl (λ h. sym (pair-at 1 args h))
+        (λ w os. rw (byte-at 0 args (omega (arith, w .fixed))) (same (row 0x04) _ os tt))
 
-    dispatch-command : Same (calledOf (kind.DispatchCommand (quadAt 0 args)) c 6 (pairAt 4 args) (length args)) (askedBy (row 4) c args)
+    dispatch-command : Same (calledOf (kind.DispatchCommand (quadAt 0 args)) c 6 (pairAt 4 args) (length args)) (askedBy (row 0x05) c args)
     dispatch-command =
-        any (row 4) (kind.DispatchCommand (quadAt 0 args)) (pairAt 4 args) refl refl (λ h. sym (pair-at 4 args h))
+        any (row 0x05) (kind.DispatchCommand (quadAt 0 args)) (pairAt 4 args) refl refl (λ h. sym (pair-at 4 args h))
         (λ w os. rw (quad-at 0 args (omega (arith, w .fixed)))
-        (either-read (rust.dispatchPanics (payload (row 4)) (buffer (row 4))) _ _ _ (λ t. added (row 4) _ os answer.NotACommand (input-given (quadAt 0 args) t)) (λ t. sym (same (row 4) _ os t))))
+        (either-read (rust.dispatchPanics (payload (row 0x05)) (buffer (row 0x05))) _ _ _ (λ t. added (row 0x05) _ os answer.NotACommand (input-given (quadAt 0 args) t)) (λ t. sym (same (row 0x05) _ os t))))
 
-    read-buffer : Same (exactOf (kind.ReadBuffer (getD args 0 0)) c 3 0 (pairAt 1 args) (length args)) (askedBy (row 5) c args)
+    read-buffer : Same (exactOf (kind.ReadBuffer (getD args 0 0)) c 3 0 (pairAt 1 args) (length args)) (askedBy (row 0x06) c args)
     read-buffer =
-        one (row 5) (kind.ReadBuffer (getD args 0 0)) 0 (pairAt 1 args) (omega arith) refl refl (λ h. sym (pair-at 1 args h))
-        (λ w os. rw (byte-at 0 args (omega (arith, w .fixed))) (same (row 5) _ os (small-buffer (row 5) w)))
+        one (row 0x06) (kind.ReadBuffer (getD args 0 0)) 0 (pairAt 1 args) (omega arith) refl refl (λ h. sym (pair-at 1 args h))
+        (λ w os. rw (byte-at 0 args (omega (arith, w .fixed))) (same (row 0x06) _ os (small-buffer (row 0x06) w)))
 
-    write-buffer : Same (calledOf (kind.WriteBuffer (getD args 0 0)) c 1 0 (length args)) (askedBy (row 6) c args)
+    write-buffer : Same (calledOf (kind.WriteBuffer (getD args 0 0)) c 1 0 (length args)) (askedBy (row 0x07) c args)
     write-buffer =
-        any (row 6) (kind.WriteBuffer (getD args 0 0)) 0 refl refl (λ h. refl)
-        (λ w os. rw (byte-at 0 args (omega (arith, w .fixed))) (same (row 6) _ os tt))
+        any (row 0x07) (kind.WriteBuffer (getD args 0 0)) 0 refl refl (λ h. refl)
+        (λ w os. rw (byte-at 0 args (omega (arith, w .fixed))) (same (row 0x07) _ os tt))
 
-    read-security-keys : Same (exactOf kind.ReadSecurityKeys c 0 0 28 (length args)) (askedBy (row 7) c args)
+    read-security-keys : Same (exactOf kind.ReadSecurityKeys c 0 0 28 (length args)) (askedBy (row 0x08) c args)
     read-security-keys =
-        one (row 7) kind.ReadSecurityKeys 0 28 (omega arith) refl refl (λ h. refl)
-        (λ w os. same (row 7) _ os (own-size 28))
+        one (row 0x08) kind.ReadSecurityKeys 0 28 (omega arith) refl refl (λ h. refl)
+        (λ w os. same (row 0x08) _ os (own-size 28))
 
-    write-security-keys : Same (calledOf kind.WriteSecurityKeys c 0 0 (length args)) (askedBy (row 8) c args)
+    write-security-keys : Same (calledOf kind.WriteSecurityKeys c 0 0 (length args)) (askedBy (row 0x09) c args)
     write-security-keys =
-        any (row 8) kind.WriteSecurityKeys 0 refl refl (λ h. refl)
-        (λ w os. either (unlike 28 (payload (row 8))) _ _ (buffer (row 8)) _
-        (λ t. added (row 8) _ os answer.WrongBuffer (keys-written (unlike-not 28 (payload (row 8)) t))) (λ t. sym (same (row 8) _ os (unlike-same 28 (payload (row 8)) t))))
+        any (row 0x09) kind.WriteSecurityKeys 0 refl refl (λ h. refl)
+        (λ w os. either (unlike 28 (payload (row 0x09))) _ _ (buffer (row 0x09)) _
+        (λ t. added (row 0x09) _ os answer.WrongBuffer (keys-written (unlike-not 28 (payload (row 0x09)) t))) (λ t. sym (same (row 0x09) _ os (unlike-same 28 (payload (row 0x09)) t))))
 
-    read-authentication-key : Same (exactOf kind.ReadAuthenticationKey c 0 0 16 (length args)) (askedBy (row 9) c args)
+    read-authentication-key : Same (exactOf kind.ReadAuthenticationKey c 0 0 16 (length args)) (askedBy (row 0x0A) c args)
     read-authentication-key =
-        one (row 9) kind.ReadAuthenticationKey 0 16 (omega arith) refl refl (λ h. refl)
-        (λ w os. same (row 9) _ os (own-size 16))
+        one (row 0x0A) kind.ReadAuthenticationKey 0 16 (omega arith) refl refl (λ h. refl)
+        (λ w os. same (row 0x0A) _ os (own-size 16))
 
-    write-authentication-key : Same (calledOf kind.WriteAuthenticationKey c 0 0 (length args)) (askedBy (row 10) c args)
+    write-authentication-key : Same (calledOf kind.WriteAuthenticationKey c 0 0 (length args)) (askedBy (row 0x0B) c args)
     write-authentication-key =
-        any (row 10) kind.WriteAuthenticationKey 0 refl refl (λ h. refl)
-        (λ w os. either (unlike 16 (payload (row 10))) _ _ (buffer (row 10)) _
-        (λ t. added (row 10) _ os answer.WrongBuffer (key-written (unlike-not 16 (payload (row 10)) t))) (λ t. sym (same (row 10) _ os (unlike-same 16 (payload (row 10)) t))))
+        any (row 0x0B) kind.WriteAuthenticationKey 0 refl refl (λ h. refl)
+        (λ w os. either (unlike 16 (payload (row 0x0B))) _ _ (buffer (row 0x0B)) _
+        (λ t. added (row 0x0B) _ os answer.WrongBuffer (key-written (unlike-not 16 (payload (row 0x0B)) t))) (λ t. sym (same (row 0x0B) _ os (unlike-same 16 (payload (row 0x0B)) t))))
 
-    read-register-unchecked : Same (exactOf (kind.ReadRegisterUnchecked (getD args 0 0)) c 3 0 (pairAt 1 args) (length args)) (askedBy (row 11) c args)
+    read-register-unchecked : Same (exactOf (kind.ReadRegisterUnchecked (getD args 0 0)) c 3 0 (pairAt 1 args) (length args)) (askedBy (row 0x0C) c args)
     read-register-unchecked =
-        one (row 11) (kind.ReadRegisterUnchecked (getD args 0 0)) 0 (pairAt 1 args) (omega arith) refl refl (λ h. sym (pair-at 1 args h))
-        (λ w os. rw (byte-at 0 args (omega (arith, w .fixed))) (same (row 11) _ os (small-buffer (row 11) w)))
+        one (row 0x0C) (kind.ReadRegisterUnchecked (getD args 0 0)) 0 (pairAt 1 args) (omega arith) refl refl (λ h. sym (pair-at 1 args h))
+        (λ w os. rw (byte-at 0 args (omega (arith, w .fixed))) (same (row 0x0C) _ os (small-buffer (row 0x0C) w)))
 
-    write-register-unchecked : Same (calledOf (kind.WriteRegisterUnchecked (getD args 0 0)) c 1 0 (length args)) (askedBy (row 12) c args)
+    write-register-unchecked : Same (calledOf (kind.WriteRegisterUnchecked (getD args 0 0)) c 1 0 (length args)) (askedBy (row 0x0D) c args)
     write-register-unchecked =
-        any (row 12) (kind.WriteRegisterUnchecked (getD args 0 0)) 0 refl refl (λ h. refl)
+        any (row 0x0D) (kind.WriteRegisterUnchecked (getD args 0 0)) 0 refl refl (λ h. refl)
         (λ w os. rw (byte-at 0 args (omega (arith, w .fixed)))
-        (either (rust-r5.uncheckedPanics (payload (row 12))) _ _ (buffer (row 12)) _
-        (λ t. added (row 12) _ os answer.DataTooLarge (long-register (getD args 0 0) t)) (λ t. sym (same (row 12) _ os t))))
+        (either (rust-r5.uncheckedPanics (payload (row 0x0D))) _ _ (buffer (row 0x0D)) _
+        (λ t. added (row 0x0D) _ os answer.DataTooLarge (long-register (getD args 0 0) t)) (λ t. sym (same (row 0x0D) _ os t))))
 
-    send-access-key : Same (exactOf (kind.SendAccessKey (pairAt 0 args) (pairAt 2 args)) c 4 0 0 (length args)) (askedBy (row 13) c args)
+    send-access-key : Same (exactOf (kind.SendAccessKey (pairAt 0 args) (pairAt 2 args)) c 4 0 0 (length args)) (askedBy (row 0x0E) c args)
     send-access-key =
-        one (row 13) (kind.SendAccessKey (pairAt 0 args) (pairAt 2 args)) 0 0 (omega arith) refl refl (λ h. refl)
-        (λ w os. rw (pair-at 0 args (omega (arith, w .fixed)), pair-at 2 args (omega (arith, w .fixed))) (same (row 13) _ os (drop-of-length-le args {i = 4} (omega (arith, w .most, w .fixed)))))
+        one (row 0x0E) (kind.SendAccessKey (pairAt 0 args) (pairAt 2 args)) 0 0 (omega arith) refl refl (λ h. refl)
+        (λ w os. rw (pair-at 0 args (omega (arith, w .fixed)), pair-at 2 args (omega (arith, w .fixed))) (same (row 0x0E) _ os (drop-of-length-le args {i = 4} (omega (arith, w .most, w .fixed)))))
 
-    read-mfg-info-c : Same (exactOf kind.ReadMfgInfoC c 2 0 (pairAt 0 args) (length args)) (askedBy (row 14) c args)
+    read-mfg-info-c : Same (exactOf kind.ReadMfgInfoC c 2 0 (pairAt 0 args) (length args)) (askedBy (row 0x0F) c args)
     read-mfg-info-c =
-        one (row 14) kind.ReadMfgInfoC 0 (pairAt 0 args) (omega arith) refl refl (λ h. sym (pair-at 0 args h))
-        (λ w os. same (row 14) _ os tt)
+        one (row 0x0F) kind.ReadMfgInfoC 0 (pairAt 0 args) (omega arith) refl refl (λ h. sym (pair-at 0 args h))
+        (λ w os. same (row 0x0F) _ os tt)
 
-    write-mfg-info-c : Same (calledOf (kind.WriteMfgInfoC (pairAt 0 args) (pairAt 2 args)) c 4 0 (length args)) (askedBy (row 15) c args)
+    write-mfg-info-c : Same (calledOf (kind.WriteMfgInfoC (pairAt 0 args) (pairAt 2 args)) c 4 0 (length args)) (askedBy (row 0x10) c args)
     write-mfg-info-c =
-        any (row 15) (kind.WriteMfgInfoC (pairAt 0 args) (pairAt 2 args)) 0 refl refl (λ h. refl)
-        (λ w os. rw (pair-at 0 args (omega (arith, w .fixed)), pair-at 2 args (omega (arith, w .fixed))) (same (row 15) _ os tt))
+        any (row 0x10) (kind.WriteMfgInfoC (pairAt 0 args) (pairAt 2 args)) 0 refl refl (λ h. refl)
+        (λ w os. rw (pair-at 0 args (omega (arith, w .fixed)), pair-at 2 args (omega (arith, w .fixed))) (same (row 0x10) _ os tt))
 
-    read-mfg-info : Same (exactOf kind.ReadMfgInfo c 2 0 (pairAt 0 args) (length args)) (askedBy (row 16) c args)
+    read-mfg-info : Same (exactOf kind.ReadMfgInfo c 2 0 (pairAt 0 args) (length args)) (askedBy (row 0x11) c args)
     read-mfg-info =
-        one (row 16) kind.ReadMfgInfo 0 (pairAt 0 args) (omega arith) refl refl (λ h. sym (pair-at 0 args h))
-        (λ w os. same (row 16) _ os tt)
+        one (row 0x11) kind.ReadMfgInfo 0 (pairAt 0 args) (omega arith) refl refl (λ h. sym (pair-at 0 args h))
+        (λ w os. same (row 0x11) _ os tt)
 
-    write-mfg-info : Same (calledOf kind.WriteMfgInfo c 0 0 (length args)) (askedBy (row 17) c args)
+    write-mfg-info : Same (calledOf kind.WriteMfgInfo c 0 0 (length args)) (askedBy (row 0x12) c args)
     write-mfg-info =
-        any (row 17) kind.WriteMfgInfo 0 refl refl (λ h. refl)
-        (λ w os. same (row 17) _ os tt)
+        any (row 0x12) kind.WriteMfgInfo 0 refl refl (λ h. refl)
+        (λ w os. same (row 0x12) _ os tt)
 
-    read-charging-voltage-override : Same (exactOf kind.ReadChargingVoltageOverride c 0 0 10 (length args)) (askedBy (row 18) c args)
+    read-charging-voltage-override : Same (exactOf kind.ReadChargingVoltageOverride c 0 0 10 (length args)) (askedBy (row 0x13) c args)
     read-charging-voltage-override =
-        one (row 18) kind.ReadChargingVoltageOverride 0 10 (omega arith) refl refl (λ h. refl)
-        (λ w os. same (row 18) _ os (own-size 10))
+        one (row 0x13) kind.ReadChargingVoltageOverride 0 10 (omega arith) refl refl (λ h. refl)
+        (λ w os. same (row 0x13) _ os (own-size 10))
 
-    write-charging-voltage-override : Same (exactOf kind.WriteChargingVoltageOverride c 0 10 0 (length args)) (askedBy (row 19) c args)
+    write-charging-voltage-override : Same (exactOf kind.WriteChargingVoltageOverride c 0 10 0 (length args)) (askedBy (row 0x14) c args)
     write-charging-voltage-override =
-        one (row 19) kind.WriteChargingVoltageOverride 10 0 (omega arith) refl refl (λ h. refl)
-        (λ w os. rw (← by-name os .override-figures (payload (row 19))) (same (row 19) _ os (omega (arith, w .least, w .most), all-bytes)))
+        one (row 0x14) kind.WriteChargingVoltageOverride 10 0 (omega arith) refl refl (λ h. refl)
+        (λ w os. rw (← by-name os .override-figures (payload (row 0x14))) (same (row 0x14) _ os (omega (arith, w .least, w .most), all-bytes)))
 
-    write-with-retries : Same (calledOf kind.WriteWithRetries c 0 0 (length args)) (askedBy (row 20) c args)
+    write-with-retries : Same (calledOf kind.WriteWithRetries c 0 0 (length args)) (askedBy (row 0x15) c args)
     write-with-retries =
-        any (row 20) kind.WriteWithRetries 0 refl refl (λ h. refl)
-        (λ w os. either (rust.writePanics (c .«pec_write») (payload (row 20))) _ _ (buffer (row 20)) _
-        (λ t. added (row 20) _ os answer.DataTooLarge (long-frame t)) (λ t. sym (same (row 20) _ os t)))
+        any (row 0x15) kind.WriteWithRetries 0 refl refl (λ h. refl)
+        (λ w os. either (rust.writePanics (c .«pec_write») (payload (row 0x15))) _ _ (buffer (row 0x15)) _
+        (λ t. added (row 0x15) _ os answer.DataTooLarge (long-frame t)) (λ t. sym (same (row 0x15) _ os t)))
 
     -- kind by kind
     pub every-kind : (k : ℕ) → Same (askedOf k c args) (askedAmong rows k c args)
