@@ -32,17 +32,17 @@ class Call:
         self.retries, self.pec_write, self.pec_read = retries, pec_write, pec_read
         self.waits, self.buffer = 0, [0xA5] * buffer
 
-    def send(self, frame, with_pec):
+    def send(self, frame):
         """One frame, with a budget of its own."""
         budget = Budget(self)
         while True:
-            outcome = yield (sealed(frame, with_pec),)
+            outcome = yield (sealed(frame, self.pec_write),)
             if outcome[0] == 0 or budget.fails():
                 return outcome[:2] if outcome[0] else None
 
-    def writes(self, frames, with_pec=None):
+    def writes(self, frames):
         for frame in frames:
-            failed = yield from self.send(frame, self.pec_write if with_pec is None else with_pec)
+            failed = yield from self.send(frame)
             if failed:
                 return failed
         return 0, 0
@@ -50,7 +50,7 @@ class Call:
     def write_dataflash(self, address, payload):
         for at in range(0, len(payload), 32):
             block = payload[at : at + 32]
-            failed = yield from self.send([0x44, len(block) + 2] + word(address + at) + block, self.pec_write)
+            failed = yield from self.send([0x44, len(block) + 2] + word(address + at) + block)
             if failed:
                 return (6, at) if at else failed
         return 0, 0
@@ -128,7 +128,6 @@ WRITES = [
     ("write_with_retries", lambda c: c.writes([TWO])),
     ("write_register", lambda c: c.writes([[0x12] + TWO])),
     ("write_buffer", lambda c: c.writes([[0x23] + TWO])),
-    ("write_register_unchecked", lambda c: c.writes([[0x12] + TWO], False)),
     ("write_security_keys", lambda c: c.writes([mac([0x35, 0], KEYS)])),
     ("write_authentication_key", lambda c: c.writes([mac([0x37, 0], KEYS[:16])])),
     ("write_charging_voltage_override", lambda c: c.writes([mac([0xB0, 0], KEYS[:10])])),
@@ -143,7 +142,7 @@ WRITES = [
 READS = [
     ("read_register", 2, 0x12, lambda c: c.plain_read(0x12, 2, c.pec_read)),
     ("read_buffer", 2, 0x23, lambda c: c.plain_read(0x23, 2, False)),
-    ("read_register_unchecked", 0, 0x12, lambda c: c.plain_read(0x12, 0, False)),
+    ("read_buffer, 0", 0, 0x12, lambda c: c.plain_read(0x12, 0, False)),
     ("dispatch_command 443500, 2", 2, 0x44, lambda c: c.dispatch_command(0x443500)),
     ("dispatch_command FF010203, 0", 0, 0x44, lambda c: c.dispatch_command(0xFF010203)),
     ("dispatch_command 010203, 1", 1, 0x44, lambda c: c.dispatch_command(0x010203)),

@@ -1,4 +1,4 @@
-//! The answers of document 01, by number.
+//! The answers of document 01 and of the requests since, by number.
 
 use crate::bus::BusError;
 use crate::error::BQ40Z50Error;
@@ -14,6 +14,7 @@ pub const NOT_A_COMMAND: u8 = 7;
 pub const WRONG_BUFFER: u8 = 8;
 pub const WRONG_REPLY: u8 = 9;
 pub const BAD_LINE: u8 = 11;
+pub const RETIRED_KIND: u8 = 15;
 
 /// How a call ended: a number, and a code or a committed count beside it.
 #[derive(Debug, Clone, Copy, PartialEq, Eq)]

@@ -1,11 +1,11 @@
-//! The bench program's lines, written from document 01 and not from the port.
+//! The bench program's lines, written from documents 01 and 02 and not from the port.
 
 use crate::answer::{self, Answer};
 use crate::bus::{Outcome, Partner, Transfer};
 use crate::call;
 use crate::line::Line;
 use crate::panics::Panic;
-use crate::request::{LARGEST, Request};
+use crate::request::{LARGEST, RETIRED, Request};
 
 /// The host at the other end of the bench's standard input and output.
 pub trait Host {
@@ -31,17 +31,29 @@ pub struct Report {
 
 /// Runs the bench on the Rust, with `host` at the other end.
 pub fn run(host: &mut impl Host) -> Report {
-    let said = host.request().and_then(|line| line.bytes());
-    let Some(request) = said.and_then(|bytes| Request::from_bytes(&bytes)) else {
-        let answer = Answer::plain(answer::BAD_LINE);
-        host.printed(&last_line(Some(answer), 0, None));
-        return Report { answer: Some(answer), waits: 0, transfers: 0, panic: None };
+    let request = match asked(host.request()) {
+        Ok(request) => request,
+        Err(number) => {
+            let answer = Answer::plain(number);
+            host.printed(&last_line(Some(answer), 0, None));
+            return Report { answer: Some(answer), waits: 0, transfers: 0, panic: None };
+        }
     };
     let mut desk = Desk { host, refused: None };
     let run = call::run(&request, &mut desk);
     let answer = run.answer.or(desk.refused.map(Answer::plain));
     host.printed(&last_line(answer, run.waits, run.buffer.as_deref()));
     Report { answer, waits: run.waits, transfers: run.transfers, panic: run.panic }
+}
+
+/// The request that a line says, or the refusal's number. A retired kind comes before anything else on the line.
+fn asked(line: Option<Line>) -> Result<Request, u8> {
+    let line = line.ok_or(answer::BAD_LINE)?;
+    if RETIRED.iter().any(|kind| line.text.starts_with(kind.as_bytes())) {
+        return Err(answer::RETIRED_KIND);
+    }
+    let bytes = line.bytes().ok_or(answer::BAD_LINE)?;
+    Request::from_bytes(&bytes).ok_or(answer::BAD_LINE)
 }
 
 /// Shows each transfer to the host and reads its outcome, until a line is refused.

@@ -115,7 +115,6 @@ fn refusal_for_panic(request: &Request) -> Option<u8> {
     let length = request.payload.len();
     match request.kind {
         Kind::DispatchCommand if length > 0 => Some(answer::NOT_A_COMMAND),
-        Kind::WriteRegisterUnchecked if length > 32 => Some(answer::DATA_TOO_LARGE),
         Kind::PlainWrite if request.pec_write && length > 38 => Some(answer::DATA_TOO_LARGE),
         _ => None,
     }
@@ -149,10 +148,6 @@ async fn call<P: Partner>(gauge: &mut Gauge<'_, P>, request: &Request, buffer: &
         Kind::WriteSecurityKeys => gauge.write_security_keys(array(payload)).await,
         Kind::ReadAuthenticationKey => gauge.read_authentication_key(array_mut(buffer)).await,
         Kind::WriteAuthenticationKey => gauge.write_authentication_key(array(payload)).await,
-        // SAFETY: the bus has no device behind it that a wrong register could harm.
-        Kind::ReadRegisterUnchecked => unsafe { gauge.read_register_unchecked(register, buffer) }.await,
-        // SAFETY: as above.
-        Kind::WriteRegisterUnchecked => unsafe { gauge.write_register_unchecked(register, payload) }.await,
         Kind::SendAccessKey => gauge.send_access_key(lower, upper).await,
         Kind::ReadMfgInfoC => gauge.read_mfg_info_c(buffer).await,
         Kind::WriteMfgInfoC => gauge.write_mfg_info_c(lower, upper, payload).await,

@@ -6,7 +6,11 @@ pub const LARGEST: usize = 8192;
 /// The bytes of a charging voltage override.
 const OVERRIDE_LENGTH: usize = 10;
 
-/// The public calls, with their numbers on the bench.
+/// The first two characters of a request line whose kind is retired: the unchecked register calls had these numbers,
+/// and no other call is given them.
+pub const RETIRED: [&str; 2] = ["0C", "0D"];
+
+/// The public calls that are not retired, with their numbers on the bench.
 #[derive(Debug, Clone, Copy, PartialEq, Eq, PartialOrd, Ord)]
 #[repr(u8)]
 pub enum Kind {
@@ -21,8 +25,6 @@ pub enum Kind {
     WriteSecurityKeys = 0x09,
     ReadAuthenticationKey = 0x0A,
     WriteAuthenticationKey = 0x0B,
-    ReadRegisterUnchecked = 0x0C,
-    WriteRegisterUnchecked = 0x0D,
     SendAccessKey = 0x0E,
     ReadMfgInfoC = 0x0F,
     WriteMfgInfoC = 0x10,
@@ -51,7 +53,7 @@ const fn layout(number: usize, length: bool, payload: bool) -> Layout {
 
 impl Kind {
     /// Every kind, by its number.
-    pub const ALL: [Kind; 21] = [
+    pub const ALL: [Kind; 19] = [
         Kind::WriteDataflash,
         Kind::ReadDataflash,
         Kind::WriteRegister,
@@ -63,8 +65,6 @@ impl Kind {
         Kind::WriteSecurityKeys,
         Kind::ReadAuthenticationKey,
         Kind::WriteAuthenticationKey,
-        Kind::ReadRegisterUnchecked,
-        Kind::WriteRegisterUnchecked,
         Kind::SendAccessKey,
         Kind::ReadMfgInfoC,
         Kind::WriteMfgInfoC,
@@ -98,8 +98,8 @@ impl Kind {
         match self {
             Kind::WriteDataflash => layout(2, false, true),
             Kind::ReadDataflash => layout(2, true, false),
-            Kind::WriteRegister | Kind::BufferWrite | Kind::WriteRegisterUnchecked => layout(1, false, true),
-            Kind::ReadRegister | Kind::BufferRead | Kind::ReadRegisterUnchecked => layout(1, true, false),
+            Kind::WriteRegister | Kind::BufferWrite => layout(1, false, true),
+            Kind::ReadRegister | Kind::BufferRead => layout(1, true, false),
             Kind::DispatchCommand => layout(4, true, true),
             Kind::ReadSecurityKeys | Kind::ReadAuthenticationKey | Kind::ReadChargingVoltageOverride => {
                 layout(0, false, false)

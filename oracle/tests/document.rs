@@ -1,4 +1,4 @@
-//! Statements of document 01, each shown by running the Rust.
+//! Statements of document 01, each shown by running the Rust, and that retired kinds are refused.
 
 mod bench;
 
@@ -81,8 +81,8 @@ fn the_window_figure_that_no_line_can_ask_for() {
 
 #[test]
 fn each_length_limit_is_the_largest_that_passes() {
-    let writes: [(u8, usize, usize); 6] =
-        [(0x03, 1, 32), (0x07, 1, 33), (0x0D, 1, 32), (0x10, 4, 32), (0x12, 0, 32), (0x15, 0, 38)];
+    let writes: [(u8, usize, usize); 5] =
+        [(0x03, 1, 32), (0x07, 1, 33), (0x10, 4, 32), (0x12, 0, 32), (0x15, 0, 38)];
     for (kind, front, limit) in writes {
         assert_eq!(started(kind, 1, &vec![0; front + limit]), None);
         assert_eq!(started(kind, 1, &vec![0; front + limit + 1]), Some(4));
@@ -95,10 +95,9 @@ fn each_length_limit_is_the_largest_that_passes() {
 }
 
 #[test]
-fn a_plain_write_without_pec_and_unchecked_and_buffer_reads_have_no_limit() {
+fn a_plain_write_without_pec_and_a_buffer_read_have_no_limit() {
     assert_eq!(started(0x15, 2, &[0; 8192]), None);
     assert_eq!(started(0x06, 3, &[0x0D, 0x00, 0x20]), None);
-    assert_eq!(started(0x0C, 3, &[0x0D, 0x00, 0x20]), None);
 }
 
 #[test]
@@ -194,6 +193,19 @@ fn bad_lines_are_11() {
     for bad in ["", "0", "03", "01", "010203", "0200", "02 ", "00\r", "0a"] {
         assert_eq!(bench(&["15000000", bad]), ["00", "FF0B000000000000"], "{bad:?}");
     }
+}
+
+#[test]
+fn a_retired_kind_is_15_whatever_follows() {
+    for kind in ["0C", "0D"] {
+        for rest in ["", "0", "ZZ", "FF0000", "000000120200", " ", "\r", "c"] {
+            assert_eq!(bench(&[&format!("{kind}{rest}"), "00"]), ["FF0F000000000000"], "{kind}{rest:?}");
+        }
+    }
+    for other in ["0c000000120200", "0", "0E", " 0C", "1C000000"] {
+        assert_eq!(bench(&[other]), ["FF0B000000000000"], "{other:?}");
+    }
+    assert_eq!(bench(&["15000000", "0C"]), ["00", "FF0B000000000000"]);
 }
 
 #[test]

@@ -34,7 +34,7 @@ use Rattle.interface.specs.Plans.{writeWithRetries, writeRegister, writeBuffer}
 use Rattle.r5.specs.Plans.{macWrite, sendAccessKey, writeMfgInfoC, writeMfgInfo, writeDataflash}
 use Rattle.answers.specs.Rows.{Same}
 use Rattle.answers.specs.Runs.{WriteReport, feedW, ReadReport, Reader, feedR}
-use Rattle.answers.specs.Within.{WritesBy, write-with-retries, write-register, write-buffer, write-security-keys, write-authentication-key, write-charging-voltage-override, write-register-unchecked, send-access-key, unseal-fg, write-mfg-info-c, write-mfg-info, write-dataflash, ReadsBy, ReadsOn}
+use Rattle.answers.specs.Within.{WritesBy, write-with-retries, write-register, write-buffer, write-security-keys, write-authentication-key, write-charging-voltage-override, send-access-key, unseal-fg, write-mfg-info-c, write-mfg-info, write-dataflash, ReadsBy, ReadsOn}
 use Rattle.answers.specs.Steps.{builds, Handed, HandsW, HandsR, HandsOut}
 use Rattle.answers.proofs.Laws.{fits-other}
 use Rattle.answers.proofs.Runs as runs
@@ -105,7 +105,6 @@ own-by config plan (write-buffer address) = refl
 own-by config plan (write-security-keys) = refl
 own-by config plan (write-authentication-key) = refl
 own-by config plan (write-charging-voltage-override) = refl
-own-by config plan (write-register-unchecked address) = refl
 own-by config plan (send-access-key lower upper) = refl
 own-by config plan (unseal-fg lower upper) = refl
 own-by config plan (write-mfg-info-c lower upper) = refl

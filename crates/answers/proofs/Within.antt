@@ -37,7 +37,7 @@ use Rattle.reading.specs.declared.call.ReadCall.{ReadCall}
 use Rattle.interface.specs.Plans.{plainLimit, writeWithRetries, writeRegister, readRegister, commandReads, dispatchCommand, readBuffer, writeBuffer}
 use Rattle.r5.specs.Plans.{macRead, macWrite, wholeAsk, sendAccessKey, writeMfgInfoC, readMfgInfoC, writeMfgInfo, readMfgInfo, readDataflash, writeDataflash}
 use Rattle.answers.specs.Runs.{WriteReport, feedW, ReadReport, Reader, feedR, Stays}
-use Rattle.answers.specs.Within.{Inside, WritesBy, write-with-retries, write-register, write-buffer, write-security-keys, write-authentication-key, write-charging-voltage-override, write-register-unchecked, send-access-key, unseal-fg, write-mfg-info-c, write-mfg-info, write-dataflash, WritesOn, WritesWithin, ReadsBy, read-register, read-buffer, dispatch-command, read-security-keys, read-authentication-key, read-charging-voltage-override, read-register-unchecked, read-mfg-info-c, read-mfg-info, read-dataflash, ReadsWithin, Within}
+use Rattle.answers.specs.Within.{Inside, WritesBy, write-with-retries, write-register, write-buffer, write-security-keys, write-authentication-key, write-charging-voltage-override, send-access-key, unseal-fg, write-mfg-info-c, write-mfg-info, write-dataflash, WritesOn, WritesWithin, ReadsBy, read-register, read-buffer, dispatch-command, read-security-keys, read-authentication-key, read-charging-voltage-override, read-mfg-info-c, read-mfg-info, read-dataflash, ReadsWithin, Within}
 use Rattle.answers.proofs.Calls.{starts-as}
 use Rattle.answers.proofs.Fits.{Fits, admitted-fits, blocks-inside, blocks-few}
 use Rattle.answers.proofs.Runs as runs
@@ -107,7 +107,6 @@ module _ (config : Config) (payload : List ℕ) where
   sane plan (write-security-keys) h = one-frame plan refl (λ i. length-mac mac.SecurityKeys payload (omega arith)) (λ i. tt)
   sane plan (write-authentication-key) h = one-frame plan refl (λ i. length-mac mac.AuthenticationKey payload (omega arith)) (λ i. tt)
   sane plan (write-charging-voltage-override) h = one-frame plan refl (λ i. length-mac mac.ChargingVoltageOverride payload (omega arith)) (λ i. tt)
-  sane plan (write-register-unchecked address) h = one-frame plan refl (λ i. omega arith) (λ i. tt)
   sane plan (send-access-key lower upper) h = key-sane lower upper
   sane plan (unseal-fg lower upper) h = key-sane lower upper
   sane plan (write-mfg-info-c lower upper) h =
@@ -172,7 +171,6 @@ retries-write config plan (write-buffer address) = refl
 retries-write config plan (write-security-keys) = refl
 retries-write config plan (write-authentication-key) = refl
 retries-write config plan (write-charging-voltage-override) = refl
-retries-write config plan (write-register-unchecked address) = refl
 retries-write config plan (send-access-key lower upper) = refl
 retries-write config plan (unseal-fg lower upper) = refl
 retries-write config plan (write-mfg-info-c lower upper) = refl
@@ -247,7 +245,6 @@ module _ (config : Config) (n : ℕ) where
   sane-read plan (read-security-keys) h = one-read plan refl (λ i. tt) (λ i. omega arith)
   sane-read plan (read-authentication-key) h = one-read plan refl (λ i. tt) (λ i. omega arith)
   sane-read plan (read-charging-voltage-override) h = one-read plan refl (λ i. tt) (λ i. omega arith)
-  sane-read plan (read-register-unchecked address) h = one-read plan refl (λ i. tt) (λ i. omega arith)
   sane-read plan (read-mfg-info-c) h = one-read plan refl (λ i. tt) (λ i. whole-asks (config .«pec_read») 32 (omega arith))
   sane-read plan (read-mfg-info) h = one-read plan refl (λ i. tt) (λ i. whole-asks (config .«pec_read») 33 (omega arith))
   sane-read plan (read-dataflash start) h = record {
@@ -265,7 +262,6 @@ retries-read config n plan (dispatch-command address input) = refl
 retries-read config n plan (read-security-keys) = refl
 retries-read config n plan (read-authentication-key) = refl
 retries-read config n plan (read-charging-voltage-override) = refl
-retries-read config n plan (read-register-unchecked address) = refl
 retries-read config n plan (read-mfg-info-c) = refl
 retries-read config n plan (read-mfg-info) = refl
 retries-read config n plan (read-dataflash start) = refl

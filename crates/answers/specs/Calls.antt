@@ -17,7 +17,7 @@ use Rattle.reading.specs.declared.parts.Head.the-variants as head
 use Rattle.reading.specs.declared.call.ReadPlan.{ReadPlan}
 use Rattle.reading.specs.declared.call.ReadCall.{ReadCall}
 use Rattle.interface.specs.Plans.{writeWithRetries, writeRegister, readRegister, dispatchCommand, readBuffer, writeBuffer}
-use Rattle.r5.specs.Plans.{readSecurityKeys, writeSecurityKeys, readAuthenticationKey, writeAuthenticationKey, readChargingVoltageOverride, writeChargingVoltageOverride, readRegisterUnchecked, writeRegisterUnchecked, sendAccessKey, unsealFg, writeMfgInfoC, readMfgInfoC, writeMfgInfo, readMfgInfo, readDataflash, writeDataflash}
+use Rattle.r5.specs.Plans.{readSecurityKeys, writeSecurityKeys, readAuthenticationKey, writeAuthenticationKey, readChargingVoltageOverride, writeChargingVoltageOverride, sendAccessKey, unsealFg, writeMfgInfoC, readMfgInfoC, writeMfgInfo, readMfgInfo, readDataflash, writeDataflash}
 
 pub record BegunW (plan : WritePlan) (n w : ℕ) (call : WriteCall) : Type 0 where
   pub phase : call .phase ≡ admitted (plan .limit) (frames.firstAddress (plan .frames)) n w
@@ -54,8 +54,6 @@ pub record Limits (config : Config) : Type 0 where
   pub writesAuthenticationKey : writeAuthenticationKey config .limit ≡ limit.Exactly 16
   pub readsOverride : readChargingVoltageOverride config .limit ≡ limit.Exactly 10
   pub writesOverride : writeChargingVoltageOverride config .limit ≡ limit.Exactly 10
-  pub readsUnchecked : (address n : ℕ) → readRegisterUnchecked config address n .limit ≡ limit.Free
-  pub writesUnchecked : (address : ℕ) → writeRegisterUnchecked config address .limit ≡ limit.AtMost 32
   pub sendsKey : (lower upper : ℕ) → sendAccessKey config lower upper .limit ≡ limit.Exactly 0
   pub unseals : (lower upper : ℕ) → unsealFg config lower upper .limit ≡ limit.Exactly 0
   pub writesInfoC : (lower upper : ℕ) → writeMfgInfoC config lower upper .limit ≡ limit.AtMost 32

@@ -1,4 +1,5 @@
--- The table of answers: for each row, when it is given. (01, The step machine)
+-- The table of answers: for each row, when it is given. (01, The step machine) Of 15, which no call gives, only the number stands here: when it is given is
+-- said of the bench program (`bench_promises`, Retired).
 -- The rows go by the paper's number and detail. `Starts`, `Writes` and `Reads` have a constructor for each case of a row that can come there: no other answer comes.
 -- Assumes nothing.
 use Prim.Native.Nat.{ℕ, _+_, _-_, _*_, _≤_, _<_}
@@ -31,7 +32,7 @@ use Rattle.reading.specs.declared.call.ReadCall.{ReadCall}
 use Rattle.reading.specs.declared.call.ReadReported.{ReadReported}
 use Rattle.reading.specs.declared.call.ReadReported.the-variants as read
 
--- ---- the paper's number of each answer, and its detail
+-- ---- the number of each answer, and its detail
 
 -- k is one of these
 abbrev pub OneOf : List ℕ → ℕ → Type 0
@@ -44,8 +45,8 @@ pub record Numbers : Type 0 where
   pub told-apart : (a b : Answer) → numberOf a ≡ numberOf b → detailOf a ≡ detailOf b → a ≡ b
   -- 1 has a code and 6 the bytes committed; no other answer has a detail
   pub detailed : (a : Answer) → (detailOf a ≡ 0) ⊎ OneOf (1 ∷ 6 ∷ []) (numberOf a)
-  -- 11 is the last row
-  pub last : (a : Answer) → numberOf a ≤ 11
+  -- the rows are 0 to 11, and 15
+  pub rows : (a : Answer) → (numberOf a ≤ 11) ⊎ (numberOf a ≡ 15)
   -- a bus error with its code, the bytes committed, a timeout
   pub code : (n : ℕ) → (numberOf (answer.I2c n) ≡ 1) × (detailOf (answer.I2c n) ≡ n)
   pub committed : (n : ℕ) → (numberOf (answer.PartialDataFlashWrite n) ≡ 6) × (detailOf (answer.PartialDataFlashWrite n) ≡ n)
@@ -53,6 +54,7 @@ pub record Numbers : Type 0 where
   -- the names of the rows that no other statement names
   pub wrong-reply : numberOf answer.WrongReply ≡ 9
   pub nothing-outstanding : numberOf answer.NothingOutstanding ≡ 10
+  pub retired-kind : numberOf answer.RetiredKind ≡ 15
 
 -- a phase says the answer of number k with detail d; one that waits says none
 abbrev pub Says : ℕ → ℕ → Phase → Type 0

@@ -33,7 +33,7 @@ use Rattle.reading.specs.declared.call.ReadReported.{ReadReported}
 use Rattle.reading.specs.declared.call.ReadReported.the-variants as read
 use Rattle.answers.specs.Rows.{Same, Failure, asked, Damaged, readsMade}
 use Rattle.answers.specs.Runs.{WriteReport, feedW, ReadReport, feedR}
-use Rattle.answers.specs.Within.{WritesBy, write-with-retries, write-register, write-buffer, write-security-keys, write-authentication-key, write-charging-voltage-override, write-register-unchecked, send-access-key, unseal-fg, write-mfg-info-c, write-mfg-info, write-dataflash, ReadsBy}
+use Rattle.answers.specs.Within.{WritesBy, write-with-retries, write-register, write-buffer, write-security-keys, write-authentication-key, write-charging-voltage-override, send-access-key, unseal-fg, write-mfg-info-c, write-mfg-info, write-dataflash, ReadsBy}
 
 -- ---- what is shown: an ended call its answer at any lent length, a waiting one a transfer at the lengths of the start, or 8; a frame changes no more of the
 -- work buffer than its own length in front (what lies there: `HandsOut`), and all else spares it. `Framed` says when a frame is shown, `Asks` what is asked for
@@ -71,7 +71,6 @@ builds config plan (write-buffer address) = true
 builds config plan (write-security-keys) = true
 builds config plan (write-authentication-key) = true
 builds config plan (write-charging-voltage-override) = true
-builds config plan (write-register-unchecked address) = true
 builds config plan (send-access-key lower upper) = true
 builds config plan (unseal-fg lower upper) = true
 builds config plan (write-mfg-info-c lower upper) = true

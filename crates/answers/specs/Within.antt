@@ -23,7 +23,7 @@ use Rattle.reading.specs.Reading as reading
 use Rattle.reading.specs.declared.call.ReadPlan.{ReadPlan}
 use Rattle.reading.specs.declared.call.ReadCall.{ReadCall}
 use Rattle.interface.specs.Plans.{writeWithRetries, writeRegister, readRegister, dispatchCommand, readBuffer, writeBuffer}
-use Rattle.r5.specs.Plans.{readSecurityKeys, writeSecurityKeys, readAuthenticationKey, writeAuthenticationKey, readChargingVoltageOverride, writeChargingVoltageOverride, readRegisterUnchecked, writeRegisterUnchecked, sendAccessKey, unsealFg, writeMfgInfoC, readMfgInfoC, writeMfgInfo, readMfgInfo, readDataflash, writeDataflash}
+use Rattle.r5.specs.Plans.{readSecurityKeys, writeSecurityKeys, readAuthenticationKey, writeAuthenticationKey, readChargingVoltageOverride, writeChargingVoltageOverride, sendAccessKey, unsealFg, writeMfgInfoC, readMfgInfoC, writeMfgInfo, readMfgInfo, readDataflash, writeDataflash}
 use Rattle.answers.specs.Runs.{WriteReport, feedW, TameW, ReadReport, Reader, feedR, TameR}
 
 -- block i of a data-flash transfer of n bytes from an address on lies in the window
@@ -43,7 +43,6 @@ pub data WritesBy (config : Config) : WritePlan → Type 0 where
   write-security-keys : WritesBy config (writeSecurityKeys config)
   write-authentication-key : WritesBy config (writeAuthenticationKey config)
   write-charging-voltage-override : WritesBy config (writeChargingVoltageOverride config)
-  write-register-unchecked : (address : ℕ) → WritesBy config (writeRegisterUnchecked config address)
   send-access-key : (lower upper : ℕ) → WritesBy config (sendAccessKey config lower upper)
   unseal-fg : (lower upper : ℕ) → WritesBy config (unsealFg config lower upper)
   write-mfg-info-c : (lower upper : ℕ) → WritesBy config (writeMfgInfoC config lower upper)
@@ -69,7 +68,6 @@ pub data ReadsBy (config : Config) (n : ℕ) : ReadPlan → Type 0 where
   read-security-keys : ReadsBy config n (readSecurityKeys config)
   read-authentication-key : ReadsBy config n (readAuthenticationKey config)
   read-charging-voltage-override : ReadsBy config n (readChargingVoltageOverride config)
-  read-register-unchecked : (address : ℕ) → ReadsBy config n (readRegisterUnchecked config address n)
   read-mfg-info-c : ReadsBy config n (readMfgInfoC config n)
   read-mfg-info : ReadsBy config n (readMfgInfo config n)
   read-dataflash : (start : ℕ) → ReadsBy config n (readDataflash config start)

@@ -37,7 +37,7 @@ module _ (chunk : List ℕ) (n : ℕ) (d : Desk) where
   }
 
   -- the end of the input
-  pub ends-makes : (next : List ℕ) (s : Session) (out : List ℕ) → n ≤ d .session .at → s ≡ endSession (d .session) (d .buffer) (length (d .out)) → out ≡ endOut (d .session) (d .buffer) (d .out)
+  pub ends-makes : (next : List ℕ) (s : Session) (out : List ℕ) → n ≤ d .session .at → s ≡ endSession (d .session) (d .held) (d .buffer) (length (d .out)) → out ≡ endOut (d .session) (d .held) (d .buffer) (d .out)
       → Makes record { made = true; session = s; n = 0 } n chunk d next (desk s (d .held) (d .request) (d .outcome) (d .buffer) out)
   unfolding endOf
   ends-makes next s out used e o = record {

@@ -46,7 +46,7 @@ pub record Stopped (r : Stop) (first d : Desk) : Type 0 where
 
 -- what is written at an end; `more` is what the input may still bring
 pub record Ends : Type 0 where
-  -- a run that is over has written what the Rust does with the whole input
+  -- a run that is over has written what the bench over the Rust does with the whole input
   pub over : (r : Stop) (first d : Desk) (c : Stopped r first d) → r .ending ≡ ending.Over → (more : List ℕ) → (c .standing .end ≡ true → more ≡ [])
       → c .standing .wrote ≡ rustPrinted (c .standing .read ++ more)
   -- where a read failed, all that the lines so far give is written

@@ -127,7 +127,7 @@ fn round(
         },
         Brought::End => After {
             made: true,
-            session: session::end(session, buffer, out),
+            session: session::end(session, held, buffer, out),
             n: 0,
         },
         Brought::Failed => After {

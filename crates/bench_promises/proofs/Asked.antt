@@ -2,7 +2,7 @@
 -- Assumes nothing.
 use Prim.Native.Nat.{ℕ, zero, suc, _+_, _-_, _/_, _%_, _≤_, _<_}
 use mathlib.Core.Path.{_≡_, refl}
-use mathlib.Core.Bool.{Bool, true, false, _||_}
+use mathlib.Core.Bool.{Bool, true, false, _&&_, _||_}
 use mathlib.Core.List.{List, [], _∷_}
 use native.Mathlib.Omega.{arith}
 use lib.ListN.{length, drop, getD}
@@ -12,12 +12,14 @@ use borrow.Author.Tests.{lt-ltb, le-ltb, eq-eqb, ne-eqb}
 use Rattle.protocol.specs.Pick.{if_then_else_}
 use Rattle.protocol.specs.declared.common.Config.{Config}
 use Rattle.calls.specs.declared.kind.Kind.{Kind}
+use Rattle.hex.specs.Digits.{inDigits}
 use Rattle.requests.specs.Fields.{pairAt, quadAt}
 use Rattle.requests.specs.Request as requests
 use Rattle.requests.specs.Request.{configOf, calledOf, exactOf}
+use Rattle.requests.specs.Retired.{retiredKind}
 use Rattle.requests.specs.declared.request.Request.the-variants as request
 use Rattle.bench_promises.specs.Numbers.{number, field}
-use Rattle.bench_promises.specs.Kinds.{settings}
+use Rattle.bench_promises.specs.Kinds.{settings, begins, isRetired}
 
 -- ---- numbers
 
@@ -87,3 +89,22 @@ module _ (k : Kind) (c : Config) (at size n : ℕ) where
   pub exact : (p : ℕ) → n ≡ at + p → exactOf k c at p size n ≡ calledOf k c at size n
   unfolding exactOf if_then_else_
   exact p h = rw (eq-eqb n (at + p) h)
+
+-- ---- a retired kind
+
+-- the two characters that are looked at are the two digits
+pub same-retired : (line : List ℕ) → retiredKind line ≡ isRetired line
+unfolding retiredKind isRetired begins inDigits if_then_else_
+same-retired [] = refl
+same-retired (a ∷ []) = by (eqb a 0x30)
+  where
+    by : (t : Bool) → (if t then false else false) ≡ ((t && false) || (t && false))
+    by true = refl
+    by false = refl
+same-retired (a ∷ b ∷ line) = by (eqb a 0x30) (eqb b 0x43) (eqb b 0x44)
+  where
+    by : (t u v : Bool) → (if t then (if u then true else if v then true else false) else false) ≡ ((t && (u && true)) || (t && (v && true)))
+    by true true v = refl
+    by true false true = refl
+    by true false false = refl
+    by false u v = refl

@@ -3,4 +3,7 @@ pub mod Said
 pub mod Follow
 pub mod Asked
 pub mod Rows
+pub mod Lines
+pub mod NoCall
+pub mod Retired
 pub mod LineByLine

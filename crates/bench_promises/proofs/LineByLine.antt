@@ -1,73 +1,31 @@
--- The bench is the Rust, line by line.
+-- The bench is the Rust, line by line: the longest line, and the statement.
 -- Assumes nothing.
-use Prim.Native.Nat.{ℕ, zero, suc, _+_, _-_, _*_, _≤_, _<_}
-use mathlib.Core.Path.{_≡_, refl, sym, ap, subst, _∙_}
+use Prim.Native.Nat.{ℕ, zero, suc, _-_, _*_, _≤_, _<_}
+use mathlib.Core.Path.{_≡_, refl, ap, _∙_}
 use mathlib.Core.Bool.{Bool, true, false, false≢true}
-use mathlib.Core.List.{List, [], _∷_, _++_}
+use mathlib.Core.List.{List, [], _∷_}
 use native.Mathlib.Omega.{arith}
-use lib.ListN.{length, take, drop, getD, replicate, length-drop}
+use lib.ListN.{length, drop, getD, replicate, length-drop}
 use lib.Dec.{ltb, eqb}
 use borrow.Author.Needs.{needs}
-use borrow.Author.Tests.{lt-ltb, eqb-true, ltb-false}
-use Rattle.hex.specs.Hex.{bytesOf, hexOf}
+use borrow.Author.Tests.{lt-ltb, eqb-true}
+use Rattle.hex.specs.Hex.{bytesOf, digitOf, hexOf}
 use Rattle.hex.specs.BothWays.{AllBytes}
+use Rattle.hex.specs.Digits.{inDigits}
+use Rattle.hex.specs.Line.{lineBytes}
 use Rattle.hex.proofs.Laws.{length-hex}
-use Rattle.hex.proofs.Digits.{encoded-line, line-bytes, hexadecimal}
+use Rattle.hex.proofs.Digits.{encoded-line, hexadecimal}
 use Rattle.protocol.specs.Pick.{if_then_else_}
 use Rattle.protocol.specs.declared.common.Config.{Config}
 use Rattle.protocol.specs.declared.error.Answer.the-variants as answer
-use Rattle.engine.specs.Budget.{nothing}
-use Rattle.requests.specs.Fields.{pairAt}
-use Rattle.requests.specs.Request as requests
-use Rattle.requests.specs.Request.{configOf, askedOf, requestLine}
-use Rattle.lines.specs.Input.{linesFrom, restFrom}
-use Rattle.hex.specs.Line.{lineBytes, feeds}
-use Rattle.dialogue.specs.Bench.{requestThen, benchOf}
-use Rattle.session.specs.Output.{printed, early, printedSoFar}
-use Rattle.session.specs.Laws.{Begins, Writes}
-use Rattle.session.proofs.Loop.{laws}
+use Rattle.original.specs.Bus.{BusOutcome, Read}
 use Rattle.bench_promises.specs.Numbers.{number, field}
-use Rattle.bench_promises.specs.Kinds.{Row, rows, Asked, bad, call, askedBy, askedAmong, settings, askedIn}
-use Rattle.bench_promises.specs.RustBench.{stopped, acknowledgedBy, errorBy, timeoutBy, heardIn, runAsked, rustBench, rustPrinted, longestDigits, rustSoFar}
+use Rattle.bench_promises.specs.Kinds.{Row, rows, Asked, bad, retired, call, askedBy, askedAmong, settings, askedIn, begins, isRetired, askedLine}
+use Rattle.bench_promises.specs.RustBench.{stopped, acknowledgedBy, errorBy, timeoutBy, heardIn, longestDigits}
 use Rattle.bench_promises.specs.LineByLine.{Longest, LineByLine}
-use Rattle.bench_promises.proofs.Said.{end-said, read-back}
-use Rattle.bench_promises.proofs.Asked.{pair-at, settings-of}
-use Rattle.bench_promises.proofs.Rows.{same-bad, every-kind}
-
--- two bytes are a 16-bit number
-few-retries : (s : List ℕ) → 4 ≤ length s → AllBytes s → field 2 2 s ≤ 65535
-unfolding pairAt
-few-retries s h small = rw (pair-at 2 s h) (omega (arith, small 2, small 3))
-
-request-line : (bytes : List ℕ) → AllBytes bytes → (lines : List (List ℕ)) (rest : List ℕ) → requestThen (requestLine bytes) bytes lines rest ≡ runAsked (askedIn bytes) lines rest
-unfolding requestLine askedIn if_then_else_
-request-line bytes small lines rest = by (ltb (length bytes) 4) refl (ltb 3 (getD bytes 1 0)) refl
-  where
-    own : Config
-    own = settings (getD bytes 1 0) (field 2 2 bytes)
-
-    by : (a : Bool) → ltb (length bytes) 4 ≡ a → (b : Bool) → ltb 3 (getD bytes 1 0) ≡ b
-        → requestThen (if a then requests.bad else if b then requests.bad else askedOf (getD bytes 0 0) (configOf bytes) (drop 4 bytes)) bytes lines rest
-        ≡ runAsked (if a then bad else if b then bad else askedAmong rows (getD bytes 0 0) own (drop 4 bytes)) lines rest
-    by true a b p = same-bad bytes lines rest own requests.bad refl
-    by false a true p = same-bad bytes lines rest own requests.bad refl
-    by false a false p =
-        let h : 4 ≤ length bytes = ltb-false (length bytes) 4 a in
-        rw (settings-of bytes h (ltb-false 3 (getD bytes 1 0) p)) (every-kind bytes lines rest own (few-retries bytes h small) small (getD bytes 0 0))
-
-each-line : (lines : List (List ℕ)) (rest : List ℕ) → benchOf lines rest ≡ rustBench lines rest
-unfolding benchOf rustBench nothing
-each-line [] rest = ap (λ (s : List ℕ). s ∷ []) (end-said answer.BadLine nothing [])
-each-line (line ∷ lines) rest = request-line (lineBytes line) (line-bytes line) lines rest
-
-all-printed : (input : List ℕ) → printed input ≡ rustPrinted input
-unfolding printed rustPrinted
-all-printed input = ap feeds (each-line (linesFrom [] input) (restFrom [] input))
-
-soon-printed : (input : List ℕ) → printedSoFar input ≡ rustSoFar input
-unfolding printedSoFar early rustSoFar
-soon-printed input =
-    ap (λ (said : List (List ℕ)). feeds (take (length (linesFrom [] input) + early (restFrom [] input)) said)) (each-line (linesFrom [] input) (restFrom [] input))
+use Rattle.bench_promises.proofs.Said.{read-back}
+use Rattle.bench_promises.proofs.Lines.{each-line, writes}
+use Rattle.bench_promises.proofs.Retired.{retired-kinds}
 
 -- ---- the longest line
 
@@ -149,41 +107,44 @@ command-bytes : AllBytes command
 command-bytes zero = omega arith
 command-bytes (suc k) = all-zero 8201 k
 
-isBad : Asked → Bool
-isBad bad = true
-isBad (call f) = false
+isCall : Asked → Bool
+isCall bad = false
+isCall retired = false
+isCall (call rust) = true
 
-command-asked : isBad (askedIn command) ≡ false
-unfolding askedIn askedAmong askedBy number if_then_else_ isBad
+its-call : (a : Asked) → isCall a ≡ true → (rust : List BusOutcome → Read) × (a ≡ call rust)
+unfolding isCall
+its-call bad e = absurd (false≢true e)
+its-call retired e = absurd (false≢true e)
+its-call (call rust) e = (rust, refl)
+
+command-asked : isCall (askedIn command) ≡ true
+unfolding askedIn askedAmong askedBy number if_then_else_ isCall
 command-asked = refl
 
+-- it begins with 05
+command-kept : isRetired (hexOf command) ≡ false
+unfolding isRetired begins inDigits hexOf digitOf if_then_else_
+command-kept = refl
+
+command-line : askedLine (hexOf command) ≡ askedIn command
+unfolding askedLine if_then_else_
+command-line = rw command-kept (ap askedIn (encoded-line command command-bytes))
+
+longer-line : (longer : List ℕ) → longestDigits < length longer → isRetired longer ≡ false → askedLine longer ≡ bad
+unfolding askedLine askedIn if_then_else_
+longer-line longer h e = rw e (long-bytes longer 8202 (omega arith) (λ s. askedIn s ≡ bad) refl long-request)
+
 longest-line : Longest longestDigits
-unfolding askedIn heardIn isBad if_then_else_
+unfolding heardIn
 longest-line = record {
   line = hexOf command;
   long = length-hex command;
-  valid = λ e. false≢true (sym command-asked ∙ ap isBad (sym (ap askedIn (encoded-line command command-bytes)) ∙ e));
-  longer-request = λ longer h. long-bytes longer 8202 (omega arith) (λ s. askedIn s ≡ bad) refl long-request;
+  valid = its-call (askedLine (hexOf command)) (ap isCall command-line ∙ command-asked);
+  longer-request = longer-line;
   longer-outcome = λ asked longer h. long-bytes longer 8202 (omega arith) (λ s. heardIn asked s ≡ stopped answer.BadLine) refl (long-outcome asked);
-}
-
--- what is written is what the Rust does
-writes : Writes rustPrinted rustSoFar
-writes = record {
-  over = λ first fresh {rounds} {read} {wrote} {chunk} {end} {d} r off clear more none. laws .over first fresh r off clear more none ∙ all-printed (read ++ more);
-  reads = λ first fresh {rounds} {read} {wrote} {chunk} {d} r ready used. laws .reads first fresh r ready used ∙ soon-printed read;
-  waits = λ first fresh {rounds} {read} {wrote} {chunk} {d} r ready used. subst (λ (s : List ℕ). length wrote < length s) (all-printed read) (laws .waits first fresh r ready used);
-  ends = λ {first} {rounds} {read} {wrote} {chunk} {d} r. laws .ends r;
-  advances = laws .advances;
-  clears = laws .clears;
-  starts = λ first fresh {rounds} {read} {wrote} {chunk} {end} {d} r more none. subst (Begins wrote) (all-printed (read ++ more)) (laws .starts first fresh r more none);
-  so-far = λ input more.
-      let s = laws .so-far input more in (
-        rw (← soon-printed input, ← all-printed (input ++ more)) (s .0),
-        rw (← soon-printed input, ← soon-printed (input ++ more)) (s .1),
-      );
 }
 
 -- the statement
 pub line-by-line : LineByLine
-line-by-line = record { lines = each-line; writes = writes; digits = hexadecimal; figures = read-back; longest = longest-line }
+line-by-line = record { lines = each-line; writes = writes; digits = hexadecimal; figures = read-back; longest = longest-line; retired = retired-kinds }

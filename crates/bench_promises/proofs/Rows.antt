@@ -27,9 +27,8 @@ use Rattle.dialogue.specs.Dialogue.{zeros}
 use Rattle.dialogue.specs.Bench.{callRun, requestThen}
 use Rattle.original.specs.Bus.{BusOutcome, begun, Came, Err, Read, _leaving_}
 use Rattle.original.specs.OriginalInterface as rust
-use Rattle.original.specs.OriginalR5 as rust-r5
 use Rattle.original.specs.Equal.{Equal}
-use Rattle.original.specs.ByKind.{fed, rustOf, Defined, Added, long-frame, long-register, input-given, keys-written, key-written, EqualByKind}
+use Rattle.original.specs.ByKind.{fed, rustOf, Defined, Added, long-frame, input-given, keys-written, key-written, EqualByKind}
 use Rattle.original.proofs.Equal.{equal}
 use Rattle.original.proofs.ByKind.{equal-by-kind}
 use Rattle.bench_promises.specs.Kinds.{Row, unlike, rows, Asked, bad, call, askedBy, askedAmong}
@@ -263,18 +262,6 @@ module _ (line : List ℕ) (lines : List (List ℕ)) (rest : List ℕ) (c : Conf
         (λ w os. either (unlike 16 (payload (row 0x0B))) _ _ (buffer (row 0x0B)) _
         (λ t. added (row 0x0B) _ os answer.WrongBuffer (key-written (unlike-not 16 (payload (row 0x0B)) t))) (λ t. sym (same (row 0x0B) _ os (unlike-same 16 (payload (row 0x0B)) t))))
 
-    read-register-unchecked : Same (exactOf (kind.ReadRegisterUnchecked (getD args 0 0)) c 3 0 (pairAt 1 args) (length args)) (askedBy (row 0x0C) c args)
-    read-register-unchecked =
-        one (row 0x0C) (kind.ReadRegisterUnchecked (getD args 0 0)) 0 (pairAt 1 args) (omega arith) refl refl (λ h. sym (pair-at 1 args h))
-        (λ w os. rw (byte-at 0 args (omega (arith, w .fixed))) (same (row 0x0C) _ os (small-buffer (row 0x0C) w)))
-
-    write-register-unchecked : Same (calledOf (kind.WriteRegisterUnchecked (getD args 0 0)) c 1 0 (length args)) (askedBy (row 0x0D) c args)
-    write-register-unchecked =
-        any (row 0x0D) (kind.WriteRegisterUnchecked (getD args 0 0)) 0 refl refl (λ h. refl)
-        (λ w os. rw (byte-at 0 args (omega (arith, w .fixed)))
-        (either (rust-r5.uncheckedPanics (payload (row 0x0D))) _ _ (buffer (row 0x0D)) _
-        (λ t. added (row 0x0D) _ os answer.DataTooLarge (long-register (getD args 0 0) t)) (λ t. sym (same (row 0x0D) _ os t))))
-
     send-access-key : Same (exactOf (kind.SendAccessKey (pairAt 0 args) (pairAt 2 args)) c 4 0 0 (length args)) (askedBy (row 0x0E) c args)
     send-access-key =
         one (row 0x0E) (kind.SendAccessKey (pairAt 0 args) (pairAt 2 args)) 0 0 (omega arith) refl refl (λ h. refl)
@@ -331,8 +318,6 @@ module _ (line : List ℕ) (lines : List (List ℕ)) (rest : List ℕ) (c : Conf
         (both _ _ _ _ _ write-security-keys
         (both _ _ _ _ _ read-authentication-key
         (both _ _ _ _ _ write-authentication-key
-        (both _ _ _ _ _ read-register-unchecked
-        (both _ _ _ _ _ write-register-unchecked
         (both _ _ _ _ _ send-access-key
         (both _ _ _ _ _ read-mfg-info-c
         (both _ _ _ _ _ write-mfg-info-c
@@ -341,4 +326,4 @@ module _ (line : List ℕ) (lines : List (List ℕ)) (rest : List ℕ) (c : Conf
         (both _ _ _ _ _ read-charging-voltage-override
         (both _ _ _ _ _ write-charging-voltage-override
         (both _ _ _ _ _ write-with-retries
-        (same-bad requests.bad refl)))))))))))))))))))))
+        (same-bad requests.bad refl)))))))))))))))))))

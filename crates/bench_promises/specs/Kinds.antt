@@ -1,10 +1,12 @@
 -- The kinds of docs/BENCH.md, one to a row: its arguments, and the Rust's function that they are for. (01, The bench program)
 -- Assumes nothing.
 use Prim.Native.Nat.{ℕ, _-_}
-use mathlib.Core.Bool.{Bool, not, _||_}
+use mathlib.Core.Bool.{Bool, true, false, not, _&&_, _||_}
 use mathlib.Core.List.{List, [], _∷_}
 use lib.ListN.{length, drop, getD, replicate}
 use lib.Dec.{ltb, eqb}
+use Rattle.hex.specs.Digits.{inDigits}
+use Rattle.hex.specs.Line.{lineBytes}
 use Rattle.protocol.specs.Pick.{if_then_else_}
 use Rattle.protocol.specs.declared.common.Config.{Config}
 use Rattle.protocol.specs.declared.error.Answer.{Answer}
@@ -68,7 +70,7 @@ refusedIf refused a log os came = if refused then Err a log os else came
 abbrev pub unlike : ℕ → List ℕ → Bool
 unlike n s = not (eqb (length s) n)
 
--- the table of docs/BENCH.md
+-- the table of docs/BENCH.md; 0C and 0D are retired: they have no row, and no other call is given them
 abbrev pub rows : List Row
 rows =
     writes 0x01 2 (λ config arguments payload. rust-r5.writeDataflash config (field 0 2 arguments) payload)
@@ -91,9 +93,6 @@ rows =
     ∷ writes 0x09 0 (λ config arguments keys log os. refusedIf (unlike 28 keys) answer.WrongBuffer log os (rust-r5.writeSecurityKeys config keys log os))
     ∷ fills 0x0A 16 (λ config buffer. rust-r5.readAuthenticationKey config buffer)
     ∷ writes 0x0B 0 (λ config arguments key log os. refusedIf (unlike 16 key) answer.WrongBuffer log os (rust-r5.writeAuthenticationKey config key log os))
-    ∷ reads 0x0C 3 (λ config arguments buffer. rust-r5.readRegisterUnchecked config (field 0 1 arguments) buffer)
-    ∷ writes 0x0D 1 (λ config arguments payload log os.
-    refusedIf (rust-r5.uncheckedPanics payload) answer.DataTooLarge log os (rust-r5.writeRegisterUnchecked config (field 0 1 arguments) payload log os))
     ∷ record {
       kind = 0x0E;
       fixed = 4;
@@ -119,9 +118,10 @@ rows =
     refusedIf (rust.writePanics (config .«pec_write») frame) answer.DataTooLarge log os (rust.writeWithRetries config frame (config .«pec_write») log os))
     ∷ []
 
--- what a request line asks for: a function of the Rust, or nothing
+-- what a request line asks for: a function of the Rust, or nothing, since it is bad or its kind is retired
 pub data Asked : Type 0 where
   bad : Asked
+  retired : Asked
   call : (List BusOutcome → Read) → Asked
 
 -- by a row: bad where arguments are missing, the payload is shorter or longer than the kind has it, or the buffer is over 8,192 bytes. A buffer starts as A5
@@ -146,9 +146,29 @@ settings flags retries = record {
   «pec_read» = eqb flags 2 || eqb flags 3;
 }
 
--- a request line: kind, flags, retries, arguments. It is bad where the header is short, a flag is not known, the kind is not known, or its lengths fail
+-- the bytes of a request line: kind, flags, retries, arguments. It is bad where the header is short, a flag is not known, the kind is not known, or its lengths fail
 unfoldable pub askedIn : List ℕ → Asked
 askedIn line =
     if ltb (length line) 4 then bad else
     if ltb 3 (getD line 1 0) then bad else
     askedAmong rows (getD line 0 0) (settings (getD line 1 0) (field 2 2 line)) (drop 4 line)
+
+-- ---- a request line as characters
+
+-- a line begins with these characters
+unfoldable pub begins : List ℕ → List ℕ → Bool
+begins [] line = true
+begins (d ∷ ds) [] = false
+begins (d ∷ ds) (b ∷ line) = eqb b d && begins ds line
+
+-- it begins with the digits of 0C or of 0D
+unfoldable pub isRetired : List ℕ → Bool
+isRetired line = begins (inDigits (0x0C ∷ [])) line || begins (inDigits (0x0D ∷ [])) line
+
+-- a retired kind comes before anything else on the line (02, W-210)
+unfoldable pub askedLine : List ℕ → Asked
+askedLine line = if isRetired line then retired else askedIn (lineBytes line)
+
+-- the same of a line that lacks its line feed, which is bad otherwise
+unfoldable pub askedCut : List ℕ → Asked
+askedCut line = if isRetired line then retired else bad

@@ -1,4 +1,5 @@
 pub mod Numbers
 pub mod Kinds
 pub mod RustBench
+pub mod Retired
 pub mod LineByLine

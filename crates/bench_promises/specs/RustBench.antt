@@ -12,7 +12,7 @@ use Rattle.lines.specs.Input.{linesFrom, restFrom}
 use Rattle.hex.specs.Line.{lineBytes, feeds}
 use Rattle.original.specs.Bus.{BusOutcome, Acknowledged, BusError, Timeout, Made, write, read, brings, Log, Ok, Err, Waiting, Read, _leaving_}
 use Rattle.bench_promises.specs.Numbers.{lowFirst}
-use Rattle.bench_promises.specs.Kinds.{Asked, bad, call, askedIn}
+use Rattle.bench_promises.specs.Kinds.{Asked, bad, retired, call, askedLine, askedCut}
 
 -- ---- what is printed
 
@@ -100,15 +100,16 @@ runOf rust os (line ∷ lines) rest =
     goes (λ o. runOf rust (os ++ (o ∷ [])) lines rest)
     stops (λ a. closed log (endLine a (log .waits) buffer)))
 
--- a bad request line has no waits and no buffer
+-- a bad request line has no waits and no buffer, and so has one of a retired kind
 unfoldable pub runAsked : Asked → List (List ℕ) → List ℕ → List (List ℕ)
 runAsked bad lines rest = endLine answer.BadLine 0 [] ∷ []
+runAsked retired lines rest = endLine answer.RetiredKind 0 [] ∷ []
 runAsked (call rust) lines rest = runOf rust [] lines rest
 
 -- from the lines of the input, and what follows its last line feed, to the lines that are printed
 unfoldable pub rustBench : List (List ℕ) → List ℕ → List (List ℕ)
-rustBench [] rest = endLine answer.BadLine 0 [] ∷ []
-rustBench (line ∷ lines) rest = runAsked (askedIn (lineBytes line)) lines rest
+rustBench [] rest = runAsked (askedCut rest) [] rest
+rustBench (line ∷ lines) rest = runAsked (askedLine line) lines rest
 
 -- and as bytes, in hexadecimal
 unfoldable pub rustPrinted : List ℕ → List ℕ

@@ -3,7 +3,7 @@
 use Prim.Native.Nat.{ℕ}
 use Rattle.protocol.specs.declared.common.Config.{Config}
 use Rattle.interface.specs.Plans.{writeWithRetries, writeRegister, readRegister, dispatchCommand, readBuffer, writeBuffer}
-use Rattle.r5.specs.Plans.{readSecurityKeys, writeSecurityKeys, readAuthenticationKey, writeAuthenticationKey, readChargingVoltageOverride, writeChargingVoltageOverride, readRegisterUnchecked, writeRegisterUnchecked, sendAccessKey, unsealFg, writeMfgInfoC, readMfgInfoC, writeMfgInfo, readMfgInfo, readDataflash, writeDataflash}
+use Rattle.r5.specs.Plans.{readSecurityKeys, writeSecurityKeys, readAuthenticationKey, writeAuthenticationKey, readChargingVoltageOverride, writeChargingVoltageOverride, sendAccessKey, unsealFg, writeMfgInfoC, readMfgInfoC, writeMfgInfo, readMfgInfo, readDataflash, writeDataflash}
 use Rattle.calls.specs.declared.kind.Kind.{Kind}
 use Rattle.calls.specs.declared.kind.Kind.the-variants as kind
 use Rattle.calls.specs.declared.kind.Plan.{Plan}
@@ -23,8 +23,6 @@ planOf kind.WriteAuthenticationKey config p n = plan.Write (writeAuthenticationK
 planOf kind.ReadAuthenticationKey config p n = plan.Read (readAuthenticationKey config)
 planOf kind.WriteChargingVoltageOverride config p n = plan.Write (writeChargingVoltageOverride config)
 planOf kind.ReadChargingVoltageOverride config p n = plan.Read (readChargingVoltageOverride config)
-planOf (kind.WriteRegisterUnchecked address) config p n = plan.Write (writeRegisterUnchecked config address)
-planOf (kind.ReadRegisterUnchecked address) config p n = plan.Read (readRegisterUnchecked config address n)
 planOf (kind.SendAccessKey lower upper) config p n = plan.Write (sendAccessKey config lower upper)
 planOf (kind.UnsealFg lower upper) config p n = plan.Write (unsealFg config lower upper)
 planOf (kind.WriteMfgInfoC lower upper) config p n = plan.Write (writeMfgInfoC config lower upper)

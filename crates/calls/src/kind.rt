@@ -1,4 +1,5 @@
-// The requests of a host: one for each call of interface.rs and versions/r5.rs, under its name, with its arguments but for what is lent.
+// The requests of a host: one for each call of interface.rs and versions/r5.rs that the driver has, under its name, with its arguments but for what is
+// lent. (read_register_unchecked and write_register_unchecked were retired: 02, W-210)
 use protocol::common::Config;
 use reading::call::ReadPlan;
 use writing::call::WritePlan;
@@ -21,8 +22,6 @@ pub enum Kind {
     ReadAuthenticationKey,
     WriteChargingVoltageOverride,
     ReadChargingVoltageOverride,
-    WriteRegisterUnchecked(u8),
-    ReadRegisterUnchecked(u8),
     SendAccessKey { lower: u16, upper: u16 },
     UnsealFg { lower: u16, upper: u16 },
     WriteMfgInfoC { lower: u16, upper: u16 },
@@ -68,12 +67,6 @@ impl Kind {
             }
             Kind::ReadChargingVoltageOverride => {
                 Plan::Read(r5::read_charging_voltage_override(config))
-            }
-            Kind::WriteRegisterUnchecked(address) => {
-                Plan::Write(r5::write_register_unchecked(config, address))
-            }
-            Kind::ReadRegisterUnchecked(address) => {
-                Plan::Read(r5::read_register_unchecked(config, address, buffer))
             }
             Kind::SendAccessKey { lower, upper } => {
                 Plan::Write(r5::send_access_key(config, lower, upper))

@@ -26,28 +26,26 @@ use Rattle.calls.specs.declared.call.Call.{Call}
 use Rattle.calls.specs.declared.call.Call.the-variants as call
 use Rattle.calls.specs.declared.call.Reported.{Reported}
 use Rattle.calls.specs.declared.call.Reported.the-variants as reported
-use Rattle.requests.specs.Outcome.{outcomeLine}
 use Rattle.requests.specs.Request.{requestLine}
-use Rattle.requests.specs.declared.outcome.Told.{Told}
-use Rattle.requests.specs.declared.outcome.Told.the-variants as told
+use Rattle.requests.specs.Retired.{retiredKind}
 use Rattle.requests.specs.declared.request.Request.{Request}
 use Rattle.requests.specs.declared.request.Request.the-variants as request
 use Rattle.requests.proofs.Small.{Small, small-request}
 use Rattle.printing.specs.Printing.{printedOf, outPrinted, quadOf, writeSaid, readSaid, endSaid, cutSaid}
-use Rattle.dialogue.specs.Dialogue.{Saying, asked, last, bytesSaid, sizeOf, tellOf, zeros, lineShown, lastOf, closeOf}
+use Rattle.dialogue.specs.Dialogue.{bytesSaid, sizeOf, tellOf, zeros, lineShown, lastOf, unfinishedOf, closeOf}
 use Rattle.dialogue.specs.declared.Run.{Run}
 use Rattle.dialogue.specs.declared.Run.the-variants as run
 use Rattle.hex.specs.Line.{lineBytes, feedBytes}
-use Rattle.dialogue.specs.Bench.{thenSay, reportThen, toldThen, callLines, callRun, requestThen, benchOf}
+use Rattle.dialogue.specs.Bench.{callRun, requestThen, requestOf, benchOf}
 use Rattle.dialogue.proofs.Kept.{length-after}
+use Rattle.dialogue.proofs.EachLine.{All, GoodAfter, each-run}
 
 -- at most 8,200 bytes, which are 16,401 with their digits and the line feed
 abbrev pub Short : List ℕ → Type 0
 Short s = length s ≤ 8200
 
 abbrev pub AllShort : List (List ℕ) → Type 0
-AllShort [] = Unit {0}
-AllShort (s ∷ more) = Short s × AllShort more
+AllShort lines = All Short lines
 
 -- a short line is printed whole
 pub printed-whole : (s out : List ℕ) → Short s → 16401 ≤ length out → (printedOf s (length out) ≡ length (feedBytes s)) × (take (length (feedBytes s)) (outPrinted s out) ≡ feedBytes s)
@@ -68,10 +66,10 @@ short-last tally left buffer h = by (eqb left 0)
     by true = omega arith
     by false = short-end answer.BadLine tally buffer h
 
-pub short-close : (r : Run) (left : ℕ) (buffer : List ℕ) → length buffer ≤ 8192 → Short (closeOf r left buffer)
+pub short-close : (r : Run) (line buffer : List ℕ) → length buffer ≤ 8192 → Short (closeOf r line buffer)
 unfolding closeOf
-short-close run.Fresh left buffer h = short-end answer.BadLine nothing [] (omega arith)
-short-close (run.Call call place) left buffer h = short-last (tallyOf call) left (take (place .buffer) buffer) (rw length-take (omega arith))
+short-close run.Fresh line buffer h = short-end (unfinishedOf line) nothing [] (omega arith)
+short-close (run.Call call place) line buffer h = short-last (tallyOf call) (length line) (take (place .buffer) buffer) (rw length-take (omega arith))
 
 short-tell : (t : Transfer) (frame : List ℕ) (tally : Tally) (buffer : List ℕ) → length frame ≤ 8192 → length buffer ≤ 8192 → Short (bytesSaid (tellOf t frame tally buffer))
 unfolding tellOf bytesSaid writeSaid readSaid pairOf
@@ -103,44 +101,41 @@ short-line c payload buffer p b =
     short-tell (nextOf c payload (length buffer) 39) _ (tallyOf c) buffer
     (length-part c payload (workAfter c payload (length buffer) zeros) (sizeOf (nextOf c payload (length buffer) 39)) p (length-work c payload (length buffer))) b
 
-short-then : (s : Saying) (more : List (List ℕ)) → Short (bytesSaid s) → AllShort more → AllShort (thenSay s more)
-unfolding thenSay bytesSaid
-short-then (asked s) more h m = (h, m)
-short-then (last s) more h m = (h, tt)
+-- a report leaves the buffer as long as it was
+short-after : (payload : List ℕ) (u : Reported) (buffer : List ℕ) → length buffer ≤ 8192 → GoodAfter Short (λ c after. length after ≤ 8192) payload u buffer
+short-after payload (reported.Refused a c) buffer b = short-end a (tallyOf c) buffer b
+short-after payload (reported.Taken c) buffer b = b
 
--- what follows a report or an outcome line, where it is short whatever call and buffer go on
-module _ (next : Call → List ℕ → List (List ℕ)) (all : (c : Call) (after : List ℕ) → length after ≤ 8192 → AllShort (next c after)) where
-  short-report : (u : Reported) (buffer : List ℕ) → length buffer ≤ 8192 → AllShort (reportThen u buffer next)
-  unfolding reportThen
-  short-report (reported.Refused a c) buffer b = (short-end a (tallyOf c) buffer b, tt)
-  short-report (reported.Taken c) buffer b = all c buffer b
-
-  short-told : (t : Told) (c : Call) (payload buffer bytes : List ℕ) → length buffer ≤ 8192 → AllShort (toldThen t c payload buffer bytes next)
-  unfolding toldThen
-  short-told (told.Outcome o) c payload buffer bytes b =
-      let k : length (bufferAfter c o (drop 1 bytes) buffer 39) ≤ 8192 = rw length-after b in
-      short-report (reportOf c o (drop 1 bytes) (length payload) (length buffer) 39) (bufferAfter c o (drop 1 bytes) buffer 39) k
-  short-told told.Bad c payload buffer bytes b = (short-end answer.BadLine (tallyOf c) buffer b, tt)
-
-short-lines : (lines : List (List ℕ)) (c : Call) (payload buffer rest : List ℕ) → length payload ≤ 8192 → length buffer ≤ 8192 → AllShort (callLines c payload buffer lines rest)
-unfolding callLines
-short-lines [] c payload buffer rest p b = (short-last (tallyOf c) (length rest) buffer b, tt)
-short-lines (line ∷ lines) c payload buffer rest p b =
-    short-told _
-    (λ next after k. short-then (lineShown next payload after) (callLines next payload after lines rest) (short-line next payload after p k) (short-lines lines next payload after rest p k))
-    (outcomeLine (lineBytes line)) c payload buffer (lineBytes line) b
+short-run : (payload : List ℕ) → length payload ≤ 8192 → (lines : List (List ℕ)) (c : Call) (buffer rest : List ℕ) → length buffer ≤ 8192
+    → AllShort (callRun c payload buffer lines rest)
+short-run payload p =
+    each-run Short (λ c buffer. length buffer ≤ 8192) payload
+    (λ c buffer b. short-line c payload buffer p b)
+    (λ c buffer b left. short-last (tallyOf c) left buffer b)
+    (λ c buffer b. short-end answer.BadLine (tallyOf c) buffer b)
+    (λ c buffer b o reply.
+    let k : length (bufferAfter c o reply buffer 39) ≤ 8192 = rw length-after b in
+    short-after payload (reportOf c o reply (length payload) (length buffer) 39) (bufferAfter c o reply buffer 39) k)
 
 short-request : (q : Request) (bytes : List ℕ) (lines : List (List ℕ)) (rest : List ℕ) → Small (length bytes) q → AllShort (requestThen q bytes lines rest)
-unfolding requestThen callRun
+unfolding requestThen
 short-request (request.Call kind config at n) bytes lines rest h =
     let p : length (drop at bytes) ≤ 8192 = rw length-drop (h .0) in
     let fill : List ℕ = replicate n 0xA5 in
     let b : length fill ≤ 8192 = subst (λ (m : ℕ). m ≤ 8192) (sym (length-replicate n 0xA5)) (h .1) in
-    short-then _ _ (short-line _ (drop at bytes) fill p b) (short-lines lines _ (drop at bytes) fill rest p b)
+    short-run (drop at bytes) p lines _ fill rest b
 short-request (request.Refused a) bytes lines rest h = (short-end a nothing [] (omega arith), tt)
+
+small-asked : (line : List ℕ) → Small (length (lineBytes line)) (requestOf line)
+unfolding requestOf if_then_else_
+small-asked line = by (retiredKind line)
+  where
+    by : (t : Bool) → Small (length (lineBytes line)) (if t then request.Refused answer.RetiredKind else requestLine (lineBytes line))
+    by true = tt
+    by false = small-request (lineBytes line)
 
 -- every line of the bench
 pub all-short : (lines : List (List ℕ)) (rest : List ℕ) → AllShort (benchOf lines rest)
 unfolding benchOf
-all-short [] rest = (short-end answer.BadLine nothing [] (omega arith), tt)
-all-short (line ∷ lines) rest = short-request (requestLine (lineBytes line)) (lineBytes line) lines rest (small-request (lineBytes line))
+all-short [] rest = (short-end (unfinishedOf rest) nothing [] (omega arith), tt)
+all-short (line ∷ lines) rest = short-request (requestOf line) (lineBytes line) lines rest (small-asked line)

@@ -2,6 +2,7 @@
 -- Assumes nothing.
 use Prim.Native.Nat.{ℕ, _≤_, min}
 use mathlib.Core.Path.{_≡_, refl, sym, ap, _∙_}
+use mathlib.Core.Bool.{Bool, true, false}
 use mathlib.Core.List.{List, [], _∷_, _++_}
 use mathlib.Core.Logic.{_⊎_, inl, inr, ⊎-elim}
 use native.Mathlib.Omega.{arith}
@@ -16,6 +17,7 @@ use Rattle.calls.specs.declared.call.Reported.{Reported}
 use Rattle.calls.specs.declared.call.Reported.the-variants as reported
 use Rattle.requests.specs.Outcome.{outcomeLine}
 use Rattle.requests.specs.Request.{bad, requestLine}
+use Rattle.requests.specs.Retired.{retiredKind}
 use Rattle.requests.specs.declared.outcome.Told.{Told}
 use Rattle.requests.specs.declared.outcome.Told.the-variants as told
 use Rattle.requests.specs.declared.request.Request.{Request}
@@ -26,7 +28,7 @@ use Rattle.dialogue.specs.Dialogue as dialogue
 use Rattle.dialogue.specs.declared.Place.{Place}
 use Rattle.dialogue.specs.declared.Run.the-variants as run
 use Rattle.hex.specs.Line.{lineBytes}
-use Rattle.dialogue.specs.Bench.{thenSay, reportThen, toldThen, callLines, callRun, requestThen, benchOf}
+use Rattle.dialogue.specs.Bench.{thenSay, reportThen, toldThen, callLines, callRun, requestThen, requestOf, benchOf}
 use Rattle.dialogue.proofs.Machine.{machineOf}
 use Rattle.dialogue.proofs.Lines.{decoded-line}
 use Rattle.dialogue.proofs.Kept.{length-decoded, length-after, length-filled, filled-front, payload-in}
@@ -110,7 +112,7 @@ room-enough call n room h = rw (le-leb n room h)
 -- a run from its request on
 begin-on : (q : Request) (l R Y B : List ℕ) (lines : List (List ℕ)) (rest : List ℕ) → Small (length l) q → ((at : ℕ) → take (length (drop at l)) (drop at R) ≡ drop at l)
     → 8193 ≤ length Y → 8192 ≤ length B → onward (dialogue.beginBy q l B) R Y (dialogue.fillBy q B) lines rest ≡ requestThen q l lines rest
-unfolding onward dialogue.beginBy dialogue.fillBy dialogue.openOf dialogue.sayOf dialogue.showOf dialogue.payloadIn thenSay requestThen callRun
+unfolding onward dialogue.beginBy dialogue.refusedOf dialogue.fillBy dialogue.openOf dialogue.sayOf dialogue.showOf dialogue.payloadIn thenSay requestThen callRun
 begin-on (request.Call kind config at n) l R Y B lines rest small payload y b =
     let fits : n ≤ length B = omega (arith, small .1) in
     let e : min n (length B) ≡ n = omega arith in
@@ -140,7 +142,12 @@ begin-on-line l m R Y B lines rest payload y b (inr q) =
 -- the whole bench: whatever the lent bytes hold at first
 pub whole : (lines : List (List ℕ)) (rest request outcome buffer : List ℕ) → 8202 ≤ length request → 8193 ≤ length outcome → 8192 ≤ length buffer
     → machineOf run.Fresh request outcome buffer lines rest ≡ benchOf lines rest
-unfolding machineOf benchOf dialogue.closeOf dialogue.answerOf dialogue.requestAfter dialogue.outcomeAfter dialogue.bufferAfter onward
+unfolding machineOf benchOf requestOf requestThen thenSay dialogue.closeOf dialogue.answerOf dialogue.requestAfter dialogue.outcomeAfter dialogue.bufferAfter
+    dialogue.firstOf dialogue.firstRequest dialogue.firstBuffer dialogue.refusedOf onward if_then_else_
 whole [] rest R Y B r y b = refl
-whole (line ∷ lines) rest R Y B r y b =
-    begin-on-line (dialogue.bytesIn line R) (lineBytes line) (outDecoded line R) Y B lines rest (decoded-payload line R) y b (asked-line line R r)
+whole (line ∷ lines) rest R Y B r y b = by (retiredKind line) refl
+  where
+    by : (t : Bool) → retiredKind line ≡ t → machineOf run.Fresh R Y B (line ∷ lines) rest ≡ benchOf (line ∷ lines) rest
+    by true e = rw e
+    by false e =
+        rw e (begin-on-line (dialogue.bytesIn line R) (lineBytes line) (outDecoded line R) Y B lines rest (decoded-payload line R) y b (asked-line line R r))

@@ -4,6 +4,7 @@ use Prim.Native.Nat.{ℕ}
 use mathlib.Core.List.{List, [], _∷_}
 use lib.ListN.{length, drop, replicate}
 use Rattle.hex.specs.Line.{lineBytes}
+use Rattle.protocol.specs.Pick.{if_then_else_}
 use Rattle.protocol.specs.declared.error.Answer.the-variants as answer
 use Rattle.engine.specs.Budget.{nothing}
 use Rattle.calls.specs.Call.{startOf, reportOf, bufferAfter, tallyOf}
@@ -12,12 +13,13 @@ use Rattle.calls.specs.declared.call.Reported.{Reported}
 use Rattle.calls.specs.declared.call.Reported.the-variants as reported
 use Rattle.requests.specs.Outcome.{outcomeLine}
 use Rattle.requests.specs.Request.{requestLine}
+use Rattle.requests.specs.Retired.{retiredKind}
 use Rattle.requests.specs.declared.outcome.Told.{Told}
 use Rattle.requests.specs.declared.outcome.Told.the-variants as told
 use Rattle.requests.specs.declared.request.Request.{Request}
 use Rattle.requests.specs.declared.request.Request.the-variants as request
 use Rattle.printing.specs.Printing.{endSaid}
-use Rattle.dialogue.specs.Dialogue.{Saying, asked, last, lineShown, lastOf}
+use Rattle.dialogue.specs.Dialogue.{Saying, asked, last, lineShown, lastOf, unfinishedOf}
 
 -- a transfer is printed and the run goes on, or the last line is
 unfoldable pub thenSay : Saying → List (List ℕ) → List (List ℕ)
@@ -52,7 +54,11 @@ requestThen (request.Call kind config at n) bytes lines rest =
     callRun (startOf kind config (length (drop at bytes)) n 39) (drop at bytes) (replicate n 0xA5) lines rest
 requestThen (request.Refused a) bytes lines rest = endSaid a nothing [] ∷ []
 
+-- what a request line asks for: nothing where its kind is retired, whatever else is on it
+unfoldable pub requestOf : List ℕ → Request
+requestOf line = if retiredKind line then request.Refused answer.RetiredKind else requestLine (lineBytes line)
+
 -- the bench
 unfoldable pub benchOf : List (List ℕ) → List ℕ → List (List ℕ)
-benchOf [] rest = endSaid answer.BadLine nothing [] ∷ []
-benchOf (line ∷ lines) rest = requestThen (requestLine (lineBytes line)) (lineBytes line) lines rest
+benchOf [] rest = endSaid (unfinishedOf rest) nothing [] ∷ []
+benchOf (line ∷ lines) rest = requestThen (requestOf line) (lineBytes line) lines rest

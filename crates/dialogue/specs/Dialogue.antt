@@ -10,6 +10,7 @@ use Rattle.hex.specs.declared.Decoded.the-variants as decoded
 use Rattle.protocol.specs.Pick.{if_then_else_}
 use Rattle.protocol.specs.Bytes.{over}
 use Rattle.protocol.specs.declared.common.Config.{Config}
+use Rattle.protocol.specs.declared.error.Answer.{Answer}
 use Rattle.protocol.specs.declared.error.Answer.the-variants as answer
 use Rattle.engine.specs.Budget.{nothing}
 use Rattle.engine.specs.declared.budget.Tally.{Tally}
@@ -22,6 +23,7 @@ use Rattle.calls.specs.declared.call.Reported.{Reported}
 use Rattle.calls.specs.declared.call.Reported.the-variants as reported
 use Rattle.requests.specs.Outcome.{outcomeLine}
 use Rattle.requests.specs.Request.{requestLine}
+use Rattle.requests.specs.Retired.{retiredKind}
 use Rattle.requests.specs.declared.outcome.Told.{Told}
 use Rattle.requests.specs.declared.outcome.Told.the-variants as told
 use Rattle.requests.specs.declared.request.Request.{Request}
@@ -116,9 +118,13 @@ openOf kind config at n line buffer =
     sayOf (roomFor (calls.startOf kind config (length (drop at line)) (min n (length buffer)) 39) n (length buffer))
     (record { at = at; payload = length (drop at line); buffer = n }) (drop at line) (take n (filled n buffer))
 
+-- a request line is refused: no waits, and no buffer
+unfoldable pub refusedOf : Answer → Spoken
+refusedOf a = record { run = run.Fresh; saying = last (endSaid a nothing []) }
+
 unfoldable pub beginBy : Request → List ℕ → List ℕ → Spoken
 beginBy (request.Call kind config at n) line buffer = openOf kind config at n line buffer
-beginBy (request.Refused a) line buffer = record { run = run.Fresh; saying = last (endSaid a nothing []) }
+beginBy (request.Refused a) line buffer = refusedOf a
 
 unfoldable pub fillBy : Request → List ℕ → List ℕ
 fillBy (request.Call kind config at n) buffer = filled n buffer
@@ -130,6 +136,16 @@ beginOf line buffer = beginBy (requestLine line) line buffer
 
 unfoldable pub beginBuffer : List ℕ → List ℕ → List ℕ
 beginBuffer line buffer = fillBy (requestLine line) buffer
+
+-- the request line: a retired kind is refused before anything else on it is looked at
+unfoldable pub firstOf : List ℕ → List ℕ → List ℕ → Spoken
+firstOf line request buffer = if retiredKind line then refusedOf answer.RetiredKind else beginOf (bytesIn line request) buffer
+
+unfoldable pub firstRequest : List ℕ → List ℕ → List ℕ
+firstRequest line request = if retiredKind line then request else outDecoded line request
+
+unfoldable pub firstBuffer : List ℕ → List ℕ → List ℕ → List ℕ
+firstBuffer line request buffer = if retiredKind line then buffer else beginBuffer (bytesIn line request) buffer
 
 unfoldable pub hearBy : Told → Call → List ℕ → ℕ → ℕ → Reported
 hearBy (told.Outcome o) call line p n = calls.reportOf call o (drop 1 line) p n 39
@@ -161,11 +177,11 @@ goBuffer call place line buffer = hearBuffer call line (take (place .buffer) buf
 
 -- a line: a request where the run is fresh, and else an outcome
 unfoldable pub answerOf : Run → List ℕ → List ℕ → List ℕ → List ℕ → Spoken
-answerOf run.Fresh line request outcome buffer = beginOf (bytesIn line request) buffer
+answerOf run.Fresh line request outcome buffer = firstOf line request buffer
 answerOf (run.Call call place) line request outcome buffer = goOn call place (bytesIn line outcome) request buffer
 
 unfoldable pub requestAfter : Run → List ℕ → List ℕ → List ℕ
-requestAfter run.Fresh line request = outDecoded line request
+requestAfter run.Fresh line request = firstRequest line request
 requestAfter (run.Call call place) line request = request
 
 unfoldable pub outcomeAfter : Run → List ℕ → List ℕ → List ℕ
@@ -173,13 +189,17 @@ outcomeAfter run.Fresh line outcome = outcome
 outcomeAfter (run.Call call place) line outcome = outDecoded line outcome
 
 unfoldable pub bufferAfter : Run → List ℕ → List ℕ → List ℕ → List ℕ → List ℕ
-bufferAfter run.Fresh line request outcome buffer = beginBuffer (bytesIn line request) buffer
+bufferAfter run.Fresh line request outcome buffer = firstBuffer line request buffer
 bufferAfter (run.Call call place) line request outcome buffer = goBuffer call place (bytesIn line outcome) buffer
 
 -- no outcomes are left, or so many bytes of a last line that lacks its line feed; one that is too long to be held is as bad
 unfoldable pub lastOf : Tally → ℕ → List ℕ → List ℕ
 lastOf tally left buffer = if eqb left 0 then cutSaid tally buffer else endSaid answer.BadLine tally buffer
 
-unfoldable pub closeOf : Run → ℕ → List ℕ → List ℕ
-closeOf run.Fresh left buffer = endSaid answer.BadLine nothing []
-closeOf (run.Call call place) left buffer = lastOf (calls.tallyOf call) left (take (place .buffer) buffer)
+-- a request line that lacks its line feed, or is too long to be held, is bad, unless its kind is retired
+unfoldable pub unfinishedOf : List ℕ → Answer
+unfinishedOf line = if retiredKind line then answer.RetiredKind else answer.BadLine
+
+unfoldable pub closeOf : Run → List ℕ → List ℕ → List ℕ
+closeOf run.Fresh line buffer = endSaid (unfinishedOf line) nothing []
+closeOf (run.Call call place) line buffer = lastOf (calls.tallyOf call) (length line) (take (place .buffer) buffer)

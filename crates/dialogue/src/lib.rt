@@ -18,7 +18,7 @@ ghost use mathlib.Core.Path.{_≡_};
 ghost use lib.ListN.{length};
 ghost use Rattle.hex.specs.Hex.{outDecoded};
 ghost use Rattle.printing.specs.Printing.{printedOf, outPrinted};
-ghost use Rattle.dialogue.specs.Dialogue.{byteCount, filled, sizeOf, saidOf, bytesSaid, tellOf, showOf, turnedOf, sayOf, hearOf, hearBuffer, goOn, goBuffer, roomFor, openOf, beginOf, beginBuffer, answerOf, requestAfter, outcomeAfter, bufferAfter, lastOf, closeOf};
+ghost use Rattle.dialogue.specs.Dialogue.{byteCount, filled, sizeOf, saidOf, bytesSaid, tellOf, showOf, turnedOf, sayOf, hearOf, hearBuffer, goOn, goBuffer, roomFor, openOf, refusedOf, beginOf, beginBuffer, firstOf, firstRequest, firstBuffer, answerOf, requestAfter, outcomeAfter, bufferAfter, lastOf, unfinishedOf, closeOf};
 
 // Where a call's payload and buffer stand: the payload has `payload` bytes of the request line from byte `at` on, the buffer is the first `buffer` bytes
 // of what is lent.
@@ -162,6 +162,16 @@ fn open(
     say(lent(call, len, buffer.len()), place, payload, own, out)
 }
 
+// A request line is refused: the last line of a run that is about no call.
+fn refuse(answer: Answer, out: &mut [u8]) -> Turned
+    ensures { λ r. ⌜ (r ≡ turnedOf (refusedOf answer) (length (now (out .entry)))) × (now (out .exit) ≡ outPrinted (bytesSaid (refusedOf answer .saying)) (now (out .entry))) ⌝ }
+{
+    Turned {
+        run: Run::Fresh,
+        said: Said::Last(printing::end(answer, Tally::new(), b"", out)),
+    }
+}
+
 // The bytes of a request line begin a run, or are refused.
 fn begin(line: &[u8], buffer: &mut [u8], out: &mut [u8]) -> Turned
     ensures { λ r. ⌜ (r ≡ turnedOf (beginOf (now (line .entry)) (now (buffer .entry))) (length (now (out .entry)))) × (now (buffer .exit) ≡ beginBuffer (now (line .entry)) (now (buffer .entry))) × (now (out .exit) ≡ outPrinted (bytesSaid (beginOf (now (line .entry)) (now (buffer .entry)) .saying)) (now (out .entry))) ⌝ }
@@ -173,11 +183,19 @@ fn begin(line: &[u8], buffer: &mut [u8], out: &mut [u8]) -> Turned
             at,
             len,
         } => open(kind, config, at, len, line, buffer, out),
-        Request::Refused(answer) => Turned {
-            run: Run::Fresh,
-            said: Said::Last(printing::end(answer, Tally::new(), b"", out)),
-        },
+        Request::Refused(answer) => refuse(answer, out),
     }
+}
+
+// The request line: one of a retired kind is refused before anything else on it is looked at.
+fn first(line: &[u8], request: &mut [u8], buffer: &mut [u8], out: &mut [u8]) -> Turned
+    ensures { λ r. ⌜ (r ≡ turnedOf (firstOf (now (line .entry)) (now (request .entry)) (now (buffer .entry))) (length (now (out .entry)))) × (now (request .exit) ≡ firstRequest (now (line .entry)) (now (request .entry))) × (now (buffer .exit) ≡ firstBuffer (now (line .entry)) (now (request .entry)) (now (buffer .entry))) × (now (out .exit) ≡ outPrinted (bytesSaid (firstOf (now (line .entry)) (now (request .entry)) (now (buffer .entry)) .saying)) (now (out .entry))) ⌝ }
+{
+    if request::retired_kind(line) {
+        return refuse(Answer::RetiredKind, out);
+    }
+    let n = decode(line, request);
+    begin(bytes::front(request, n), buffer, out)
 }
 
 // The bytes of an outcome line go to a call, with its own payload and buffer.
@@ -222,10 +240,7 @@ pub fn answer(
     ensures { λ r. ⌜ (r ≡ turnedOf (answerOf run (now (line .entry)) (now (request .entry)) (now (outcome .entry)) (now (buffer .entry))) (length (now (out .entry)))) × (now (request .exit) ≡ requestAfter run (now (line .entry)) (now (request .entry))) × (now (outcome .exit) ≡ outcomeAfter run (now (line .entry)) (now (outcome .entry))) × (now (buffer .exit) ≡ bufferAfter run (now (line .entry)) (now (request .entry)) (now (outcome .entry)) (now (buffer .entry))) × (now (out .exit) ≡ outPrinted (bytesSaid (answerOf run (now (line .entry)) (now (request .entry)) (now (outcome .entry)) (now (buffer .entry)) .saying)) (now (out .entry))) ⌝ }
 {
     match run {
-        Run::Fresh => {
-            let n = decode(line, request);
-            begin(bytes::front(request, n), buffer, out)
-        }
+        Run::Fresh => first(line, request, buffer, out),
         Run::Call { call, place } => {
             let n = decode(line, outcome);
             go_on(call, place, bytes::front(outcome, n), request, buffer, out)
@@ -244,15 +259,29 @@ fn last(tally: Tally, left: usize, buffer: &[u8], out: &mut [u8]) -> usize
     }
 }
 
-// The end of input, after so many bytes of a line that lacks its line feed; or a line that is too long, which is as bad. It is answered by the last line of
-// the run, of so many bytes.
-pub fn close(run: Run, left: usize, buffer: &[u8], out: &mut [u8]) -> usize
-    ensures { λ r. ⌜ (r ≡ printedOf (closeOf run left (now (buffer .entry))) (length (now (out .entry)))) × (now (out .exit) ≡ outPrinted (closeOf run left (now (buffer .entry))) (now (out .entry))) ⌝ }
+// What a request line that lacks its line feed, or is too long, is answered with: it is bad, unless its kind is retired.
+fn unfinished(line: &[u8]) -> Answer
+    ensures { λ r. ⌜ r ≡ unfinishedOf (now (line .entry)) ⌝ }
+{
+    if request::retired_kind(line) {
+        Answer::RetiredKind
+    } else {
+        Answer::BadLine
+    }
+}
+
+// The end of input, after the bytes of a line that lacks its line feed; or a line that is too long, of which its first bytes will do. It is answered by the
+// last line of the run, of so many bytes.
+pub fn close(run: Run, line: &[u8], buffer: &[u8], out: &mut [u8]) -> usize
+    ensures { λ r. ⌜ (r ≡ printedOf (closeOf run (now (line .entry)) (now (buffer .entry))) (length (now (out .entry)))) × (now (out .exit) ≡ outPrinted (closeOf run (now (line .entry)) (now (buffer .entry))) (now (out .entry))) ⌝ }
 {
     match run {
-        Run::Fresh => printing::end(Answer::BadLine, Tally::new(), b"", out),
-        Run::Call { call, place } => {
-            last(call.tally(), left, bytes::front(buffer, place.buffer), out)
-        }
+        Run::Fresh => printing::end(unfinished(line), Tally::new(), b"", out),
+        Run::Call { call, place } => last(
+            call.tally(),
+            line.len(),
+            bytes::front(buffer, place.buffer),
+            out,
+        ),
     }
 }

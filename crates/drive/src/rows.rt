@@ -12,8 +12,6 @@ fn plain_writes(group: Group) {
     row(Kind::WriteRegister(0x12), 2, 0, group);
     say::words(b"write_buffer\n");
     row(Kind::WriteBuffer(0x23), 2, 0, group);
-    say::words(b"write_register_unchecked\n");
-    row(Kind::WriteRegisterUnchecked(0x12), 2, 0, group);
 }
 
 // Keys and the override.
@@ -55,8 +53,8 @@ fn plain_reads(group: Group) {
     row(Kind::ReadRegister(0x12), 0, 2, group);
     say::words(b"read_buffer\n");
     row(Kind::ReadBuffer(0x23), 0, 2, group);
-    say::words(b"read_register_unchecked\n");
-    row(Kind::ReadRegisterUnchecked(0x12), 0, 0, group);
+    say::words(b"read_buffer, 0\n");
+    row(Kind::ReadBuffer(0x12), 0, 0, group);
 }
 
 // Commands.

@@ -7,7 +7,7 @@ use lib.Dec.{eqb}
 use Rattle.protocol.specs.Pick.{if_then_else_}
 use Rattle.hex.specs.Hex.{bytesOf, hexOf}
 
--- the bytes of a line; one that is no hexadecimal has none, and is as bad as an empty one
+-- the bytes of a line; one that is no hexadecimal has none, as an empty one
 unfoldable pub lineBytes : List ℕ → List ℕ
 lineBytes line = if eqb (length (bytesOf line) * 2) (length line) then bytesOf line else []
 

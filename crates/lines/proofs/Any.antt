@@ -6,7 +6,7 @@ use mathlib.Core.Bool.{Bool, true, false}
 use mathlib.Core.List.{List, [], _∷_, _++_, append-assoc, append-nil}
 use native.Mathlib.Omega.{arith}
 use lib.ListN.{length, take, drop, length-append, length-drop}
-use lib.Seq.{length-take-le, take-append-seam, take-length}
+use lib.Seq.{length-take-le, take-append-add, take-append-seam, take-length, drop-length}
 use lib.Dec.{eqb}
 use borrow.Author.Tests.{le-leb}
 use Rattle.protocol.specs.Pick.{if_then_else_}
@@ -81,3 +81,20 @@ held-more b held have h =
     (ap (λ (t : List ℕ). take (have + length b) t) (sym (append-assoc (take have held) b (drop (length b) d)))
     ∙ ap (λ (j : ℕ). take j (take have held ++ b ++ drop (length b) d)) (sym k)
     ∙ take-append-seam (take have held ++ b) (drop (length b) d))
+
+-- what is held where they have no room: as many as have
+pub held-long : (b held : List ℕ) (have : ℕ) → have ≤ length held → length held ≤ have + length b
+    → storedAt have (length b) b held ≡ take (length held) (take have held ++ b)
+unfolding storedAt if_then_else_ blockIn over
+held-long b held have le long =
+    let d : List ℕ = drop have held in
+    let n : length d ≡ length held - have = length-drop have held in
+    let m : min (length b) (min (length b) (length d)) ≡ length d = omega arith in
+    let k : length (take (length d) b) ≡ length d = length-take-le (length d) b (omega arith) in
+    let all : length held ≡ length (take have held) + length d = rw (length-take-le have held le) (omega arith) in
+    let none : drop (length (take (length d) b)) d ≡ [] = ap (λ (j : ℕ). drop j d) k ∙ drop-length d in
+    rw (le-leb have (length held) le, m)
+    (ap (λ (t : List ℕ). take have held ++ (take (length d) b ++ t)) none
+    ∙ ap (λ (t : List ℕ). take have held ++ t) (append-nil (take (length d) b))
+    ∙ sym (take-append-add (take have held) b (length d))
+    ∙ ap (λ (j : ℕ). take j (take have held ++ b)) (sym all))

@@ -57,7 +57,7 @@ fn judge(size: usize, from: usize, n: usize, room: usize, have: usize) -> Took
     }
 }
 
-// Puts n bytes of a chunk from `from` on after the `have` that are held, unless a line lies whole in its chunk.
+// Puts the bytes of a line after the `have` that are held, as far as there is room, unless the line lies whole in its chunk.
 fn keep(took: Took, line: &[u8], held: &mut [u8], have: usize)
     ensures { λ _. ⌜ now (held .exit) ≡ keptOf took (now (line .entry)) (now (held .entry)) have ⌝ }
 {

@@ -36,7 +36,7 @@ use Rattle.calls.specs.declared.call.Call.the-variants as call
 use Rattle.original.specs.Bus.{BusOutcome, Made, write, read, begun, Came, Err, Read, _leaving_}
 use Rattle.original.specs.Fed.{told, Lending, Lends, reply, answered, shows_sending_transfer_answer_, wrote_taken_refused_, heard_taken_refused_, fedWrite, fedRead, writes, reads}
 use Rattle.original.specs.Equal.{Equal}
-use Rattle.original.specs.ByKind.{came_taken_refused_, fed, rustOf, Defined, Added, long-frame, long-register, input-given, keys-written, keys-read, key-written, key-read, override-written, override-read, key-sent, unsealed, EqualByKind}
+use Rattle.original.specs.ByKind.{came_taken_refused_, fed, rustOf, Defined, Added, long-frame, input-given, keys-written, keys-read, key-written, key-read, override-written, override-read, key-sent, unsealed, EqualByKind}
 use Rattle.original.proofs.WriteTurns.{no-frame}
 use Rattle.original.proofs.ReadTurns.{no-transfer}
 use Rattle.original.proofs.Equal.{equal}
@@ -136,8 +136,6 @@ equal-by-kind config small w roomy lent steady os = record { same = by; added = 
     by kind.WriteChargingVoltageOverride payload buffer (ten, small-bytes) =
         wrote-as _ payload buffer _ (ap (λ (s : List ℕ). writes (writeChargingVoltageOverride config) s w lent os) (sym (both-ways .bytes-back payload ten small-bytes)) ∙ e .write-charging-voltage-override (overrideOf payload))
     by kind.ReadChargingVoltageOverride payload buffer d = read-as _ payload buffer _ (e .read-charging-voltage-override buffer d)
-    by (kind.WriteRegisterUnchecked address) payload buffer d = wrote-as _ payload buffer _ (e .write-register-unchecked address payload d)
-    by (kind.ReadRegisterUnchecked address) payload buffer d = read-as _ payload buffer _ (e .read-register-unchecked address buffer d)
     by (kind.SendAccessKey lower upper) payload buffer d = rw d (wrote-as _ [] buffer _ (e .send-access-key lower upper))
     by (kind.UnsealFg lower upper) payload buffer d = rw d (wrote-as _ [] buffer _ (e .unseal-fg lower upper))
     by (kind.WriteMfgInfoC lower upper) payload buffer d = wrote-as _ payload buffer _ (e .write-mfg-info-c lower upper payload)
@@ -159,7 +157,6 @@ equal-by-kind config small w roomy lent steady os = record { same = by; added = 
     instead : (kind : Kind) (payload buffer : List ℕ) (a : Answer) → Added config payload buffer kind a
         → fed (startOf kind config (length payload) (length buffer) w) payload buffer lent [] os ≡ (Err a begun os leaving buffer)
     instead kind payload buffer a (long-frame h) = wrote-as _ payload buffer _ (e .plain-write-refused payload h)
-    instead kind payload buffer a (long-register address h) = wrote-as _ payload buffer _ (e .write-register-unchecked-refused address payload h)
     instead kind payload buffer a (input-given address h) = read-as _ payload buffer _ (e .dispatch-command-refused address payload buffer h)
     instead kind payload buffer a (keys-written h) = key-wrote _ 28 refl payload buffer h
     instead kind payload buffer a (keys-read h) = key-got _ 28 refl payload buffer h

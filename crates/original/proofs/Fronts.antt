@@ -131,14 +131,13 @@ module _ (config : Config) (outcomes : List BusOutcome) where
 
 -- `max_bus_retries` is 0 to 65,535, and every work buffer has the same length, of at least 39 bytes
 pub fronts : (config : Config) → config .«max_bus_retries» ≤ 65535 → (w : ℕ) → 39 ≤ w → (lent : ℕ → Lending) → Lends w lent → (outcomes : List BusOutcome) → Fronts config w lent outcomes
-unfolding rust.bufferRead rust-r5.readRegisterUnchecked rust-r5.readSecurityKeys rust-r5.readAuthenticationKey rust-r5.readChargingVoltageOverride
+unfolding rust.bufferRead rust-r5.readSecurityKeys rust-r5.readAuthenticationKey rust-r5.readChargingVoltageOverride
 fronts config small w roomy lent steady outcomes = record {
   read-register = λ address buffer. carried _ buffer outcomes (same .read-register address buffer) (register-front config outcomes address buffer);
   dispatch-command = λ address input output. dispatched address input output (rust.dispatchPanics input output) refl;
   buffer-read = λ address buffer h. carried _ buffer outcomes (same .buffer-read address buffer h) (plain-own config outcomes address buffer false);
   read-security-keys = λ buffer h. carried _ buffer outcomes (same .read-security-keys buffer h) (mac-own config outcomes _ buffer);
   read-authentication-key = λ buffer h. carried _ buffer outcomes (same .read-authentication-key buffer h) (mac-own config outcomes _ buffer);
-  read-register-unchecked = λ address buffer h. carried _ buffer outcomes (same .read-register-unchecked address buffer h) (plain-own config outcomes address buffer false);
   read-mfg-info-c = λ buffer. carried _ buffer outcomes (same .read-mfg-info-c buffer) (info-c-front config outcomes buffer);
   read-mfg-info = λ buffer. carried _ buffer outcomes (same .read-mfg-info buffer) (info-front config outcomes buffer);
   read-charging-voltage-override = λ buffer h. carried _ buffer outcomes (same .read-charging-voltage-override buffer h) (mac-own config outcomes _ buffer);

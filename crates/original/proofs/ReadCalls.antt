@@ -100,10 +100,6 @@ module _ (config : Config) (small : config .«max_bus_retries» ≤ 65535) (w : 
   unfolding machine.readBuffer rust.bufferRead measured if_then_else_
   buffer-read address buffer h = plain-own limit.Free address buffer false refl h
 
-  pub read-register-unchecked : (address : ℕ) (buffer : List ℕ) → length buffer ≤ 18446744073709551615 → reads (machine-r5.readRegisterUnchecked config address (length buffer)) buffer w lent outcomes ≡ rust-r5.readRegisterUnchecked config address buffer begun outcomes
-  unfolding rust-r5.readRegisterUnchecked rust.bufferRead
-  read-register-unchecked address buffer h = buffer-read address buffer h
-
   read-mfg-info-by : (buffer : List ℕ) (t : Bool) → ltb 33 (length buffer) ≡ t → (pec : Bool) → config .«pec_read» ≡ pec → reads (machine-r5.readMfgInfo config (length buffer)) buffer w lent outcomes ≡ rust-r5.readMfgInfo config buffer begun outcomes
   unfolding machine-r5.readMfgInfo machine-r5.wholeAsk reading.plainPlan parts.firstAddress measured admitted answered if_then_else_ rust.readWithRetries rust-r5.readMfgInfo
   read-mfg-info-by buffer true t pec p =

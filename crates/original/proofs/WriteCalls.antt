@@ -144,18 +144,6 @@ module _ (config : Config) (small : config .«max_bus_retries» ≤ 65535) (w : 
   unfolding rust-r5.writeChargingVoltageOverride
   write-charging-voltage-override figures = keyed mac.ChargingVoltageOverride 10 (overrideBytes figures) (override-length figures) (omega arith) ∙ rw (override-bytes figures)
 
-  pub write-register-unchecked : (address : ℕ) (bytes : List ℕ) → rust-r5.uncheckedPanics bytes ≡ false
-      → writes (machine-r5.writeRegisterUnchecked config address) bytes w lent outcomes ≡ rust-r5.writeRegisterUnchecked config address bytes begun outcomes
-  unfolding machine.writeRegister writing.planOf writing.ownBytes isPlain frameCount bytesAt registerBytes frameAt sealed if_then_else_ rust-r5.writeRegisterUnchecked rust.writeWithRetries rust.withPec
-  write-register-unchecked address bytes h =
-      limited (machine-r5.writeRegisterUnchecked config address) bytes w lent steady small roomy refl 32 outcomes refl (λ h. omega arith) false h ∙ rw h
-
-  pub write-register-unchecked-refused : (address : ℕ) (bytes : List ℕ) → rust-r5.uncheckedPanics bytes ≡ true
-      → writes (machine-r5.writeRegisterUnchecked config address) bytes w lent outcomes ≡ Err answer.DataTooLarge begun outcomes
-  unfolding machine.writeRegister writing.planOf frameCount bytesAt registerBytes if_then_else_
-  write-register-unchecked-refused address bytes h =
-      limited (machine-r5.writeRegisterUnchecked config address) bytes w lent steady small roomy refl 32 outcomes refl (λ h. omega arith) true h ∙ rw h
-
   pub write-mfg-info : (bytes : List ℕ) → writes (machine-r5.writeMfgInfo config) bytes w lent outcomes ≡ rust-r5.writeMfgInfo config bytes begun outcomes
   unfolding machine-r5.writeMfgInfo writing.planOf writing.ownBytes isPlain frameCount bytesAt frameAt sealed if_then_else_ rust-r5.writeMfgInfo rust.macWriteWithRetries rust.writeWithRetries rust.withPec
   write-mfg-info bytes = by (ltb 32 (length bytes)) refl

@@ -63,8 +63,6 @@ rustOf kind.WriteAuthenticationKey config payload buffer os = rust-r5.writeAuthe
 rustOf kind.ReadAuthenticationKey config payload buffer os = rust-r5.readAuthenticationKey config buffer begun os
 rustOf kind.WriteChargingVoltageOverride config payload buffer os = rust-r5.writeChargingVoltageOverride config (overrideOf payload) begun os leaving buffer
 rustOf kind.ReadChargingVoltageOverride config payload buffer os = rust-r5.readChargingVoltageOverride config buffer begun os
-rustOf (kind.WriteRegisterUnchecked address) config payload buffer os = rust-r5.writeRegisterUnchecked config address payload begun os leaving buffer
-rustOf (kind.ReadRegisterUnchecked address) config payload buffer os = rust-r5.readRegisterUnchecked config address buffer begun os
 rustOf (kind.SendAccessKey lower upper) config payload buffer os = rust-r5.sendAccessKey config lower upper begun os leaving buffer
 rustOf (kind.UnsealFg lower upper) config payload buffer os = rust-r5.unsealFg config lower upper begun os leaving buffer
 rustOf (kind.WriteMfgInfoC lower upper) config payload buffer os = rust-r5.writeMfgInfoC config lower upper payload begun os leaving buffer
@@ -89,8 +87,6 @@ Defined kind.WriteAuthenticationKey config payload buffer = length payload ≡ 1
 Defined kind.ReadAuthenticationKey config payload buffer = length buffer ≡ 16
 Defined kind.WriteChargingVoltageOverride config payload buffer = (length payload ≡ 10) × ((i : ℕ) → getD payload i 0 < 256)
 Defined kind.ReadChargingVoltageOverride config payload buffer = length buffer ≡ 10
-Defined (kind.WriteRegisterUnchecked address) config payload buffer = rust-r5.uncheckedPanics payload ≡ false
-Defined (kind.ReadRegisterUnchecked address) config payload buffer = length buffer ≤ 18446744073709551615
 Defined (kind.SendAccessKey lower upper) config payload buffer = payload ≡ []
 Defined (kind.UnsealFg lower upper) config payload buffer = payload ≡ []
 Defined (kind.WriteMfgInfoC lower upper) config payload buffer = Unit {0}
@@ -103,7 +99,6 @@ Defined (kind.ReadDataflash address) config payload buffer = Unit {0}
 -- where it panics, or has no call of those lengths: the added refusal
 pub data Added (config : Config) (payload buffer : List ℕ) : Kind → Answer → Type 0 where
   long-frame : rust.writePanics (config .«pec_write») payload ≡ true → Added config payload buffer kind.WriteWithRetries answer.DataTooLarge
-  long-register : (address : ℕ) → rust-r5.uncheckedPanics payload ≡ true → Added config payload buffer (kind.WriteRegisterUnchecked address) answer.DataTooLarge
   input-given : (address : ℕ) → rust.dispatchPanics payload buffer ≡ true → Added config payload buffer (kind.DispatchCommand address) answer.NotACommand
   keys-written : (length payload ≡ 28 → ⊥) → Added config payload buffer kind.WriteSecurityKeys answer.WrongBuffer
   keys-read : (length buffer ≡ 28 → ⊥) → Added config payload buffer kind.ReadSecurityKeys answer.WrongBuffer

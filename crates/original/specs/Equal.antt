@@ -1,6 +1,7 @@
 -- Demand 2: frames, order, waits, answers and buffers equal the Rust's wherever it does not panic. (01, How far each statement must reach)
 -- On the left a call of the step machine, fed; on the right the Rust's function. Both give the transfers made, the waits, Ok or the error or that the call still waits, the outcomes not used, and of a reading call the buffer.
--- Where the Rust panics, the added refusal stands, with no transfer. Assumes nothing.
+-- Where the Rust panics, the added refusal stands, with no transfer. read_register_unchecked and write_register_unchecked were retired (02, W-210) and are not among
+-- the calls. Assumes nothing.
 use Prim.Native.Nat.{ℕ, _≤_}
 use mathlib.Core.Path.{_≡_}
 use mathlib.Core.Bool.{true, false}
@@ -48,12 +49,6 @@ pub record Equal (config : Config) (w : ℕ) (lent : ℕ → Lending) (outcomes 
       → reads (machine-r5.readAuthenticationKey config) buffer w lent outcomes ≡ rust-r5.readAuthenticationKey config buffer begun outcomes
   pub write-authentication-key : (key : List ℕ) → length key ≡ 16
       → writes (machine-r5.writeAuthenticationKey config) key w lent outcomes ≡ rust-r5.writeAuthenticationKey config key begun outcomes
-  pub read-register-unchecked : (address : ℕ) (buffer : List ℕ) → length buffer ≤ 18446744073709551615
-      → reads (machine-r5.readRegisterUnchecked config address (length buffer)) buffer w lent outcomes ≡ rust-r5.readRegisterUnchecked config address buffer begun outcomes
-  pub write-register-unchecked : (address : ℕ) (bytes : List ℕ) → rust-r5.uncheckedPanics bytes ≡ false
-      → writes (machine-r5.writeRegisterUnchecked config address) bytes w lent outcomes ≡ rust-r5.writeRegisterUnchecked config address bytes begun outcomes
-  pub write-register-unchecked-refused : (address : ℕ) (bytes : List ℕ) → rust-r5.uncheckedPanics bytes ≡ true
-      → writes (machine-r5.writeRegisterUnchecked config address) bytes w lent outcomes ≡ Err answer.DataTooLarge begun outcomes
   pub unseal-fg : (lower upper : ℕ)
       → writes (machine-r5.unsealFg config lower upper) [] w lent outcomes ≡ rust-r5.unsealFg config lower upper begun outcomes
   pub send-access-key : (lower upper : ℕ)

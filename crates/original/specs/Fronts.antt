@@ -85,8 +85,6 @@ pub record Fronts (config : Config) (w : ℕ) (lent : ℕ → Lending) (outcomes
       → Front (mac (config .«pec_read»)) buffer outcomes (reads (machine-r5.readSecurityKeys config) buffer w lent outcomes)
   pub read-authentication-key : (buffer : List ℕ) → length buffer ≡ 16
       → Front (mac (config .«pec_read»)) buffer outcomes (reads (machine-r5.readAuthenticationKey config) buffer w lent outcomes)
-  pub read-register-unchecked : (address : ℕ) (buffer : List ℕ) → length buffer ≤ 18446744073709551615
-      → Front (plain false address) buffer outcomes (reads (machine-r5.readRegisterUnchecked config address (length buffer)) buffer w lent outcomes)
   pub read-mfg-info-c : (buffer : List ℕ)
       → Front (mac (config .«pec_read»)) buffer outcomes (reads (machine-r5.readMfgInfoC config (length buffer)) buffer w lent outcomes)
   pub read-mfg-info : (buffer : List ℕ)

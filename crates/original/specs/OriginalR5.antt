@@ -1,7 +1,7 @@
--- versions/r5.rs, call by call as it stands there.
+-- The calls of versions/r5.rs as they stand there; read_register_unchecked and write_register_unchecked, which were retired (02, W-210), are left out here.
 -- Assumes nothing.
 use Prim.Native.Nat.{ℕ, _+_, _-_, _*_}
-use mathlib.Core.Bool.{Bool, true, false}
+use mathlib.Core.Bool.{true, false}
 use mathlib.Core.List.{List, [], _∷_, _++_}
 use lib.ListN.{length, getD, replicate}
 use lib.IntN.{ℤ, pos, negsuc}
@@ -11,7 +11,7 @@ use Rattle.protocol.specs.declared.common.Config.{Config}
 use Rattle.protocol.specs.declared.error.Answer.the-variants as answer
 use Rattle.r5.specs.declared.voltage.ChargingVoltageOverride.{ChargingVoltageOverride}
 use Rattle.original.specs.Bus.{BusOutcome, Log, Came, Err, Read, _leaving_, andThen, copied}
-use Rattle.original.specs.OriginalInterface.{toLeBytes, writeWithRetries, macWriteWithRetries, macWriteToDfWithRetries, readWithRetries, macReadWithRetries, macReadFromDfWithRetries, macReadFromDfWithRetriesPec}
+use Rattle.original.specs.OriginalInterface.{toLeBytes, macWriteWithRetries, macWriteToDfWithRetries, readWithRetries, macReadWithRetries, macReadFromDfWithRetries, macReadFromDfWithRetriesPec}
 
 -- read_security_keys, of 28 bytes
 unfoldable pub readSecurityKeys : Config → List ℕ → Log → List BusOutcome → Read
@@ -28,18 +28,6 @@ readAuthenticationKey config buffer log outcomes = macReadWithRetries config (0x
 -- write_authentication_key, of 16 bytes
 unfoldable pub writeAuthenticationKey : Config → List ℕ → Log → List BusOutcome → Came
 writeAuthenticationKey config key log outcomes = macWriteWithRetries config (0x44 ∷ (16 + 2) ∷ 0x37 ∷ 0x00 ∷ key) log outcomes
-
--- read_register_unchecked
-unfoldable pub readRegisterUnchecked : Config → ℕ → List ℕ → Log → List BusOutcome → Read
-readRegisterUnchecked config address buffer log outcomes = readWithRetries config address buffer false log outcomes
-
--- write_register_unchecked
-unfoldable pub writeRegisterUnchecked : Config → ℕ → List ℕ → Log → List BusOutcome → Came
-writeRegisterUnchecked config address bytes log outcomes = writeWithRetries config (address ∷ bytes) false log outcomes
-
--- it panics over 32 bytes
-abbrev pub uncheckedPanics : List ℕ → Bool
-uncheckedPanics bytes = ltb 32 (length bytes)
 
 -- send_access_key
 unfoldable pub sendAccessKey : Config → ℕ → ℕ → Log → List BusOutcome → Came

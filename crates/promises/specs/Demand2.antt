@@ -1,4 +1,5 @@
--- Demand 2: frames, order, waits, answers and buffers equal the Rust's wherever it does not panic.
+-- Demand 2: frames, order, waits, answers and buffers equal the Rust's wherever it does not panic. It no longer covers read_register_unchecked and
+-- write_register_unchecked, which were retired (02, W-210).
 -- `Equal` (crate `original`) has a line for each call: the machine, fed any list of bus outcomes, is the Rust's function written down in the Rust's own order,
 -- whatever lies in the work buffer that each step lends and whatever lies in the reply beside a failure.
 -- Assumes nothing.

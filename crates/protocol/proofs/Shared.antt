@@ -79,5 +79,4 @@ laws = record {
   wrong-length = wrong-length;
   wrong-pec = wrong-pec;
   good = good;
-  no-pec = λ config. refl;
 }

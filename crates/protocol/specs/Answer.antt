@@ -1,4 +1,4 @@
--- The number and the detail of each answer. (01, the table of answers)
+-- The number and the detail of each answer. (01, the table of answers; 02, W-210)
 -- Assumes nothing.
 use Prim.Native.Nat.{ℕ}
 use Rattle.protocol.specs.declared.error.Answer.{Answer}
@@ -18,6 +18,7 @@ numberOf answer.WrongBuffer = 8
 numberOf answer.WrongReply = 9
 numberOf answer.NothingOutstanding = 10
 numberOf answer.BadLine = 11
+numberOf answer.RetiredKind = 15
 
 -- the bus error's code, the bytes committed, else 0
 abbrev pub detailOf : Answer → ℕ
@@ -33,3 +34,4 @@ detailOf answer.WrongBuffer = 0
 detailOf answer.WrongReply = 0
 detailOf answer.NothingOutstanding = 0
 detailOf answer.BadLine = 0
+detailOf answer.RetiredKind = 0

@@ -6,7 +6,3 @@ use Rattle.protocol.specs.declared.common.Config.{Config}
 -- what a driver starts with (Config::new)
 abbrev pub defaultConfig : Config
 defaultConfig = record { «max_bus_retries» = 3; «pec_write» = false; «pec_read» = false }
-
--- the same retries with no PEC
-abbrev pub noPec : Config → Config
-noPec config = record { «max_bus_retries» = config .«max_bus_retries»; «pec_write» = false; «pec_read» = false }

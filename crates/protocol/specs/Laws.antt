@@ -1,5 +1,5 @@
 -- What the parts that all calls share come to, in plain lists and numbers: the window, the block copier, how many blocks there are, the part to send, the one
--- builder, the fixed pairs, when a reply is believed, settings without PEC. (01, The step machine; Frames and retries)
+-- builder, the fixed pairs, when a reply is believed. (01, The step machine; Frames and retries)
 -- Assumes nothing.
 use Prim.Native.Nat.{ℕ, _+_, _*_, _≤_, _<_, min}
 use mathlib.Core.Path.{_≡_}
@@ -8,11 +8,9 @@ use mathlib.Core.List.{List, [], _∷_, _++_}
 use lib.ListN.{length, take, drop}
 use Rattle.smbus_pec.specs.Pec.{pecOf}
 use Rattle.protocol.specs.Bytes.{blockIn, storedAt, blocksOf, sendOf}
-use Rattle.protocol.specs.Common.{noPec}
 use Rattle.protocol.specs.Frame.{sealed, fixedPair, laidOf, workLaid}
 use Rattle.protocol.specs.Reply.{bytesAsked, checkedOf, heardOf}
 use Rattle.protocol.specs.Window.{windowFirst, windowLast, windowSize, windowEnd, inWindow, inWindowByLast}
-use Rattle.protocol.specs.declared.common.Config.{Config}
 use Rattle.protocol.specs.declared.frame.Laid.the-variants.{Frame, NoRoom}
 use Rattle.protocol.specs.declared.frame.MacCommand.the-variants.{SecurityKeys, AuthenticationKey, ChargingVoltageOverride, MfgInfoC}
 use Rattle.protocol.specs.declared.reply.Ask.{Ask}
@@ -46,5 +44,3 @@ pub record Laws : Type 0 where
   pub wrong-length : (ask : Ask) (reply : List ℕ) → (bytesAsked ask ≡ length reply → ⊥) → heardOf ask reply ≡ WrongLength
   pub wrong-pec : (ask : Ask) (reply : List ℕ) → bytesAsked ask ≡ length reply → ask .pec ≡ true → checkedOf (ask .covered) reply ≡ false → heardOf ask reply ≡ WrongPec
   pub good : (ask : Ask) (reply : List ℕ) → bytesAsked ask ≡ length reply → (ask .pec ≡ true → checkedOf (ask .covered) reply ≡ true) → heardOf ask reply ≡ Good
-  -- the same retries with no PEC
-  pub no-pec : (config : Config) → noPec config ≡ record { «max_bus_retries» = config .«max_bus_retries»; «pec_write» = false; «pec_read» = false }

@@ -1,7 +1,7 @@
 // The settings of a call. (common.rs)
 use crate::consts::DEFAULT_BUS_RETRIES;
 ghost use mathlib.Core.Path.{_≡_};
-ghost use Rattle.protocol.specs.Common.{defaultConfig, noPec};
+ghost use Rattle.protocol.specs.Common.{defaultConfig};
 
 // What the driver is set to: the retries after a failed attempt, and whether what it writes and what it reads carries a PEC.
 pub struct Config {
@@ -17,17 +17,6 @@ impl Config {
     {
         Config {
             max_bus_retries: DEFAULT_BUS_RETRIES,
-            pec_write: false,
-            pec_read: false,
-        }
-    }
-
-    // The same retries with no PEC at all.
-    pub fn no_pec(self) -> Config
-        ensures { λ r. ⌜ r ≡ noPec self ⌝ }
-    {
-        Config {
-            max_bus_retries: self.max_bus_retries,
             pec_write: false,
             pec_read: false,
         }

@@ -1,8 +1,8 @@
-// What a call answers. (error.rs; document 01, the table of answers)
+// What a call, or the bench program, answers. (error.rs; document 01, the table of answers; document 02, W-210)
 ghost use mathlib.Core.Path.{_≡_};
 ghost use Rattle.protocol.specs.Answer.{numberOf, detailOf};
 
-// How a call ended, or why it was refused: a variant for each row of the table, under the Rust's name where it has one.
+// How a call ended, or why it or a line was refused: a variant for each row of the table, under the Rust's name where it has one.
 pub enum Answer {
     // The call ended well.
     Done,
@@ -28,6 +28,8 @@ pub enum Answer {
     NothingOutstanding,
     // A line of the bench program, or a course, is malformed.
     BadLine,
+    // The request line is of a kind that was retired.
+    RetiredKind,
 }
 
 impl Answer {
@@ -48,6 +50,7 @@ impl Answer {
             Answer::WrongReply => 9,
             Answer::NothingOutstanding => 10,
             Answer::BadLine => 11,
+            Answer::RetiredKind => 15,
         }
     }
 
@@ -68,6 +71,7 @@ impl Answer {
             Answer::WrongReply => 0,
             Answer::NothingOutstanding => 0,
             Answer::BadLine => 0,
+            Answer::RetiredKind => 0,
         }
     }
 }

@@ -1,9 +1,8 @@
--- Each call of versions/r5.rs as a plan: its retries, its limit, its PEC, its frames. (01, The step machine, length limits; Frames and retries)
+-- The calls of versions/r5.rs that are carried over, each as a plan: its retries, its limit, its PEC, its frames. (01, The step machine, length limits; Frames and retries)
 -- Assumes nothing.
 use Prim.Native.Nat.{ℕ}
 use mathlib.Core.Bool.{Bool}
 use Rattle.protocol.specs.Pick.{if_then_else_}
-use Rattle.protocol.specs.Common.{noPec}
 use Rattle.protocol.specs.Reply.{plainAsk}
 use Rattle.protocol.specs.declared.common.Config.{Config}
 use Rattle.protocol.specs.declared.frame.MacCommand.{MacCommand}
@@ -16,7 +15,6 @@ use Rattle.reading.specs.Reading as reading
 use Rattle.reading.specs.declared.parts.Head.the-variants as head
 use Rattle.reading.specs.declared.parts.Reads.the-variants as reads
 use Rattle.reading.specs.declared.call.ReadPlan.{ReadPlan}
-use Rattle.interface.specs.Plans.{readBuffer, writeRegister}
 
 -- exactly so many bytes, behind a fixed pair
 unfoldable pub macRead : Config → MacCommand → ℕ → ReadPlan
@@ -43,14 +41,6 @@ readChargingVoltageOverride config = macRead config mac.ChargingVoltageOverride 
 
 abbrev pub writeChargingVoltageOverride : Config → WritePlan
 writeChargingVoltageOverride config = macWrite config mac.ChargingVoltageOverride 10
-
--- any length, never with PEC: a buffer read
-abbrev pub readRegisterUnchecked : Config → ℕ → ℕ → ReadPlan
-readRegisterUnchecked config address n = readBuffer config address n
-
--- at most 32 bytes, never with PEC: a register write without it
-abbrev pub writeRegisterUnchecked : Config → ℕ → WritePlan
-writeRegisterUnchecked config address = writeRegister (noPec config) address
 
 -- both halves of an access key, and no payload
 unfoldable pub sendAccessKey : Config → ℕ → ℕ → WritePlan

@@ -1,5 +1,5 @@
-// The calls of versions/r5.rs by name, each a plan that one of the two engines carries out: keys, access key, manufacturer info, charging voltage
-// override, data flash.
+// The calls of versions/r5.rs that are carried over, by name, each a plan that one of the two engines carries out: keys, access key, manufacturer info,
+// charging voltage override, data flash.
 pub mod voltage;
 
 use engine::limit::Limit;
@@ -18,7 +18,7 @@ use reading::parts::Reads;
 use writing::call::WritePlan;
 use writing::frames::Frames;
 ghost use mathlib.Core.Path.{_≡_};
-ghost use Rattle.r5.specs.Plans.{macRead, macWrite, readSecurityKeys, writeSecurityKeys, readAuthenticationKey, writeAuthenticationKey, readChargingVoltageOverride, writeChargingVoltageOverride, readRegisterUnchecked, writeRegisterUnchecked, wholeAsk, sendAccessKey, unsealFg, writeMfgInfoC, readMfgInfoC, writeMfgInfo, readMfgInfo, readDataflash, writeDataflash};
+ghost use Rattle.r5.specs.Plans.{macRead, macWrite, readSecurityKeys, writeSecurityKeys, readAuthenticationKey, writeAuthenticationKey, readChargingVoltageOverride, writeChargingVoltageOverride, wholeAsk, sendAccessKey, unsealFg, writeMfgInfoC, readMfgInfoC, writeMfgInfo, readMfgInfo, readDataflash, writeDataflash};
 
 // A MAC read of exactly `size` bytes.
 fn mac_read(config: Config, command: MacCommand, size: usize) -> ReadPlan
@@ -98,20 +98,6 @@ pub fn write_charging_voltage_override(config: Config) -> WritePlan
         MacCommand::ChargingVoltageOverride,
         CHRG_VOLTAGE_OVERRIDE_SIZE_BYTES,
     )
-}
-
-// Reads a register of any length, here n, by its address, never with a PEC: the same as `read_buffer`.
-pub fn read_register_unchecked(config: Config, address: u8, n: usize) -> ReadPlan
-    ensures { λ r. ⌜ r ≡ readRegisterUnchecked config address n ⌝ }
-{
-    interface::read_buffer(config, address, n)
-}
-
-// Writes a register of at most 32 bytes by its address, never with a PEC: otherwise the same as `write_register`.
-pub fn write_register_unchecked(config: Config, address: u8) -> WritePlan
-    ensures { λ r. ⌜ r ≡ writeRegisterUnchecked config address ⌝ }
-{
-    interface::write_register(config.no_pec(), address)
 }
 
 // Sends an access key: its lower half, then its upper one. There is no payload.

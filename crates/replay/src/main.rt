@@ -3,6 +3,7 @@
 // what must come out, so that a case may have any number of lines.
 mod reader;
 
+use crate::reader::HELD_BYTES;
 use crate::reader::Reader;
 use dialogue::Run;
 use dialogue::Said;
@@ -45,9 +46,9 @@ struct Replay {
     on: bool,
 }
 
-// How many bytes of a line lack their line feed, where a case has no more lines.
-fn left(input: Reader, text: &[u8]) -> usize {
-    if input.tag == b'U' { text.len() } else { 0 }
+// The bytes of a line that lacks its line feed, where a case has no more lines.
+fn unfinished(input: Reader, text: &[u8]) -> &[u8] {
+    if input.tag == b'U' { text } else { &text[..0] }
 }
 
 // What a line of a case leads to: an input line, one that lacks its line feed, or the end of the case.
@@ -64,7 +65,7 @@ fn turned(
     if input.tag == b'I' {
         dialogue::answer(run, text, request, outcome, buffer, out)
     } else {
-        let n = dialogue::close(run, left(input, text), buffer, out);
+        let n = dialogue::close(run, unfinished(input, text), buffer, out);
         Turned {
             run,
             said: Said::Last(n),
@@ -148,9 +149,9 @@ fn run_case(
     input: Reader,
     expected: Reader,
     put_chunk: &mut [u8; 65536],
-    put: &mut [u8; 65536],
+    put: &mut [u8; HELD_BYTES],
     wanted_chunk: &mut [u8; 65536],
-    wanted: &mut [u8; 65536],
+    wanted: &mut [u8; HELD_BYTES],
     request: &mut [u8; REQUEST_BYTES],
     outcome: &mut [u8; OUTCOME_BYTES],
     buffer: &mut [u8; BUFFER_BYTES],
@@ -178,7 +179,7 @@ fn run_case(
 }
 
 // A case that was run, and nothing more was to come out.
-fn ended(ran: Ran, wanted_chunk: &mut [u8; 65536], wanted: &mut [u8; 65536]) -> Ran {
+fn ended(ran: Ran, wanted_chunk: &mut [u8; 65536], wanted: &mut [u8; HELD_BYTES]) -> Ran {
     if ran.same {
         let input = ran.input;
         let expected = reader::seek(ran.expected, b'O', wanted_chunk, wanted);
@@ -228,9 +229,9 @@ fn counted(score: Score, same: bool, words: usize) -> Score {
 fn next_case(
     here: Replay,
     put_chunk: &mut [u8; 65536],
-    put: &mut [u8; 65536],
+    put: &mut [u8; HELD_BYTES],
     wanted_chunk: &mut [u8; 65536],
-    wanted: &mut [u8; 65536],
+    wanted: &mut [u8; HELD_BYTES],
     request: &mut [u8; REQUEST_BYTES],
     outcome: &mut [u8; OUTCOME_BYTES],
     buffer: &mut [u8; BUFFER_BYTES],
@@ -305,9 +306,9 @@ fn told(first: i32, second: i32, score: Score, words: &[u8; 4096]) -> bool {
 // Replays the list that two descriptors are open on; whether it could be read. If not, `errno` says why, and nothing is printed.
 fn run_list(first: i32, second: i32) -> bool {
     let mut put_chunk = io::large_buffer();
-    let mut put = io::large_buffer();
+    let mut put = [0u8; HELD_BYTES];
     let mut wanted_chunk = io::large_buffer();
-    let mut wanted = io::large_buffer();
+    let mut wanted = [0u8; HELD_BYTES];
     let mut request = [0u8; REQUEST_BYTES];
     let mut outcome = [0u8; OUTCOME_BYTES];
     let mut buffer = [0u8; BUFFER_BYTES];

@@ -10,6 +10,12 @@ pub const END: u8 = 1;
 
 pub const EMPTY: u8 = 2;
 
+// How many bytes stay of a line that has no room: its tag, a space and an odd number of characters, so that it is bad but for what it begins with.
+const KEPT: usize = 5;
+
+// A line is held in so many bytes: a whole chunk has room after what stays.
+pub const HELD_BYTES: usize = 65536 + KEPT;
+
 // The descriptor of a reader once a read has failed.
 pub const FAILED: i32 = -1;
 
@@ -19,7 +25,7 @@ pub struct Reader {
     pub at: usize,
     pub end: usize,
     pub have: usize,
-    // The first byte of a line that has no room, whose rest is passed over; 0 where there is none.
+    // The first byte of a line that has no room, of which the front is kept and the rest passed over; 0 where there is none.
     pub long: u8,
     pub len: usize,
     pub tag: u8,
@@ -56,10 +62,10 @@ fn line(r: Reader, next: usize, len: usize, tag: u8) -> Reader {
     }
 }
 
-// A line is whole. One that had no room counts as one digit behind its tag, which is as bad.
+// A line is whole. One that had no room counts as its front, which is as bad, or as much of a retired kind.
 fn whole(r: Reader, next: usize, len: usize, first: u8) -> Reader {
     if 0 < r.long {
-        line(r, next, 3, r.long)
+        line(r, next, KEPT, r.long)
     } else if len == 0 {
         line(r, next, 0, EMPTY)
     } else if first < 3 {
@@ -69,21 +75,21 @@ fn whole(r: Reader, next: usize, len: usize, first: u8) -> Reader {
     }
 }
 
-// A line has no room: its first byte is kept, and what is held is forgotten.
+// A line has no room: its front is kept, and what else is held is forgotten.
 fn forget(r: Reader, first: u8) -> Reader {
     if 0 < r.long {
-        part(r.fd, r.at, r.end, 0, r.long)
+        part(r.fd, r.at, r.end, KEPT, r.long)
     } else if first < 3 {
-        part(r.fd, r.at, r.end, 0, b'?')
+        part(r.fd, r.at, r.end, KEPT, b'?')
     } else {
-        part(r.fd, r.at, r.end, 0, first)
+        part(r.fd, r.at, r.end, KEPT, first)
     }
 }
 
 // The chunk is used up, with so many bytes of a line held.
 fn more(r: Reader, have: usize) -> Reader {
     if 0 < r.long {
-        part(r.fd, r.end, r.end, 0, r.long)
+        part(r.fd, r.end, r.end, KEPT, r.long)
     } else {
         part(r.fd, r.end, r.end, have, 0)
     }
@@ -135,7 +141,7 @@ fn refill(r: Reader, chunk: &mut [u8], held: &[u8]) -> Reader {
 }
 
 // One turn: a line of the chunk, or a new chunk.
-fn turn(r: Reader, chunk: &mut [u8; 65536], held: &mut [u8; 65536]) -> Reader {
+fn turn(r: Reader, chunk: &mut [u8; 65536], held: &mut [u8; HELD_BYTES]) -> Reader {
     if r.at < r.end {
         let end = r.end;
         take(r, bytes::front(chunk, end), held)
@@ -145,7 +151,7 @@ fn turn(r: Reader, chunk: &mut [u8; 65536], held: &mut [u8; 65536]) -> Reader {
 }
 
 // The next line.
-fn next(r: Reader, chunk: &mut [u8; 65536], held: &mut [u8; 65536]) -> Reader {
+fn next(r: Reader, chunk: &mut [u8; 65536], held: &mut [u8; HELD_BYTES]) -> Reader {
     let mut now = part(r.fd, r.at, r.end, 0, 0);
     let mut turns = u64::MAX;
     while turns > 0 && now.tag == PART {
@@ -175,7 +181,7 @@ pub(crate) fn seek(
     r: Reader,
     wanted: u8,
     chunk: &mut [u8; 65536],
-    held: &mut [u8; 65536],
+    held: &mut [u8; HELD_BYTES],
 ) -> Reader {
     let mut now = next(r, chunk, held);
     let mut turns = u64::MAX;

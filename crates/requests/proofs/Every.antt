@@ -39,8 +39,6 @@ module _ (P : Request → Type 0) (none : P bad) where
       (either _ _ _ (exact _ _ _ _ _ _ (call _ _ _ (omega arith)))
       (either _ _ _ (call _ _ _ (omega arith))
       (either _ _ _ (exact _ _ _ _ _ _ (call _ _ _ (omega arith)))
-      (either _ _ _ (call _ _ _ (omega arith))
-      (either _ _ _ (exact _ _ _ _ _ _ (call _ _ _ (omega arith)))
       (either _ _ _ (exact _ _ _ _ _ _ (call _ _ _ (omega arith)))
       (either _ _ _ (call _ _ _ (omega arith))
       (either _ _ _ (exact _ _ _ _ _ _ (call _ _ _ (omega arith)))
@@ -48,7 +46,7 @@ module _ (P : Request → Type 0) (none : P bad) where
       (either _ _ _ (exact _ _ _ _ _ _ (call _ _ _ (omega arith)))
       (either _ _ _ (exact _ _ _ _ _ _ (call _ _ _ (omega arith)))
       (either _ _ _ (call _ _ _ (omega arith))
-      none))))))))))))))))))))
+      none))))))))))))))))))
 
   pub every-request : (line : List ℕ) → ((k : Kind) (at size : ℕ) → at ≤ 6 → P (calledOf k (configOf line) at size (length (drop 4 line)))) → P (requestLine line)
   unfolding requestLine

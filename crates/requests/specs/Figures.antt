@@ -11,6 +11,7 @@ use Rattle.engine.specs.declared.bus.Outcome.the-variants as outcome
 use Rattle.calls.specs.declared.kind.Kind.the-variants as kind
 use Rattle.requests.specs.Fields.{pairAt, quadAt}
 use Rattle.requests.specs.Request.{configOf, bad, calledOf, exactOf, askedOf, requestLine}
+use Rattle.requests.specs.Retired.{retiredKind}
 use Rattle.requests.specs.Outcome.{acknowledgedLine, errorLine, timeoutLine, outcomeLine}
 use Rattle.requests.specs.declared.outcome.Told.{Told}
 use Rattle.requests.specs.declared.outcome.Told.the-variants as told
@@ -22,6 +23,8 @@ pub data Figure : Type 0 where
   asks : List ℕ → Request → Figure
   -- an outcome line's bytes, and what it says
   says : List ℕ → Told → Figure
+  -- a request line in ASCII, and whether its kind is retired
+  begins : List ℕ → Bool → Figure
 
 -- retries, the PEC of writes and that of reads
 abbrev settings : ℕ → Bool → Bool → Config
@@ -48,8 +51,6 @@ figures =
     ∷ asks (line 0x09 (0xAA ∷ [])) (request.Call kind.WriteSecurityKeys plain 4 0)
     ∷ asks (line 0x0A []) (request.Call kind.ReadAuthenticationKey plain 4 16)
     ∷ asks (line 0x0B (0xAA ∷ [])) (request.Call kind.WriteAuthenticationKey plain 4 0)
-    ∷ asks (line 0x0C (0x12 ∷ 0x02 ∷ 0x01 ∷ [])) (request.Call (kind.ReadRegisterUnchecked 0x12) plain 7 0x0102)
-    ∷ asks (line 0x0D (0x12 ∷ 0xAA ∷ [])) (request.Call (kind.WriteRegisterUnchecked 0x12) plain 5 0)
     ∷ asks (line 0x0E (0x34 ∷ 0x12 ∷ 0x78 ∷ 0x56 ∷ [])) (request.Call (kind.SendAccessKey 0x1234 0x5678) plain 8 0)
     ∷ asks (line 0x0F (0x02 ∷ 0x01 ∷ [])) (request.Call kind.ReadMfgInfoC plain 6 0x0102)
     ∷ asks (line 0x10 (0x34 ∷ 0x12 ∷ 0x78 ∷ 0x56 ∷ 0xAA ∷ [])) (request.Call (kind.WriteMfgInfoC 0x1234 0x5678) plain 8 0)
@@ -58,8 +59,10 @@ figures =
     ∷ asks (line 0x13 []) (request.Call kind.ReadChargingVoltageOverride plain 4 10)
     ∷ asks (line 0x14 (replicate 10 0xAA)) (request.Call kind.WriteChargingVoltageOverride plain 4 0)
     ∷ asks (line 0x15 (0xAA ∷ [])) (request.Call kind.WriteWithRetries plain 4 0)
-    -- no such kind, a third flag, a header cut short
+    -- no such kind (the bytes of a retired one do not come here: its line is refused as characters, below); a third flag, a header cut short
     ∷ asks (line 0x00 []) bad
+    ∷ asks (line 0x0C (0x12 ∷ 0x02 ∷ 0x01 ∷ [])) bad
+    ∷ asks (line 0x0D (0x12 ∷ 0xAA ∷ [])) bad
     ∷ asks (line 0x16 []) bad
     ∷ asks (0x08 ∷ 0x03 ∷ 0x00 ∷ 0x00 ∷ []) (request.Call kind.ReadSecurityKeys (settings 0 true true) 4 28)
     ∷ asks (0x08 ∷ 0x04 ∷ 0x00 ∷ 0x00 ∷ []) bad
@@ -76,7 +79,6 @@ figures =
     ∷ asks (line 0x04 (0x12 ∷ 0x02 ∷ 0x01 ∷ 0x00 ∷ [])) bad
     ∷ asks (line 0x05 (0x78 ∷ 0x56 ∷ 0x34 ∷ 0x12 ∷ 0x02 ∷ [])) bad
     ∷ asks (line 0x06 (0x12 ∷ 0x02 ∷ [])) bad
-    ∷ asks (line 0x0C (0x12 ∷ 0x02 ∷ 0x01 ∷ 0x00 ∷ [])) bad
     ∷ asks (line 0x0E (0x34 ∷ 0x12 ∷ 0x78 ∷ [])) bad
     ∷ asks (line 0x0E (0x34 ∷ 0x12 ∷ 0x78 ∷ 0x56 ∷ 0x00 ∷ [])) bad
     ∷ asks (line 0x0F (0x02 ∷ [])) bad
@@ -111,6 +113,18 @@ figures =
     ∷ asks (0x08 ∷ 0x02 ∷ 0xFF ∷ 0xFF ∷ []) (request.Call kind.ReadSecurityKeys (settings 65535 false true) 4 28)
     ∷ asks (0x08 ∷ 0x03 ∷ 0x00 ∷ 0x00 ∷ []) (request.Call kind.ReadSecurityKeys (settings 0 true true) 4 28)
     ∷ asks (0x08 ∷ 0x00 ∷ 0x00 ∷ 0x00 ∷ []) (request.Call kind.ReadSecurityKeys (settings 0 false false) 4 28)
+    -- retired by the first two characters, 0C or 0D, whatever follows; 0c, 0B, 0E, 1C and C0 are others, and one character is too few
+    ∷ begins (0x30 ∷ 0x43 ∷ []) true
+    ∷ begins (0x30 ∷ 0x44 ∷ []) true
+    ∷ begins (0x30 ∷ 0x43 ∷ 0x5A ∷ []) true
+    ∷ begins (0x30 ∷ 0x44 ∷ replicate 20000 0x30) true
+    ∷ begins (0x30 ∷ 0x63 ∷ []) false
+    ∷ begins (0x30 ∷ 0x42 ∷ []) false
+    ∷ begins (0x30 ∷ 0x45 ∷ []) false
+    ∷ begins (0x31 ∷ 0x43 ∷ []) false
+    ∷ begins (0x43 ∷ 0x30 ∷ []) false
+    ∷ begins (0x30 ∷ []) false
+    ∷ begins [] false
     ∷ []
 
 -- the definitions give each figure
@@ -118,7 +132,8 @@ abbrev pub Hold : List Figure → Type 0
 Hold [] = Unit {0}
 Hold (asks s r ∷ more) = (requestLine s ≡ r) × Hold more
 Hold (says s t ∷ more) = (outcomeLine s ≡ t) × Hold more
+Hold (begins s t ∷ more) = (retiredKind s ≡ t) × Hold more
 
 pub figures-hold : Hold figures
-unfolding pairAt quadAt configOf calledOf exactOf askedOf requestLine acknowledgedLine errorLine timeoutLine outcomeLine if_then_else_
-figures-hold = (refl, (refl, (refl, (refl, (refl, (refl, (refl, (refl, (refl, (refl, (refl, (refl, (refl, (refl, (refl, (refl, (refl, (refl, (refl, (refl, (refl, (refl, (refl, (refl, (refl, (refl, (refl, (refl, (refl, (refl, (refl, (refl, (refl, (refl, (refl, (refl, (refl, (refl, (refl, (refl, (refl, (refl, (refl, (refl, (refl, (refl, (refl, (refl, (refl, (refl, (refl, (refl, (refl, (refl, (refl, (refl, (refl, (refl, (refl, (refl, (refl, (refl, (refl, (refl, (refl, (refl, (refl, (refl, (refl, tt)))))))))))))))))))))))))))))))))))))))))))))))))))))))))))))))))))))
+unfolding pairAt quadAt configOf calledOf exactOf askedOf requestLine retiredKind acknowledgedLine errorLine timeoutLine outcomeLine if_then_else_
+figures-hold = (refl, (refl, (refl, (refl, (refl, (refl, (refl, (refl, (refl, (refl, (refl, (refl, (refl, (refl, (refl, (refl, (refl, (refl, (refl, (refl, (refl, (refl, (refl, (refl, (refl, (refl, (refl, (refl, (refl, (refl, (refl, (refl, (refl, (refl, (refl, (refl, (refl, (refl, (refl, (refl, (refl, (refl, (refl, (refl, (refl, (refl, (refl, (refl, (refl, (refl, (refl, (refl, (refl, (refl, (refl, (refl, (refl, (refl, (refl, (refl, (refl, (refl, (refl, (refl, (refl, (refl, (refl, (refl, (refl, (refl, (refl, (refl, (refl, (refl, (refl, (refl, (refl, (refl, (refl, tt)))))))))))))))))))))))))))))))))))))))))))))))))))))))))))))))))))))))))))))))

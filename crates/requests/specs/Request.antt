@@ -33,7 +33,8 @@ calledOf k c at size n = if ltb 8192 size then bad else if ltb n at then bad els
 unfoldable pub exactOf : Kind → Config → ℕ → ℕ → ℕ → ℕ → Request
 exactOf k c at payload size n = if eqb n (at + payload) then calledOf k c at size n else bad
 
--- the kinds by their numbers: the arguments before the payload, the payload where its length is fixed, and the buffer
+-- the kinds by their numbers: the arguments before the payload, the payload where its length is fixed, and the buffer. 0C and 0D are retired and never given
+-- out again
 unfoldable pub askedOf : ℕ → Config → List ℕ → Request
 askedOf k c args =
     if eqb k 0x01 then calledOf (kind.WriteDataflash (pairAt 0 args)) c 2 0 (length args) else
@@ -47,8 +48,6 @@ askedOf k c args =
     if eqb k 0x09 then calledOf kind.WriteSecurityKeys c 0 0 (length args) else
     if eqb k 0x0A then exactOf kind.ReadAuthenticationKey c 0 0 16 (length args) else
     if eqb k 0x0B then calledOf kind.WriteAuthenticationKey c 0 0 (length args) else
-    if eqb k 0x0C then exactOf (kind.ReadRegisterUnchecked (getD args 0 0)) c 3 0 (pairAt 1 args) (length args) else
-    if eqb k 0x0D then calledOf (kind.WriteRegisterUnchecked (getD args 0 0)) c 1 0 (length args) else
     if eqb k 0x0E then exactOf (kind.SendAccessKey (pairAt 0 args) (pairAt 2 args)) c 4 0 0 (length args) else
     if eqb k 0x0F then exactOf kind.ReadMfgInfoC c 2 0 (pairAt 0 args) (length args) else
     if eqb k 0x10 then calledOf (kind.WriteMfgInfoC (pairAt 0 args) (pairAt 2 args)) c 4 0 (length args) else

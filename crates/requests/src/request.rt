@@ -13,6 +13,7 @@ ghost use mathlib.Core.Path.{_≡_};
 ghost use Prim.Native.Nat.{_<_};
 ghost use lib.ListN.{length};
 ghost use Rattle.requests.specs.Request.{configOf, calledOf, exactOf, askedOf, requestLine};
+ghost use Rattle.requests.specs.Retired.{retiredKind};
 
 // A payload, an input, a buffer and a reply have at most so many bytes.
 pub const MOST_BYTES: usize = 8192;
@@ -129,21 +130,7 @@ fn asked(kind: u8, config: Config, args: &[u8]) -> Request
             args,
         ),
         0x0B => call(Kind::WriteAuthenticationKey, config, 0, 0, args),
-        0x0C => exact(
-            Kind::ReadRegisterUnchecked(byte(args, 0)),
-            config,
-            3,
-            0,
-            pair(args, 1) as usize,
-            args,
-        ),
-        0x0D => call(
-            Kind::WriteRegisterUnchecked(byte(args, 0)),
-            config,
-            1,
-            0,
-            args,
-        ),
+        // 0C and 0D are retired and never given out again: their lines are refused by `retired_kind`, before they are decoded.
         0x0E => exact(
             Kind::SendAccessKey {
                 lower: pair(args, 0),
@@ -215,7 +202,22 @@ fn config(line: &[u8]) -> Config
     }
 }
 
-// What the bytes of a request line ask for.
+// Whether a request line, as characters, is of a retired kind: it begins with 0C or 0D. Nothing else on it is looked at.
+pub fn retired_kind(line: &[u8]) -> bool
+    ensures { λ r. ⌜ r ≡ retiredKind (now (line .entry)) ⌝ }
+{
+    if byte(line, 0) != b'0' {
+        return false;
+    }
+    match byte(line, 1) {
+        b'C' => true,
+        b'D' => true,
+        _ => false,
+    }
+}
+
+// What the bytes of a request line ask for. Those of a retired kind are a bad line here, like any number that is no kind; the bench program hands none
+// over, since `retired_kind` refuses the line first.
 pub fn read(line: &[u8]) -> Request
     ensures { λ r. ⌜ r ≡ requestLine (now (line .entry)) ⌝ }
 {

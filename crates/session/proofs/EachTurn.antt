@@ -19,7 +19,7 @@ use Rattle.lines.specs.Lines.{beforeFeed, tookBy, tookOf, keptOf, heldAfter}
 use Rattle.lines.specs.declared.Took.{Took}
 use Rattle.lines.specs.declared.Took.the-variants as took
 use Rattle.lines.proofs.Laws.{take-before}
-use Rattle.lines.proofs.Any.{lines-append, rest-append, lines-more, lines-whole, held-more}
+use Rattle.lines.proofs.Any.{lines-append, rest-append, lines-more, lines-whole, held-more, held-long}
 use Rattle.dialogue.specs.Dialogue as dialogue
 use Rattle.dialogue.specs.Dialogue.{Saying, asked, last, bytesSaid, saidOf}
 use Rattle.dialogue.specs.Bench.{thenSay}
@@ -32,7 +32,7 @@ use Rattle.session.specs.Session.{usedUp, saidSession, spokenSession, la
 use Rattle.session.specs.Loop.{laidBytes}
 use Rattle.session.proofs.Laws.{goes-on-inside}
 use Rattle.session.proofs.Kept.{length-request, length-outcome, length-buffer, length-laid}
-use Rattle.session.proofs.Long.{long-says, close-some, long-input}
+use Rattle.session.proofs.Long.{long-says, close-front, long-front, first-line}
 
 -- the sizes and what is held of a line are as they should be, and the run goes on
 pub record Good (w : Desk) : Type 0 where
@@ -50,7 +50,7 @@ before w = take (w .session .have) (w .held)
 
 -- a line that has no room is answered
 abbrev tooLong : ℕ → List ℕ → Desk → Desk
-tooLong n H w = laidDesk (closing (w .session .run) 1 (w .buffer)) n (w .session .laid) H (w .request) (w .outcome) (w .buffer) (w .out)
+tooLong n H w = laidDesk (closing (w .session .run) H (w .buffer)) n (w .session .laid) H (w .request) (w .outcome) (w .buffer) (w .out)
 
 said-size : (say : Saying) (room : ℕ) (r : Run) (at laid : ℕ) → saidSession (saidOf say room) r at laid .laid ≡ laid + printedOf (bytesSaid say) room
 unfolding saidSession saidOf bytesSaid
@@ -150,45 +150,55 @@ module _ (view : List (List ℕ) → List (List ℕ) → List ℕ) (Ends : List 
           })
           inside (omega arith) lines rest (p ∙ x) (q ∙ y) a z
 
-      -- a line has no room
-      closed : (H : List ℕ) (n : ℕ) → Short (dialogue.closeOf (w .session .run) 1 (w .buffer))
-          → G (tooLong n H w) ≡ laidBytes w ++ feedBytes (dialogue.closeOf (w .session .run) 1 (w .buffer))
+      -- a line has no room: H is as much of it as has
+      closed : (H : List ℕ) (n : ℕ) → Short (dialogue.closeOf (w .session .run) H (w .buffer))
+          → G (tooLong n H w) ≡ laidBytes w ++ feedBytes (dialogue.closeOf (w .session .run) H (w .buffer))
       unfolding laidDesk spokenSession laidOut closing laidBytes saidSession saidOf bytesSaid
       closed H n short =
-          off _ refl ∙ written-said (last (dialogue.closeOf (w .session .run) 1 (w .buffer))) (w .session .run) n (w .session .laid) H (w .request) (w .outcome) (w .buffer) (w .out) short fits
+          off _ refl ∙ written-said (last (dialogue.closeOf (w .session .run) H (w .buffer))) (w .session .run) n (w .session .laid) H (w .request) (w .outcome) (w .buffer) (w .out) short fits
+
+      -- it is answered as the whole line would be
+      same-close : (H line : List ℕ) → heldBytes < length line → H ≡ take heldBytes line
+          → dialogue.closeOf (w .session .run) line (w .buffer) ≡ dialogue.closeOf (w .session .run) H (w .buffer)
+      same-close H line m h =
+          sym (ap (λ (l : List ℕ). dialogue.closeOf (w .session .run) l (w .buffer)) h ∙ close-front (w .session .run) line (w .buffer) heldBytes (omega arith) (omega arith))
 
       -- its line feed never comes
-      long-rest : (H : List ℕ) (n : ℕ) (rest : List ℕ) → heldBytes < length rest → AllShort (shown w [] rest) → Ends rest
+      long-rest : (H : List ℕ) (n : ℕ) (rest : List ℕ) → heldBytes < length rest → H ≡ take heldBytes rest → AllShort (shown w [] rest) → Ends rest
           → G (tooLong n H w) ≡ laidBytes w ++ view [] (shown w [] rest)
       unfolding machineOf
-      long-rest H n rest m a z =
-          let c : dialogue.closeOf (w .session .run) (length rest) (w .buffer) ≡ dialogue.closeOf (w .session .run) 1 (w .buffer) = close-some (w .session .run) (length rest) (w .buffer) (omega arith) in
-          let short : Short (dialogue.closeOf (w .session .run) 1 (w .buffer)) = rw c at (a .0) in
+      long-rest H n rest m h a z =
+          let c = same-close H rest m h in
+          let short : Short (dialogue.closeOf (w .session .run) H (w .buffer)) = rw c at (a .0) in
           rw c (closed H n short ∙ ap (λ (l : List ℕ). laidBytes w ++ l) (sym (early rest _ z m)))
 
       -- its line feed comes later
-      long-line : (H : List ℕ) (n : ℕ) (line : List ℕ) (lines : List (List ℕ)) (rest : List ℕ) → heldBytes < length line → AllShort (shown w (line ∷ lines) rest)
-          → G (tooLong n H w) ≡ laidBytes w ++ view (line ∷ lines) (shown w (line ∷ lines) rest)
+      long-line : (H : List ℕ) (n : ℕ) (line : List ℕ) (lines : List (List ℕ)) (rest : List ℕ) → heldBytes < length line → H ≡ take heldBytes line
+          → AllShort (shown w (line ∷ lines) rest) → G (tooLong n H w) ≡ laidBytes w ++ view (line ∷ lines) (shown w (line ∷ lines) rest)
       unfolding machineOf thenSay
-      long-line H n line lines rest m a =
-          let x : List ℕ = dialogue.closeOf (w .session .run) 1 (w .buffer) in
+      long-line H n line lines rest m h a =
+          let x : List ℕ = dialogue.closeOf (w .session .run) H (w .buffer) in
           let r : length (w .request) * 2 < length line = omega (arith, good .sized .request) in
           let y : length (w .outcome) * 2 < length line = omega (arith, good .sized .outcome) in
-          let k : shown w (line ∷ lines) rest ≡ x ∷ [] = rw (long-says (w .session .run) line (w .request) (w .outcome) (w .buffer) r y) in
+          let k : shown w (line ∷ lines) rest ≡ x ∷ [] = rw (long-says (w .session .run) line (w .request) (w .outcome) (w .buffer) r y) (ap (λ (l : List ℕ). l ∷ []) (same-close H line m h)) in
           let short : AllShort (x ∷ []) = subst AllShort k a in
           closed H n (short .0) ∙ ap (λ (l : List ℕ). laidBytes w ++ l) (sym (ap (view (line ∷ lines)) k ∙ step line x lines [] ∙ rw (none lines) (append-nil (feedBytes x))))
 
       turn-long : (H : List ℕ) (n : ℕ) → heldBytes < length (before w) + length (beforeFeed (drop (w .session .at) chunk))
-          → Lays (λ v. G (tooLong n H v)) w (drop (w .session .at) chunk ++ t)
-      turn-long H n long lines rest p q a z =
+          → H ≡ take heldBytes (before w ++ beforeFeed (drop (w .session .at) chunk)) → Lays (λ v. G (tooLong n H v)) w (drop (w .session .at) chunk ++ t)
+      turn-long H n long front lines rest p q a z =
+          let f = long-front (before w) (drop (w .session .at) chunk) t heldBytes long in
+          let h = front ∙ sym (f .0) in
           ⊎-elim
           (λ c.
           let e : [] ≡ lines = sym (p ∙ c .0) in
-          let m : heldBytes < length rest = subst (λ (l : List ℕ). heldBytes < length l) (sym q) (c .1) in
-          subst (λ (ls : List (List ℕ)). AllShort (shown w ls rest) → G (tooLong n H w) ≡ laidBytes w ++ view ls (shown w ls rest)) e (λ b. long-rest H n rest m b z) a)
+          let r = sym (q ∙ c .1) in
+          let m : heldBytes < length rest = subst (λ (l : List ℕ). heldBytes < length l) r (f .1) in
+          subst (λ (ls : List (List ℕ)). AllShort (shown w ls rest) → G (tooLong n H w) ≡ laidBytes w ++ view ls (shown w ls rest)) e
+          (λ b. long-rest H n rest m (h ∙ ap (take heldBytes) r) b z) a)
           (λ c.
-          subst (λ (ls : List (List ℕ)). AllShort (shown w ls rest) → G (tooLong n H w) ≡ laidBytes w ++ view ls (shown w ls rest)) (sym (p ∙ c .0)) (λ b. long-line H n _ _ rest (c .1) b) a)
-          (long-input (before w) (drop (w .session .at) chunk) t heldBytes long)
+          subst (λ (ls : List (List ℕ)). AllShort (shown w ls rest) → G (tooLong n H w) ≡ laidBytes w ++ view ls (shown w ls rest)) (sym (p ∙ c)) (λ b. long-line H n _ _ rest (f .1) h b) a)
+          (first-line (before w) (drop (w .session .at) chunk ++ t))
 
       -- a line feed comes: the line that is whole, where it stands
       turn-whole : (line H : List ℕ) → length H ≡ heldBytes → line ≡ before w ++ beforeFeed (drop (w .session .at) chunk)
@@ -236,7 +246,10 @@ module _ (view : List (List ℕ) → List (List ℕ) → List ℕ) (Ends : List 
               → G (turnBy (brought f g i) chunk (keptOf (brought f g i) (beforeFeed s) (w .held) (w .session .have)) w) ≡ laidBytes w ++ view lines (shown w lines rest)
           by true e g d i o =
               let l : length (before w) ≡ w .session .have = length-take-le (w .session .have) (w .held) (omega (arith, good .sized .held, good .room)) in
-              turn-long stored (length chunk) (omega (arith, ltb-true (length (w .held)) (w .session .have + k) e, good .sized .held)) lines rest p q a z
+              let over = ltb-true (length (w .held)) (w .session .have + k) e in
+              let h : stored ≡ take heldBytes (before w ++ beforeFeed s) =
+              held-long (beforeFeed s) (w .held) (w .session .have) (omega (arith, good .room, good .sized .held)) (omega (arith, over)) ∙ ap (λ (j : ℕ). take j (before w ++ beforeFeed s)) (good .sized .held) in
+              turn-long stored (length chunk) (omega (arith, over, good .sized .held)) h lines rest p q a z
           by false e true d i o =
               let f : w .session .have + k ≤ length (w .held) = ltb-false (length (w .held)) (w .session .have + k) e in
               let n : length s ≤ k = omega (arith, leb-true (length chunk - w .session .at) k d, length-drop (w .session .at) chunk) in

@@ -9,11 +9,13 @@ use lib.ListN.{length, take, drop, length-append, length-take, length-drop}
 use lib.Seq.{length-take-le}
 use lib.Dec.{leb}
 use borrow.Author.Tests.{leb-true}
+use Rattle.hex.specs.Hex.{outDecoded}
 use Rattle.hex.specs.Line.{feedBytes}
 use Rattle.protocol.specs.Pick.{if_then_else_}
 use Rattle.protocol.specs.Bytes.{over}
 use Rattle.protocol.proofs.Laws.{length-over}
 use Rattle.requests.specs.Request.{requestLine}
+use Rattle.requests.specs.Retired.{retiredKind}
 use Rattle.requests.specs.declared.request.Request.{Request}
 use Rattle.requests.specs.declared.request.Request.the-variants as request
 use Rattle.printing.specs.Printing.{outPrinted}
@@ -24,8 +26,12 @@ use Rattle.dialogue.specs.declared.Run.the-variants as run
 use Rattle.dialogue.proofs.Kept.{length-decoded, length-heard, length-filled}
 
 pub length-request : (r : Run) (line R : List ℕ) → length (dialogue.requestAfter r line R) ≡ length R
-unfolding dialogue.requestAfter
-length-request run.Fresh line R = length-decoded line R
+unfolding dialogue.requestAfter dialogue.firstRequest if_then_else_
+length-request run.Fresh line R = by (retiredKind line)
+  where
+    by : (t : Bool) → length (if t then R else outDecoded line R) ≡ length R
+    by true = refl
+    by false = length-decoded line R
 length-request (run.Call call place) line R = refl
 
 pub length-outcome : (r : Run) (line Y : List ℕ) → length (dialogue.outcomeAfter r line Y) ≡ length Y
@@ -39,8 +45,12 @@ length-begin (request.Call kind config at n) B = length-filled n B
 length-begin (request.Refused a) B = refl
 
 pub length-buffer : (r : Run) (line R Y B : List ℕ) → length (dialogue.bufferAfter r line R Y B) ≡ length B
-unfolding dialogue.bufferAfter dialogue.beginBuffer dialogue.goBuffer
-length-buffer run.Fresh line R Y B = length-begin (requestLine (dialogue.bytesIn line R)) B
+unfolding dialogue.bufferAfter dialogue.firstBuffer dialogue.beginBuffer dialogue.goBuffer if_then_else_
+length-buffer run.Fresh line R Y B = by (retiredKind line)
+  where
+    by : (t : Bool) → length (if t then B else dialogue.fillBy (requestLine (dialogue.bytesIn line R)) B) ≡ length B
+    by true = refl
+    by false = length-begin (requestLine (dialogue.bytesIn line R)) B
 length-buffer (run.Call call place) line R Y B = rw (length-append, length-heard, length-take, length-drop) (omega arith)
 
 length-printed : (s out : List ℕ) → length (outPrinted s out) ≡ length out

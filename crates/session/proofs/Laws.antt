@@ -95,7 +95,8 @@ module _ (chunk : List ℕ) (w : Desk) (u : Took) (held : List ℕ)
 
   -- a line had no room
   pub took-long : (r : Session) (out : List ℕ) → u ≡ took.Long
-      → (r ≡ spokenSession (closing (w .session .run) 1 (w .buffer)) (length chunk) (w .session .laid) (length (w .out))) × (out ≡ laidOut (closing (w .session .run) 1 (w .buffer)) (w .session .laid) (w .out))
+      → (r ≡ spokenSession (closing (w .session .run) held (w .buffer)) (length chunk) (w .session .laid) (length (w .out)))
+      × (out ≡ laidOut (closing (w .session .run) held (w .buffer)) (w .session .laid) (w .out))
       → desk r held (w .request) (w .outcome) (w .buffer) out ≡ turnOf chunk w
   unfolding turnOf turnBy laidDesk
   took-long r out e p = rw (← took-as, e, ← held-as, p .0, p .1)

@@ -5,7 +5,7 @@ use mathlib.Core.Path.{_≡_, refl, sym, ap, subst, _∙_}
 use mathlib.Core.Bool.{Bool, true, false, false≢true}
 use mathlib.Core.List.{List, [], _∷_, _++_, append-nil, append-assoc}
 use native.Mathlib.Omega.{arith}
-use lib.ListN.{length, replicate, length-append, length-replicate}
+use lib.ListN.{length, take, replicate, length-append, length-replicate}
 use lib.Dec.{ltb}
 use borrow.Author.Tests.{lt-ltb, le-ltb}
 use Rattle.protocol.specs.Pick.{if_then_else_}
@@ -99,8 +99,8 @@ none-laid d e = rw e
 end-some : (d : Desk) → d .session .on ≡ true → longestLine ≤ length (d .out) → length (d .buffer) ≤ 8192 → 0 < length (laidBytes (endOf d))
 unfolding endOf endSession endOut spokenSession laidOut closing bytesSaid if_then_else_
 end-some d o room small =
-    let x : List ℕ = closeOf (d .session .run) (d .session .have) (d .buffer) in
-    let short = short-close (d .session .run) (d .session .have) (d .buffer) small in
+    let x : List ℕ = closeOf (d .session .run) (take (d .session .have) (d .held)) (d .buffer) in
+    let short = short-close (d .session .run) (take (d .session .have) (d .held)) (d .buffer) small in
     let e : laidBytes (endOf d) ≡ feedBytes x =
     rw o (written-said (last x) (d .session .run) (d .session .at) 0 (d .held) (d .request) (d .outcome) (d .buffer) (d .out) short (omega arith)) in
     rw (e, length-feed) (omega arith)

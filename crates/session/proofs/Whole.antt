@@ -104,10 +104,9 @@ module _ (view : List (List ℕ) → List (List ℕ) → List ℕ) (Ends : List 
 close-end : (w : Desk) (rest : List ℕ) → Good w → Unit {0} → rest ≡ before w → AllShort (shown w [] rest) → laidBytes (endOf w) ≡ feeds (shown w [] rest)
 unfolding endOf endSession endOut spokenSession laidOut closing machineOf feeds dialogue.bytesSaid if_then_else_
 close-end w rest good z e a =
-    let n : length rest ≡ w .session .have = ap length e ∙ length-take-le (w .session .have) (w .held) (omega (arith, good .room, good .sized .held)) in
-    let x = dialogue.closeOf (w .session .run) (w .session .have) (w .buffer) in
-    let short : Short x = rw n at (a .0) in
-    rw (n, good .on)
+    let x = dialogue.closeOf (w .session .run) (before w) (w .buffer) in
+    let short : Short x = rw e at (a .0) in
+    rw (e, good .on)
     (written-said (last x) (w .session .run) (w .session .at) 0 (w .held) (w .request) (w .outcome) (w .buffer) (w .out) short (omega (arith, good .sized .out)) ∙ sym (append-nil (feedBytes x)))
 
 step-so-far : (n : ℕ) (line x : List ℕ) (lines more : List (List ℕ)) → feeds (take (length (line ∷ lines) + n) (x ∷ more)) ≡ feedBytes x ++ feeds (take (length lines + n) more)

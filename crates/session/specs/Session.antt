@@ -42,9 +42,9 @@ spokenSession s at laid n = saidSession (saidOf (s .saying) (n - laid)) (s .run)
 unfoldable pub laidOut : Spoken → ℕ → List ℕ → List ℕ
 laidOut s laid out = take laid out ++ outPrinted (bytesSaid (s .saying)) (drop laid out)
 
--- the last line, after so many bytes of a line: the run stays as it was
-unfoldable pub closing : Run → ℕ → List ℕ → Spoken
-closing r left buffer = record { run = r; saying = last (closeOf r left buffer) }
+-- the last line, after these bytes of a line: the run stays as it was
+unfoldable pub closing : Run → List ℕ → List ℕ → Spoken
+closing r line buffer = record { run = r; saying = last (closeOf r line buffer) }
 
 -- the line that is spoken is laid
 unfoldable pub laidDesk : Spoken → ℕ → ℕ → List ℕ → List ℕ → List ℕ → List ℕ → List ℕ → Desk
@@ -66,7 +66,7 @@ turnBy (took.Held len next) chunk held d = lineOf (take len held) next held d
 turnBy (took.More have) chunk held d =
     desk (usedUp (d .session .run) have (length chunk) (d .session .laid)) held (d .request) (d .outcome) (d .buffer) (d .out)
 turnBy took.Long chunk held d =
-    laidDesk (closing (d .session .run) 1 (d .buffer)) (length chunk) (d .session .laid) held (d .request) (d .outcome) (d .buffer) (d .out)
+    laidDesk (closing (d .session .run) held (d .buffer)) (length chunk) (d .session .laid) held (d .request) (d .outcome) (d .buffer) (d .out)
 
 -- one turn of a chunk
 unfoldable pub turnOf : List ℕ → Desk → Desk
@@ -89,13 +89,13 @@ takeOf chunk d =
     turnsOf (length chunk) chunk (desk (atByte (d .session) (d .session .at)) (d .held) (d .request) (d .outcome) (d .buffer) (d .out))
 
 -- the input has ended: a last line, unless the run is over
-unfoldable pub endSession : Session → List ℕ → ℕ → Session
-endSession s buffer n = if s .on then spokenSession (closing (s .run) (s .have) buffer) (s .at) 0 n else atByte s (s .at)
+unfoldable pub endSession : Session → List ℕ → List ℕ → ℕ → Session
+endSession s held buffer n = if s .on then spokenSession (closing (s .run) (take (s .have) held) buffer) (s .at) 0 n else atByte s (s .at)
 
-unfoldable pub endOut : Session → List ℕ → List ℕ → List ℕ
-endOut s buffer out = if s .on then laidOut (closing (s .run) (s .have) buffer) 0 out else out
+unfoldable pub endOut : Session → List ℕ → List ℕ → List ℕ → List ℕ
+endOut s held buffer out = if s .on then laidOut (closing (s .run) (take (s .have) held) buffer) 0 out else out
 
 unfoldable pub endOf : Desk → Desk
 endOf d =
-    desk (endSession (d .session) (d .buffer) (length (d .out))) (d .held) (d .request) (d .outcome) (d .buffer)
-    (endOut (d .session) (d .buffer) (d .out))
+    desk (endSession (d .session) (d .held) (d .buffer) (length (d .out))) (d .held) (d .request) (d .outcome) (d .buffer)
+    (endOut (d .session) (d .held) (d .buffer) (d .out))

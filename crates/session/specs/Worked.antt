@@ -1,12 +1,12 @@
 -- Worked runs of the bench program, document 01's own first, as one table under one statement. (01, The bench program)
 -- Assumes nothing.
 use Prim.Native.Nat.{ℕ}
-use Prim.Native.Char.{code}
-use Prim.Native.String.{String, [] as no-text, _∷_ as _then_}
+use Prim.Native.String.{String}
 use mathlib.Core.Path.{_≡_, refl}
 use mathlib.Core.List.{List, [], _∷_, _++_}
 use lib.ListN.{replicate}
 use Rattle.hex.specs.Line.{feeds}
+use Rattle.hex.specs.Text.{ascii}
 use Rattle.smbus_pec.specs.Pec.{bitStep, bitSteps, byteStep, pecOf}
 use Rattle.protocol.specs.Pick.{if_then_else_}
 use Rattle.protocol.specs.Bytes as bytes
@@ -29,6 +29,7 @@ use Rattle.hex.specs.Line as line
 use Rattle.lines.specs.Input as input
 use Rattle.requests.specs.Fields as fields
 use Rattle.requests.specs.Request as request
+use Rattle.requests.specs.Retired.{retiredKind}
 use Rattle.requests.specs.Outcome as outcome
 use Rattle.calls.specs.Kind as kind
 use Rattle.calls.specs.Call as calls
@@ -36,11 +37,6 @@ use Rattle.printing.specs.Printing as printing
 use Rattle.dialogue.specs.Dialogue as dialogue
 use Rattle.dialogue.specs.Bench as bench
 use Rattle.session.specs.Output.{printed}
-
--- the bytes of a text, in ASCII
-unfoldable pub ascii : String → List ℕ
-ascii no-text = []
-ascii (c then s) = code c ∷ ascii s
 
 pub data Run : Type 0 where
   -- the input and the output as they are read and written
@@ -102,6 +98,19 @@ runs =
     ∷ run ((0x09 ∷ 0x00 ∷ 0x00 ∷ 0x00 ∷ 0xAA ∷ []) ∷ []) [] (over 8 0 0 ∷ [])
     -- 11 before 8: a flag that is none, with a key that is too short
     ∷ run ((0x09 ∷ 0x04 ∷ 0x00 ∷ 0x00 ∷ 0xAA ∷ []) ∷ []) [] (over 11 0 0 ∷ [])
+    -- a retired kind is 15 before anything else on its line is looked at: a whole line, no other digit, no digits, an odd number, a third flag, no line feed;
+    -- no line after it is read. 0c and a lone 0 are 11, and so is an outcome line that begins with 0C
+    ∷ text "0C030000120200\n001122\n" "FF0F000000000000\n"
+    ∷ text "0D03000012AA\n00\n" "FF0F000000000000\n"
+    ∷ text "0C\n" "FF0F000000000000\n"
+    ∷ text "0CZZ\n" "FF0F000000000000\n"
+    ∷ text "0D0\n" "FF0F000000000000\n"
+    ∷ text "0DFF\n" "FF0F000000000000\n"
+    ∷ text "0D" "FF0F000000000000\n"
+    ∷ text "0c000000\n" "FF0B000000000000\n"
+    ∷ text "0\n" "FF0B000000000000\n"
+    ∷ text "0" "FF0B000000000000\n"
+    ∷ run (write ∷ (0x0C ∷ []) ∷ []) [] (sent ∷ over 11 0 0 ∷ [])
     -- 33 bytes to data flash: frames of 36 and 5 bytes, and 32 bytes committed where the second failed
     ∷ run ((0x01 ∷ 0x00 ∷ 0x00 ∷ 0x00 ∷ 0x00 ∷ 0x40 ∷ replicate 33 0xC3) ∷ (0x00 ∷ []) ∷ (0x02 ∷ []) ∷ []) []
     ((0x00 ∷ 0x44 ∷ 0x22 ∷ 0x00 ∷ 0x40 ∷ replicate 32 0xC3) ∷ (0x00 ∷ 0x44 ∷ 0x03 ∷ 0x20 ∷ 0x40 ∷ 0xC3 ∷ []) ∷ over 6 32 0 ∷ [])
@@ -137,10 +146,6 @@ runs =
     ((0x00 ∷ 0x44 ∷ 0x02 ∷ 0x37 ∷ 0x00 ∷ 0xFE ∷ []) ∷ (0x01 ∷ 0x44 ∷ 0x14 ∷ 0x00 ∷ []) ∷ (0xFE ∷ 0x00 ∷ 0x00 ∷ 0x00 ∷ 0x00 ∷ replicate 16 0xA5) ∷ [])
     ∷ run ((0x0B ∷ 0x03 ∷ 0x00 ∷ 0x00 ∷ replicate 16 0xAA) ∷ []) []
     ((0x00 ∷ 0x44 ∷ 0x12 ∷ 0x37 ∷ 0x00 ∷ replicate 16 0xAA ++ (0x14 ∷ [])) ∷ (0xFE ∷ 0x00 ∷ 0x00 ∷ 0x00 ∷ 0x00 ∷ []) ∷ [])
-    ∷ run ((0x0C ∷ 0x03 ∷ 0x00 ∷ 0x00 ∷ 0x12 ∷ 0x02 ∷ 0x00 ∷ []) ∷ []) []
-    ((0x01 ∷ 0x12 ∷ 0x02 ∷ 0x00 ∷ []) ∷ (0xFE ∷ 0x00 ∷ 0x00 ∷ 0x00 ∷ 0x00 ∷ 0xA5 ∷ 0xA5 ∷ []) ∷ [])
-    ∷ run ((0x0D ∷ 0x03 ∷ 0x00 ∷ 0x00 ∷ 0x12 ∷ 0xAA ∷ []) ∷ []) []
-    ((0x00 ∷ 0x12 ∷ 0xAA ∷ []) ∷ (0xFE ∷ 0x00 ∷ 0x00 ∷ 0x00 ∷ 0x00 ∷ []) ∷ [])
     ∷ run ((0x0E ∷ 0x03 ∷ 0x00 ∷ 0x00 ∷ 0x34 ∷ 0x12 ∷ 0x78 ∷ 0x56 ∷ []) ∷ (0x00 ∷ []) ∷ []) []
     ((0x00 ∷ 0x44 ∷ 0x02 ∷ 0x34 ∷ 0x12 ∷ 0xBF ∷ []) ∷ (0x00 ∷ 0x44 ∷ 0x02 ∷ 0x78 ∷ 0x56 ∷ 0xC3 ∷ []) ∷ (0xFE ∷ 0x00 ∷ 0x00 ∷ 0x00 ∷ 0x00 ∷ []) ∷ [])
     ∷ run ((0x0F ∷ 0x03 ∷ 0x00 ∷ 0x00 ∷ 0x03 ∷ 0x00 ∷ []) ∷ (0x00 ∷ []) ∷ []) []
@@ -174,8 +179,8 @@ unfolding ascii bitStep bitSteps byteStep pecOf if_then_else_ bytes.over bytes.b
     reading.plainPlan reading.macPlan reading.startOf reading.dueAsk reading.shownHead reading.workHead reading.shownOf reading.workShown reading.nextOf reading.workAfter reading.headedOf reading.advanceOf reading.retryOf reading.endOf reading.failOf reading.heardHead reading.verdictOf reading.heardBlock reading.acknowledgedOf reading.weighOf reading.judgeOf reading.storedOf reading.reportOf reading.bufferAfter
     interface.plainLimit interface.writeWithRetries interface.writeRegister interface.readRegister interface.commandPec interface.commandReads interface.dispatchCommand interface.readBuffer interface.writeBuffer
     r5.macRead r5.macWrite r5.sendAccessKey r5.writeMfgInfoC r5.wholeAsk r5.readMfgInfoC r5.writeMfgInfo r5.readMfgInfo r5.readDataflash r5.writeDataflash hex.valueOf hex.byteOf hex.bytesOf hex.digitOf hex.hexOf input.linesFrom input.restFrom
-    fields.pairAt fields.quadAt request.configOf request.calledOf request.exactOf request.askedOf request.requestLine outcome.acknowledgedLine outcome.errorLine outcome.timeoutLine outcome.outcomeLine
+    fields.pairAt fields.quadAt request.configOf request.calledOf request.exactOf request.askedOf request.requestLine retiredKind outcome.acknowledgedLine outcome.errorLine outcome.timeoutLine outcome.outcomeLine
     kind.planOf calls.startWith calls.startOf calls.nextOf calls.workAfter calls.partOf calls.wroteOf calls.gotOf calls.reportOf calls.bufferAfter calls.tallyOf
-    printing.quadOf printing.writeSaid printing.readSaid printing.endSaid printing.cutSaid dialogue.sizeOf dialogue.tellOf dialogue.zeros dialogue.lineShown dialogue.lastOf
-    line.lineBytes line.feedBytes line.feeds bench.thenSay bench.reportThen bench.toldThen bench.callLines bench.callRun bench.requestThen bench.benchOf printed
-runs-hold = (refl, (refl, (refl, (refl, (refl, (refl, (refl, (refl, (refl, (refl, (refl, (refl, (refl, (refl, (refl, (refl, (refl, (refl, (refl, (refl, (refl, (refl, (refl, (refl, (refl, (refl, (refl, (refl, (refl, (refl, (refl, (refl, (refl, (refl, (refl, (refl, (refl, (refl, (refl, (refl, (refl, (refl, (refl, (refl, (refl, (refl, (refl, (refl, tt))))))))))))))))))))))))))))))))))))))))))))))))
+    printing.quadOf printing.writeSaid printing.readSaid printing.endSaid printing.cutSaid dialogue.sizeOf dialogue.tellOf dialogue.zeros dialogue.lineShown dialogue.lastOf dialogue.unfinishedOf
+    line.lineBytes line.feedBytes line.feeds bench.thenSay bench.reportThen bench.toldThen bench.callLines bench.callRun bench.requestThen bench.requestOf bench.benchOf printed
+runs-hold = (refl, (refl, (refl, (refl, (refl, (refl, (refl, (refl, (refl, (refl, (refl, (refl, (refl, (refl, (refl, (refl, (refl, (refl, (refl, (refl, (refl, (refl, (refl, (refl, (refl, (refl, (refl, (refl, (refl, (refl, (refl, (refl, (refl, (refl, (refl, (refl, (refl, (refl, (refl, (refl, (refl, (refl, (refl, (refl, (refl, (refl, (refl, (refl, (refl, (refl, (refl, (refl, (refl, (refl, (refl, (refl, (refl, tt)))))))))))))))))))))))))))))))))))))))))))))))))))))))))

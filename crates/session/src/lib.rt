@@ -142,12 +142,13 @@ fn answer(
     }
 }
 
-// The last line of a run, after the `laid` bytes that stand in `out`: the input has ended with `left` bytes of a line, or a line is too long.
-fn close(run: Run, left: usize, at: usize, laid: usize, buffer: &[u8], out: &mut [u8]) -> Session
+// The last line of a run, after the `laid` bytes that stand in `out`: the input has ended with these bytes of a line, or they are the first of one that is
+// too long.
+fn close(run: Run, line: &[u8], at: usize, laid: usize, buffer: &[u8], out: &mut [u8]) -> Session
     requires { ⌜ laid ≤ length (now out) ⌝ }
-    ensures { λ r. ⌜ (r ≡ spokenSession (closing run left (now (buffer .entry))) at laid (length (now (out .entry)))) × (now (out .exit) ≡ laidOut (closing run left (now (buffer .entry))) laid (now (out .entry))) ⌝ }
+    ensures { λ r. ⌜ (r ≡ spokenSession (closing run (now (line .entry)) (now (buffer .entry))) at laid (length (now (out .entry)))) × (now (out .exit) ≡ laidOut (closing run (now (line .entry)) (now (buffer .entry))) laid (now (out .entry))) ⌝ }
 {
-    let n = dialogue::close(run, left, buffer, &mut out[laid..]);
+    let n = dialogue::close(run, line, buffer, &mut out[laid..]);
     Session {
         run,
         have: 0,
@@ -157,7 +158,7 @@ fn close(run: Run, left: usize, at: usize, laid: usize, buffer: &[u8], out: &mut
     }
 }
 
-// One turn: the bytes of a chunk from where it goes on, up to the end of a line. A line that has no room in `held` is bad.
+// One turn: the bytes of a chunk from where it goes on, up to the end of a line. A line that has no room in `held` ends the run.
 fn turn(
     session: Session,
     chunk: &[u8],
@@ -189,7 +190,7 @@ fn turn(
             laid,
             on: true,
         },
-        Took::Long => close(run, 1, chunk.len(), laid, buffer, out),
+        Took::Long => close(run, held, chunk.len(), laid, buffer, out),
     }
 }
 
@@ -237,12 +238,18 @@ pub fn take(
 }
 
 // The input has ended.
-pub fn end(session: Session, buffer: &[u8; BUFFER_BYTES], out: &mut [u8; OUT_BYTES]) -> Session
-    ensures { λ r. ⌜ (r ≡ endSession session (now (buffer .entry)) (length (now (out .entry)))) × (now (out .exit) ≡ endOut session (now (buffer .entry)) (now (out .entry))) ⌝ }
+pub fn end(
+    session: Session,
+    held: &[u8; HELD_BYTES],
+    buffer: &[u8; BUFFER_BYTES],
+    out: &mut [u8; OUT_BYTES],
+) -> Session
+    ensures { λ r. ⌜ (r ≡ endSession session (now (held .entry)) (now (buffer .entry)) (length (now (out .entry)))) × (now (out .exit) ≡ endOut session (now (held .entry)) (now (buffer .entry)) (now (out .entry))) ⌝ }
 {
     let run = session.run;
     if session.on {
-        close(run, session.have, session.at, 0, buffer, out)
+        let line = bytes::front(held, session.have);
+        close(run, line, session.at, 0, buffer, out)
     } else {
         at_byte(session, session.at)
     }

@@ -143,11 +143,6 @@ fn writes() {
     plain(b"write_with_retries ", Kind::WriteWithRetries);
     limited(b"write_register ", Kind::WriteRegister(1), 32);
     limited(b"write_buffer ", Kind::WriteBuffer(1), 33);
-    limited(
-        b"write_register_unchecked ",
-        Kind::WriteRegisterUnchecked(1),
-        32,
-    );
 }
 
 // The writes of keys and the override.
@@ -183,7 +178,6 @@ fn access_writes() {
 fn reads() {
     limited(b"read_register ", Kind::ReadRegister(1), 32);
     unlimited(b"read_buffer ", Kind::ReadBuffer(1));
-    unlimited(b"read_register_unchecked ", Kind::ReadRegisterUnchecked(1));
 }
 
 // The reads of keys, the override and manufacturer info.

@@ -6,7 +6,7 @@ use super::{Sink, request, with_setting, words};
 use crate::bench::Report;
 use crate::line::Line;
 use crate::list::Case;
-use crate::request::{Kind, Request};
+use crate::request::{Kind, RETIRED, Request};
 
 /// Every boundary of every call, of the window, of the counts and of the lines.
 pub fn boundaries(sink: Sink<'_>) {
@@ -16,6 +16,7 @@ pub fn boundaries(sink: Sink<'_>) {
     counts(sink);
     codes(sink);
     bad_requests(sink);
+    retired_requests(sink);
     bad_outcomes(sink);
     after_the_end(sink);
 }
@@ -253,6 +254,42 @@ fn bad_requests(sink: Sink<'_>) {
     }
 }
 
+/// What may stand behind a retired kind, each with its sort; nothing of it is looked at.
+const BEHIND_RETIRED: [(&str, &str); 12] = [
+    ("nothing else", ""),
+    ("an old read", "030100120200"),
+    ("an old write", "03010012AABB"),
+    ("a short header", "00"),
+    ("a bad setting", "FF0000120200"),
+    ("too many arguments", "000000120200000000"),
+    ("an odd number of digits", "0"),
+    ("no digits", "ZZ"),
+    ("lower case", "000000aa"),
+    ("a space", " 000000120200"),
+    ("a carriage return", "000000120200\r"),
+    ("a control character", "\0"),
+];
+
+/// Lines that begin with a retired kind, and some that nearly do.
+fn retired_requests(sink: Sink<'_>) {
+    for kind in RETIRED {
+        for (sort, rest) in BEHIND_RETIRED {
+            let line = Line::raw(format!("{kind}{rest}"));
+            give_request(&format!("retired, {sort}"), kind, Some(line.clone()), sink);
+            give_request(&format!("retired, {sort}, no line feed"), kind, Some(line.unended()), sink);
+        }
+        for (sort, digits) in [("20,000 digits", 20_000), ("100,000 digits", 100_000)] {
+            let line = Line::raw([kind.as_bytes(), &vec![b'0'; digits]].concat());
+            give_request(&format!("retired, {sort}"), kind, Some(line.clone()), sink);
+            give_request(&format!("retired, {sort}, no line feed"), kind, Some(line.unended()), sink);
+        }
+        for near in [kind.to_lowercase(), format!(" {kind}"), format!("0{kind}"), format!("1{}", &kind[1..])]
+        {
+            give_request("nearly retired", kind, Some(Line::raw(near + "000000120200")), sink);
+        }
+    }
+}
+
 /// A run of a request line that belongs to no kind in particular.
 fn give_whole_line(sort: &str, line: Option<Line>, sink: Sink<'_>) {
     give_request(sort, "any kind", line, sink);
@@ -350,7 +387,10 @@ fn transfers_behind(request: &Request, front: &[Step]) -> bool {
 const BAD_OUTCOMES: [(&str, &[&str]); 11] = [
     ("an empty line", &[""]),
     ("an odd number of digits", &["0", "1", "2", "000", "01FFF"]),
-    ("an unknown first byte", &["03", "04", "0F", "10", "20", "7F", "80", "FD", "FE", "FF", "0300"]),
+    (
+        "an unknown first byte",
+        &["03", "04", "0C", "0D", "0F", "10", "20", "7F", "80", "FD", "FE", "FF", "0300"],
+    ),
     ("no code", &["01"]),
     ("more than a code", &["010203", "01000000"]),
     ("more than a timeout", &["0200", "0201", "020202"]),
@@ -409,8 +449,10 @@ fn after_the_end(sink: Sink<'_>) {
             }
         }
     }
-    let bad_request = Line::raw("0g");
-    let (mut case, report) = Case::record("after the end: a bad request".into(), Some(bad_request), |_| None);
-    case.input.push(Line::of(&usual(Kind::ReadDataflash).to_bytes()));
-    sink(case, report);
+    for (name, text) in [("a bad request", "0g"), ("a retired request", "0C")] {
+        let refused = Line::raw(text);
+        let (mut case, report) = Case::record(format!("after the end: {name}"), Some(refused), |_| None);
+        case.input.push(Line::of(&usual(Kind::ReadDataflash).to_bytes()));
+        sink(case, report);
+    }
 }

@@ -67,7 +67,7 @@ fn requests() -> Vec<Request> {
 
 /// Kind, number, and the length of the payload or of the buffer.
 fn shapes() -> Vec<(Kind, u32, usize)> {
-    let table: [(Kind, &[u32], &[usize]); 21] = [
+    let table: [(Kind, &[u32], &[usize]); 19] = [
         (Kind::WriteDataflash, &[0x4000], &[0, 1, 32, 33, 64, 65]),
         (Kind::ReadDataflash, &[0x5F00], &[0, 1, 32, 33, 64, 65]),
         (Kind::WriteRegister, &[0x0D], &[0, 1, 32]),
@@ -79,8 +79,6 @@ fn shapes() -> Vec<(Kind, u32, usize)> {
         (Kind::WriteSecurityKeys, &[0], &[28]),
         (Kind::ReadAuthenticationKey, &[0], &[0]),
         (Kind::WriteAuthenticationKey, &[0], &[16]),
-        (Kind::ReadRegisterUnchecked, &[0x71], &[0, 2, 40]),
-        (Kind::WriteRegisterUnchecked, &[0x71], &[0, 2, 32]),
         (Kind::SendAccessKey, &[0x3672_0414], &[0]),
         (Kind::ReadMfgInfoC, &[0], &[0, 1, 32]),
         (Kind::WriteMfgInfoC, &[0x5D89_3C45], &[0, 1, 32]),

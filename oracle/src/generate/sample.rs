@@ -86,7 +86,8 @@ fn is_of_three_blocks(case: &Case) -> bool {
     has_65_bytes && starts.iter().any(|start| case.title.starts_with(start))
 }
 
-/// Runs of the largest length, a count of two bytes, and a reply of one byte too many for a line.
+/// Runs of the largest length, a count of two bytes, a reply of one byte too many for a line, and retired lines that are
+/// longer than any line.
 fn is_large(case: &Case) -> bool {
     let titles = [
         "length 8192: write_dataflash, flags 3, retries 1: all good",
@@ -96,6 +97,8 @@ fn is_large(case: &Case) -> bool {
         "count 257: send_access_key, flags 3, retries 257: as many as allowed",
         "count 257: send_access_key, flags 3, retries 257: one too many",
         "outcome, a reply of 8193: send_access_key, flags 0, retries 2: the last line",
+        "request, retired, 20,000 digits: 0C",
+        "request, retired, 20,000 digits, no line feed: 0D",
     ];
     titles.contains(&case.title.as_str())
 }

@@ -43,7 +43,7 @@ returns-2 c =
 
 returns-3 : tie.Need-returns-3
 returns-3 c =
-    let a = c .before .before .before .before .before .before .before .before .before .args in
+    let a = c .before .before .before .before .before .before .before .before .before .before .args in
     ends-makes (a .chunk .now) (a .n) _ _ _ _ (search needs) (c .end .ensures .0) (c .end .ensures .1)
 
 returns-4 : tie.Need-returns-4

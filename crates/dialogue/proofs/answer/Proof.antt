@@ -1,4 +1,4 @@
--- `dialogue::answer` meets its contract: each arm decodes the line and hands its bytes on.
+-- `dialogue::answer` meets its contract: a request line goes to `first`, an outcome line is decoded and its bytes handed on.
 -- Assumes nothing.
 use mathlib.Core.Path.{refl}
 use borrow.Author.Needs.{needs}
@@ -10,23 +10,17 @@ use Rattle.dialogue.proofs.answer.Tie as tie
 enum-told : tie.Need-enum-told
 enum-told c = search needs
 
+first-requires : tie.Need-first-requires
+first-requires c κs = search needs
+
+enum-known-run : tie.Need-enum-known-run
+enum-known-run c = search needs
+
 decode-requires : tie.Need-decode-requires
 decode-requires c κs = search needs
 
 front-requires : tie.Need-front-requires
 front-requires c κs = search needs
-
-begin-requires : tie.Need-begin-requires
-begin-requires c κs = search needs
-
-enum-known-run : tie.Need-enum-known-run
-enum-known-run c = search needs
-
-decode-requires-2 : tie.Need-decode-requires-2
-decode-requires-2 c κs = search needs
-
-front-requires-2 : tie.Need-front-requires-2
-front-requires-2 c κs = search needs
 
 go-on-requires : tie.Need-go-on-requires
 go-on-requires c κs = search needs
@@ -43,10 +37,8 @@ same-length-3 c = search needs
 returns : tie.Need-returns
 unfolding answerOf requestAfter outcomeAfter bufferAfter
 returns c =
-    let d = c .before .before .before .before .before .before .before .before .before .before .before .decode .ensures in
-    let f = bytes-in _ _ _ _ _ (d .0) (d .1) (c .before .before .before .before .before .before .before .front .ensures) in
-    let b = c .before .before .before .before .begin .ensures in
-    rw (c .before .before .before .before .before .before .before .before .before .before .before .before .before .enum-told .given .1, ← f) (b .0, d .1, refl, b .1, b .2)
+    let e = c .before .before .before .before .before .before .first .ensures in
+    rw (c .before .before .before .before .before .before .before .before .before .before .enum-told .given .1) (e .0, e .1, refl, e .2, e .3)
 
 same-length-4 : tie.Need-same-length-4
 same-length-4 c = search needs
@@ -63,8 +55,8 @@ same-length-7 c = search needs
 returns-2 : tie.Need-returns-2
 unfolding answerOf requestAfter outcomeAfter bufferAfter
 returns-2 c =
-    let d = c .before .before .before .before .before .before .before .before .before .before .before .before .decode2 .ensures in
-    let f = bytes-in _ _ _ _ _ (d .0) (d .1) (c .before .before .before .before .before .before .before .before .front2 .ensures) in
+    let d = c .before .before .before .before .before .before .before .before .before .before .before .before .decode .ensures in
+    let f = bytes-in _ _ _ _ _ (d .0) (d .1) (c .before .before .before .before .before .before .before .before .front .ensures) in
     let g = c .before .before .before .before .go-on .ensures in
     rw (c .before .before .before .before .before .before .before .before .before .before .before .before .before .before .before .run .given .1, ← f) (g .0, refl, d .1, g .1, g .2)
 
@@ -73,12 +65,10 @@ answer-spec =
     tie.close
     (tie.spec
     enum-told
+    first-requires
+    enum-known-run
     decode-requires
     front-requires
-    begin-requires
-    enum-known-run
-    decode-requires-2
-    front-requires-2
     go-on-requires
     same-length
     same-length-2

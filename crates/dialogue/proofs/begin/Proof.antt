@@ -2,7 +2,7 @@
 -- Assumes nothing.
 use mathlib.Core.Path.{refl}
 use borrow.Author.Needs.{needs}
-use Rattle.dialogue.specs.Dialogue.{bytesSaid, saidOf, turnedOf, beginBy, fillBy, beginOf, beginBuffer}
+use Rattle.dialogue.specs.Dialogue.{beginBy, fillBy, beginOf, beginBuffer}
 use Rattle.dialogue.proofs.begin.Statement.{statement}
 use Rattle.dialogue.proofs.begin.Tie as tie
 
@@ -18,14 +18,8 @@ open-requires c κs = search needs
 enum-known-answer : tie.Need-enum-known-answer
 enum-known-answer c = search needs
 
-new-requires : tie.Need-new-requires
-new-requires c κs = search needs
-
-slice-aggregate-end : tie.Need-slice-aggregate-end
-slice-aggregate-end c = search needs
-
-end-requires : tie.Need-end-requires
-end-requires c κs = search needs
+refuse-requires : tie.Need-refuse-requires
+refuse-requires c κs = search needs
 
 same-length : tie.Need-same-length
 same-length c = search needs
@@ -41,10 +35,10 @@ same-length-3 : tie.Need-same-length-3
 same-length-3 c = search needs
 
 returns-2 : tie.Need-returns-2
-unfolding beginOf beginBuffer beginBy fillBy turnedOf saidOf bytesSaid
+unfolding beginOf beginBuffer beginBy fillBy
 returns-2 c =
-    let e = c .before .before .end .ensures in
-    rw (← c .before .before .before .before .before .before .before .before .before .read .ensures, c .before .before .before .before .before .before .before .answer .given .1, ← c .before .before .before .before .before .new .ensures) (rw (e .0), refl, e .1)
+    let e = c .before .before .refuse .ensures in
+    rw (← c .before .before .before .before .before .before .before .read .ensures, c .before .before .before .before .before .answer .given .1) (e .0, refl, e .1)
 
 pub begin-spec : {M : Type 1} → statement M
 begin-spec =
@@ -54,9 +48,7 @@ begin-spec =
     enum-known-kind
     open-requires
     enum-known-answer
-    new-requires
-    slice-aggregate-end
-    end-requires
+    refuse-requires
     same-length
     same-length-2
     returns

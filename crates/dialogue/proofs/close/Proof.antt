@@ -8,6 +8,9 @@ use Rattle.dialogue.proofs.close.Tie as tie
 enum-told : tie.Need-enum-told
 enum-told c = search needs
 
+unfinished-requires : tie.Need-unfinished-requires
+unfinished-requires c κs = search needs
+
 new-requires : tie.Need-new-requires
 new-requires c κs = search needs
 
@@ -34,7 +37,7 @@ same-length c = search needs
 
 returns : tie.Need-returns
 unfolding closeOf
-returns c = rw (c .before .before .before .before .before .before .enum-told .given .1, ← c .before .before .before .before .before .new .ensures) (c .before .before .end .ensures)
+returns c = rw (c .before .before .before .before .before .before .before .enum-told .given .1, ← c .before .before .before .before .before .before .unfinished .ensures, ← c .before .before .before .before .before .new .ensures) (c .before .before .end .ensures)
 
 same-length-2 : tie.Need-same-length-2
 same-length-2 c = search needs
@@ -48,6 +51,7 @@ close-spec =
     tie.close
     (tie.spec
     enum-told
+    unfinished-requires
     new-requires
     slice-aggregate-end
     end-requires

@@ -16,12 +16,6 @@ large-buffer-requires c κs = tt
 large-buffer-requires-2 : tie.Need-large-buffer-requires-2 Inv-loop μ-loop
 large-buffer-requires-2 c κs = tt
 
-large-buffer-requires-3 : tie.Need-large-buffer-requires-3 Inv-loop μ-loop
-large-buffer-requires-3 c κs = tt
-
-large-buffer-requires-4 : tie.Need-large-buffer-requires-4 Inv-loop μ-loop
-large-buffer-requires-4 c κs = tt
-
 buffer-requires : tie.Need-buffer-requires Inv-loop μ-loop
 buffer-requires c κs = tt
 
@@ -60,8 +54,6 @@ run-list-spec =
     μ-loop
     large-buffer-requires
     large-buffer-requires-2
-    large-buffer-requires-3
-    large-buffer-requires-4
     buffer-requires
     open-requires
     open-requires-2

@@ -26,10 +26,10 @@ close-requires c κs = search needs
 
 add-t9 : tie.Need-add-t9
 add-t9 c =
-    let a = c .before .before .before .before .before .before .args in
-    let s = closeOf (a .run) (a .left) (a .buffer .now) in
+    let a = c .before .before .before .before .before .before .before .args in
+    let s = closeOf (a .run) (a .line .now) (a .buffer .now) in
     let n = part-printed s (c .before .before .close .result) (a .out .now) (a .laid) (c .before .before .close .ensures .0) in
-    omega (arith, n, printed-room s (length (a .out .now) - a .laid), c .before .before .before .before .before .before .good, c .before .before .before .before .before .before .pre)
+    omega (arith, n, printed-room s (length (a .out .now) - a .laid), c .before .before .before .before .before .before .before .good, c .before .before .before .before .before .before .before .pre)
 
 same-length : tie.Need-same-length
 same-length c = search needs
@@ -37,8 +37,8 @@ same-length c = search needs
 returns : tie.Need-returns
 unfolding spokenSession saidSession laidOut closing saidOf bytesSaid
 returns c =
-    let a = c .before .before .before .before .before .before .args in
-    let s = closeOf (a .run) (a .left) (a .buffer .now) in
+    let a = c .before .before .before .before .before .before .before .args in
+    let s = closeOf (a .run) (a .line .now) (a .buffer .now) in
     let e = c .before .before .close .ensures in
     (rw (part-printed s _ (a .out .now) (a .laid) (e .0)), lent-back (outPrinted s) (a .laid) (a .out .now) _ (e .1))
 

@@ -7,6 +7,9 @@ use Rattle.session.specs.Session.{endSession, endOut}
 use Rattle.session.proofs.end.Statement.{statement}
 use Rattle.session.proofs.end.Tie as tie
 
+front-requires : tie.Need-front-requires
+front-requires c κs = search needs
+
 close-requires : tie.Need-close-requires
 close-requires c κs = search needs
 
@@ -15,11 +18,11 @@ at-byte-requires c κs = search needs
 
 returns : tie.Need-returns
 unfolding endSession endOut if_then_else_
-returns c = rw (c .before .before .before .if1 .taken) (c .close .ensures)
+returns c = rw (c .before .before .before .before .before .if1 .taken, ← c .before .before .before .front .ensures) (c .close .ensures)
 
 returns-2 : tie.Need-returns-2
 unfolding endSession endOut
 returns-2 c = search cases
 
 pub end-spec : {M : Type 1} → statement M
-end-spec = tie.close (tie.spec close-requires at-byte-requires returns returns-2)
+end-spec = tie.close (tie.spec front-requires close-requires at-byte-requires returns returns-2)

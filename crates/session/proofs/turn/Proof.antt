@@ -98,8 +98,8 @@ same-length-14 c = search needs
 
 returns-4 : tie.Need-returns-4
 returns-4 c =
-    let t = c .before .before .before .before .before .before .before .before .before .take .ensures in
-    took-long _ (desk _ _ _ _ _ _) _ _ (t .0) (t .1) _ _ (c .before .before .before .before .before .enum-told .given .1) (c .before .before .close .ensures)
+    let t = c .before .before .before .before .before .before .before .before .before .before .take .ensures in
+    took-long _ (desk _ _ _ _ _ _) _ _ (t .0) (t .1) _ _ (c .before .before .before .before .before .before .enum-told .given .1) (c .before .before .close .ensures)
 
 pub turn-spec : {M : Type 1} → statement M
 turn-spec =

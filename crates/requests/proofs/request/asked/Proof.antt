@@ -85,29 +85,20 @@ exact-requires-5 c κs = search needs
 call-requires-6 : tie.Need-call-requires-6
 call-requires-6 c κs = search needs
 
-byte-requires-5 : tie.Need-byte-requires-5
-byte-requires-5 c κs = search needs
-
 pair-requires-7 : tie.Need-pair-requires-7
 pair-requires-7 c κs = search needs
-
-cast-exact-4 : tie.Need-cast-exact-4
-cast-exact-4 c = search needs
-
-exact-requires-6 : tie.Need-exact-requires-6
-exact-requires-6 c κs = search needs
-
-byte-requires-6 : tie.Need-byte-requires-6
-byte-requires-6 c κs = search needs
-
-call-requires-7 : tie.Need-call-requires-7
-call-requires-7 c κs = search needs
 
 pair-requires-8 : tie.Need-pair-requires-8
 pair-requires-8 c κs = search needs
 
+exact-requires-6 : tie.Need-exact-requires-6
+exact-requires-6 c κs = search needs
+
 pair-requires-9 : tie.Need-pair-requires-9
 pair-requires-9 c κs = search needs
+
+cast-exact-4 : tie.Need-cast-exact-4
+cast-exact-4 c = search needs
 
 exact-requires-7 : tie.Need-exact-requires-7
 exact-requires-7 c κs = search needs
@@ -115,41 +106,32 @@ exact-requires-7 c κs = search needs
 pair-requires-10 : tie.Need-pair-requires-10
 pair-requires-10 c κs = search needs
 
+pair-requires-11 : tie.Need-pair-requires-11
+pair-requires-11 c κs = search needs
+
+call-requires-7 : tie.Need-call-requires-7
+call-requires-7 c κs = search needs
+
+pair-requires-12 : tie.Need-pair-requires-12
+pair-requires-12 c κs = search needs
+
 cast-exact-5 : tie.Need-cast-exact-5
 cast-exact-5 c = search needs
 
 exact-requires-8 : tie.Need-exact-requires-8
 exact-requires-8 c κs = search needs
 
-pair-requires-11 : tie.Need-pair-requires-11
-pair-requires-11 c κs = search needs
-
-pair-requires-12 : tie.Need-pair-requires-12
-pair-requires-12 c κs = search needs
-
 call-requires-8 : tie.Need-call-requires-8
 call-requires-8 c κs = search needs
-
-pair-requires-13 : tie.Need-pair-requires-13
-pair-requires-13 c κs = search needs
-
-cast-exact-6 : tie.Need-cast-exact-6
-cast-exact-6 c = search needs
 
 exact-requires-9 : tie.Need-exact-requires-9
 exact-requires-9 c κs = search needs
 
-call-requires-9 : tie.Need-call-requires-9
-call-requires-9 c κs = search needs
-
 exact-requires-10 : tie.Need-exact-requires-10
 exact-requires-10 c κs = search needs
 
-exact-requires-11 : tie.Need-exact-requires-11
-exact-requires-11 c κs = search needs
-
-call-requires-10 : tie.Need-call-requires-10
-call-requires-10 c κs = search needs
+call-requires-9 : tie.Need-call-requires-9
+call-requires-9 c κs = search needs
 
 returns : tie.Need-returns
 unfolding askedOf if_then_else_
@@ -197,47 +179,39 @@ returns-11 c = rw (c .before .match .keys11, c .call6 .ensures)
 
 returns-12 : tie.Need-returns-12
 unfolding askedOf if_then_else_
-returns-12 c = rw (c .before .before .before .match .keys12, c .exact6 .ensures, c .before .pair7 .ensures, c .before .before .byte5 .ensures)
+returns-12 c = rw (c .before .before .before .match .keys12, c .exact6 .ensures, c .before .pair8 .ensures, c .before .before .pair7 .ensures)
 
 returns-13 : tie.Need-returns-13
 unfolding askedOf if_then_else_
-returns-13 c = rw (c .before .before .match .keys13, c .call7 .ensures, c .before .byte6 .ensures)
+returns-13 c = rw (c .before .before .match .keys13, c .exact7 .ensures, c .before .pair9 .ensures)
 
 returns-14 : tie.Need-returns-14
 unfolding askedOf if_then_else_
-returns-14 c = rw (c .before .before .before .match .keys14, c .exact7 .ensures, c .before .pair9 .ensures, c .before .before .pair8 .ensures)
+returns-14 c = rw (c .before .before .before .match .keys14, c .call7 .ensures, c .before .pair11 .ensures, c .before .before .pair10 .ensures)
 
 returns-15 : tie.Need-returns-15
 unfolding askedOf if_then_else_
-returns-15 c = rw (c .before .before .match .keys15, c .exact8 .ensures, c .before .pair10 .ensures)
+returns-15 c = rw (c .before .before .match .keys15, c .exact8 .ensures, c .before .pair12 .ensures)
 
 returns-16 : tie.Need-returns-16
 unfolding askedOf if_then_else_
-returns-16 c = rw (c .before .before .before .match .keys16, c .call8 .ensures, c .before .pair12 .ensures, c .before .before .pair11 .ensures)
+returns-16 c = rw (c .before .match .keys16, c .call8 .ensures)
 
 returns-17 : tie.Need-returns-17
 unfolding askedOf if_then_else_
-returns-17 c = rw (c .before .before .match .keys17, c .exact9 .ensures, c .before .pair13 .ensures)
+returns-17 c = rw (c .before .match .keys17, c .exact9 .ensures)
 
 returns-18 : tie.Need-returns-18
 unfolding askedOf if_then_else_
-returns-18 c = rw (c .before .match .keys18, c .call9 .ensures)
+returns-18 c = rw (c .before .match .keys18, c .exact10 .ensures)
 
 returns-19 : tie.Need-returns-19
 unfolding askedOf if_then_else_
-returns-19 c = rw (c .before .match .keys19, c .exact10 .ensures)
+returns-19 c = rw (c .before .match .keys19, c .call9 .ensures)
 
 returns-20 : tie.Need-returns-20
-unfolding askedOf if_then_else_
-returns-20 c = rw (c .before .match .keys20, c .exact11 .ensures)
-
-returns-21 : tie.Need-returns-21
-unfolding askedOf if_then_else_
-returns-21 c = rw (c .before .match .keys21, c .call10 .ensures)
-
-returns-22 : tie.Need-returns-22
 unfolding askedOf
-returns-22 c =
+returns-20 c =
     let n₀ = c .match .rest .1 in
     let n₁ = c .match .rest .0 .1 in
     let n₂ = c .match .rest .0 .0 .1 in
@@ -257,9 +231,7 @@ returns-22 c =
     let n₁₆ = c .match .rest .0 .0 .0 .0 .0 .0 .0 .0 .0 .0 .0 .0 .0 .0 .0 .0 .1 in
     let n₁₇ = c .match .rest .0 .0 .0 .0 .0 .0 .0 .0 .0 .0 .0 .0 .0 .0 .0 .0 .0 .1 in
     let n₁₈ = c .match .rest .0 .0 .0 .0 .0 .0 .0 .0 .0 .0 .0 .0 .0 .0 .0 .0 .0 .0 .1 in
-    let n₁₉ = c .match .rest .0 .0 .0 .0 .0 .0 .0 .0 .0 .0 .0 .0 .0 .0 .0 .0 .0 .0 .0 .1 in
-    let n₂₀ = c .match .rest .0 .0 .0 .0 .0 .0 .0 .0 .0 .0 .0 .0 .0 .0 .0 .0 .0 .0 .0 .0 .1 in
-    search not-eq depth 24
+    search not-eq depth 22
 
 pub asked-spec : {M : Type 1} → statement M
 asked-spec =
@@ -291,28 +263,22 @@ asked-spec =
     call-requires-5
     exact-requires-5
     call-requires-6
-    byte-requires-5
     pair-requires-7
-    cast-exact-4
-    exact-requires-6
-    byte-requires-6
-    call-requires-7
     pair-requires-8
+    exact-requires-6
     pair-requires-9
+    cast-exact-4
     exact-requires-7
     pair-requires-10
+    pair-requires-11
+    call-requires-7
+    pair-requires-12
     cast-exact-5
     exact-requires-8
-    pair-requires-11
-    pair-requires-12
     call-requires-8
-    pair-requires-13
-    cast-exact-6
     exact-requires-9
-    call-requires-9
     exact-requires-10
-    exact-requires-11
-    call-requires-10
+    call-requires-9
     returns
     returns-2
     returns-3
@@ -332,6 +298,4 @@ asked-spec =
     returns-17
     returns-18
     returns-19
-    returns-20
-    returns-21
-    returns-22)
+    returns-20)

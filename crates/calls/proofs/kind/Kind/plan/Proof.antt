@@ -81,29 +81,17 @@ read-charging-voltage-override-requires c κs = search needs
 enum-known-self-6 : tie.Need-enum-known-self-6
 enum-known-self-6 c = search needs
 
-write-register-unchecked-requires : tie.Need-write-register-unchecked-requires
-write-register-unchecked-requires c κs = search needs
+send-access-key-requires : tie.Need-send-access-key-requires
+send-access-key-requires c κs = search needs
 
 enum-known-self-7 : tie.Need-enum-known-self-7
 enum-known-self-7 c = search needs
 
-read-register-unchecked-requires : tie.Need-read-register-unchecked-requires
-read-register-unchecked-requires c κs = search needs
-
-enum-known-self-8 : tie.Need-enum-known-self-8
-enum-known-self-8 c = search needs
-
-send-access-key-requires : tie.Need-send-access-key-requires
-send-access-key-requires c κs = search needs
-
-enum-known-self-9 : tie.Need-enum-known-self-9
-enum-known-self-9 c = search needs
-
 unseal-fg-requires : tie.Need-unseal-fg-requires
 unseal-fg-requires c κs = search needs
 
-enum-known-self-10 : tie.Need-enum-known-self-10
-enum-known-self-10 c = search needs
+enum-known-self-8 : tie.Need-enum-known-self-8
+enum-known-self-8 c = search needs
 
 write-mfg-info-c-requires : tie.Need-write-mfg-info-c-requires
 write-mfg-info-c-requires c κs = search needs
@@ -126,14 +114,14 @@ enum-told-10 c = search needs
 read-mfg-info-requires : tie.Need-read-mfg-info-requires
 read-mfg-info-requires c κs = search needs
 
-enum-known-self-11 : tie.Need-enum-known-self-11
-enum-known-self-11 c = search needs
+enum-known-self-9 : tie.Need-enum-known-self-9
+enum-known-self-9 c = search needs
 
 write-dataflash-requires : tie.Need-write-dataflash-requires
 write-dataflash-requires c κs = search needs
 
-enum-known-self-12 : tie.Need-enum-known-self-12
-enum-known-self-12 c = search needs
+enum-known-self-10 : tie.Need-enum-known-self-10
+enum-known-self-10 c = search needs
 
 read-dataflash-requires : tie.Need-read-dataflash-requires
 read-dataflash-requires c κs = search needs
@@ -188,43 +176,35 @@ returns-12 c = rw (c .before .enum-told7 .given .1, c .read-charging-voltage-ove
 
 returns-13 : tie.Need-returns-13
 unfolding planOf
-returns-13 c = rw (c .before .before .self6 .given .1, c .write-register-unchecked .ensures)
+returns-13 c = rw (c .before .before .self6 .given .1, c .send-access-key .ensures)
 
 returns-14 : tie.Need-returns-14
 unfolding planOf
-returns-14 c = rw (c .before .before .self7 .given .1, c .read-register-unchecked .ensures)
+returns-14 c = rw (c .before .before .self7 .given .1, c .unseal-fg .ensures)
 
 returns-15 : tie.Need-returns-15
 unfolding planOf
-returns-15 c = rw (c .before .before .self8 .given .1, c .send-access-key .ensures)
+returns-15 c = rw (c .before .before .self8 .given .1, c .write-mfg-info-c .ensures)
 
 returns-16 : tie.Need-returns-16
 unfolding planOf
-returns-16 c = rw (c .before .before .self9 .given .1, c .unseal-fg .ensures)
+returns-16 c = rw (c .before .enum-told8 .given .1, c .read-mfg-info-c .ensures)
 
 returns-17 : tie.Need-returns-17
 unfolding planOf
-returns-17 c = rw (c .before .before .self10 .given .1, c .write-mfg-info-c .ensures)
+returns-17 c = rw (c .before .enum-told9 .given .1, c .write-mfg-info .ensures)
 
 returns-18 : tie.Need-returns-18
 unfolding planOf
-returns-18 c = rw (c .before .enum-told8 .given .1, c .read-mfg-info-c .ensures)
+returns-18 c = rw (c .before .enum-told10 .given .1, c .read-mfg-info .ensures)
 
 returns-19 : tie.Need-returns-19
 unfolding planOf
-returns-19 c = rw (c .before .enum-told9 .given .1, c .write-mfg-info .ensures)
+returns-19 c = rw (c .before .before .self9 .given .1, c .write-dataflash .ensures)
 
 returns-20 : tie.Need-returns-20
 unfolding planOf
-returns-20 c = rw (c .before .enum-told10 .given .1, c .read-mfg-info .ensures)
-
-returns-21 : tie.Need-returns-21
-unfolding planOf
-returns-21 c = rw (c .before .before .self11 .given .1, c .write-dataflash .ensures)
-
-returns-22 : tie.Need-returns-22
-unfolding planOf
-returns-22 c = rw (c .before .before .self12 .given .1, c .read-dataflash .ensures)
+returns-20 c = rw (c .before .before .self10 .given .1, c .read-dataflash .ensures)
 
 pub plan-spec : {M : Type 1} → statement M
 plan-spec =
@@ -255,14 +235,10 @@ plan-spec =
     enum-told-7
     read-charging-voltage-override-requires
     enum-known-self-6
-    write-register-unchecked-requires
-    enum-known-self-7
-    read-register-unchecked-requires
-    enum-known-self-8
     send-access-key-requires
-    enum-known-self-9
+    enum-known-self-7
     unseal-fg-requires
-    enum-known-self-10
+    enum-known-self-8
     write-mfg-info-c-requires
     enum-told-8
     read-mfg-info-c-requires
@@ -270,9 +246,9 @@ plan-spec =
     write-mfg-info-requires
     enum-told-10
     read-mfg-info-requires
-    enum-known-self-11
+    enum-known-self-9
     write-dataflash-requires
-    enum-known-self-12
+    enum-known-self-10
     read-dataflash-requires
     returns
     returns-2
@@ -293,6 +269,4 @@ plan-spec =
     returns-17
     returns-18
     returns-19
-    returns-20
-    returns-21
-    returns-22)
+    returns-20)
