@@ -1,6 +1,6 @@
 -- How the program comes to its end: by the rounds that `session` speaks of, one after the other.
 -- Assumes nothing.
-use Prim.Native.Nat.{ℕ, _+_, _≤_, _<_}
+use Prim.Native.Nat.{ℕ, _+_, _≤_}
 use mathlib.Core.Path.{_≡_}
 use mathlib.Core.Bool.{true, false}
 use mathlib.Core.List.{List, [], _++_}
@@ -9,18 +9,10 @@ use Rattle.session.specs.Desk.{Desk}
 use Rattle.session.specs.Loop.{Fresh, Ready, OneRound, Standing}
 use Rattle.session.specs.Laws.{Begins}
 use Rattle.bench_promises.specs.RustBench.{rustPrinted, rustSoFar}
-use Rattle.bench.specs.declared.Brought.{Brought}
-use Rattle.bench.specs.declared.Brought.the-variants as brought
 use Rattle.bench.specs.declared.After.{After}
 use Rattle.bench.specs.declared.Stop.{Stop}
 use Rattle.bench.specs.declared.Ending.{Ending}
 use Rattle.bench.specs.declared.Ending.the-variants as ending
-
--- a read brings a byte at least, into the array that is lent
-abbrev pub Brings : Brought → List ℕ → Type 0
-Brings (brought.Bytes n) chunk = (0 < n) × (n ≤ length chunk)
-Brings brought.End chunk = Unit {0}
-Brings brought.Failed chunk = Unit {0}
 
 -- a round, from the first bytes of an array and a desk to others; none is made where a read was due and failed
 pub record Makes (r : After) (n : ℕ) (chunk : List ℕ) (d : Desk) (next : List ℕ) (v : Desk) : Type 0 where

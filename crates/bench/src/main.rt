@@ -1,5 +1,5 @@
 // The bench program: reads standard input in large chunks and writes what the lines of each give before it reads on. The rest is in `session`.
-use libc::STDIN_FILENO;
+use chunks::Brought;
 use libc::STDOUT_FILENO;
 use protocol::bytes;
 use session::BUFFER_BYTES;
@@ -14,34 +14,7 @@ ghost use Prim.Native.Nat.{_≤_};
 ghost use lib.ListN.{length, take as front};
 ghost use Rattle.session.specs.Desk.{desk, Sized};
 ghost use Rattle.session.specs.Session.{startOf, atByte, takeOf};
-ghost use Rattle.bench.specs.Ending.{Brings, Makes, Stopped};
-
-// What a read brought.
-enum Brought {
-    // So many bytes of the next chunk.
-    Bytes(usize),
-    // The end of the input.
-    End,
-    // An error, which was told on standard error.
-    Failed,
-}
-
-// Reads the next chunk.
-fn read(chunk: &mut [u8; 65536]) -> Brought
-    ensures { λ r. ⌜ Brings r (now (chunk .exit)) ⌝ }
-{
-    let got = libc::read(STDIN_FILENO, chunk);
-    if got < 0 {
-        os::fail(b"bench: standard input");
-        return Brought::Failed;
-    }
-    let n = io::count(got, chunk);
-    if n == 0 {
-        Brought::End
-    } else {
-        Brought::Bytes(n)
-    }
-}
+ghost use Rattle.bench.specs.Ending.{Makes, Stopped};
 
 // What a write left: whether all was written, and the session with nothing laid.
 struct Written {
@@ -119,7 +92,7 @@ fn round(
             n,
         };
     }
-    match read(chunk) {
+    match chunks::read(chunk, b"bench: standard input") {
         Brought::Bytes(k) => After {
             made: true,
             session: session::next_chunk(session),
