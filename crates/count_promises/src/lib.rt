@@ -1,0 +1,1 @@
+// What is promised of the count over all packs. The crate has no code.

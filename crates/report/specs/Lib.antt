@@ -1,0 +1,4 @@
+pub mod Decimal
+pub mod Report
+pub mod Sheet
+pub mod Page
