@@ -11,10 +11,12 @@ use lib.ListN.{length, drop, getD}
 use lib.Dec.{leb, eqb}
 use borrow.Author.Tests.{leb-true, leb-false, eqb-true, eqb-false}
 use Rattle.protocol.specs.Pick.{if_then_else_}
+use Rattle.protocol.specs.Answer.{numberOf}
+use Rattle.protocol.specs.declared.error.Answer.the-variants as answer
 use Rattle.hex.specs.Text.{ascii}
 use Rattle.packs.specs.declared.Said.{Said}
 use Rattle.packs.specs.declared.Said.the-variants as said
-use Rattle.report.specs.Decimal.{decimalOf, numberIn}
+use Rattle.report.specs.Decimal.{inPlaces, decimalOf, numberIn}
 use Rattle.report.specs.Report.{Figures, Report, report, refused, line, byNumber, ofRead, textOf}
 use Rattle.report.proofs.Decimals.{AllDecimal, all-decimal, decimals}
 use Rattle.count_promises.specs.Packs.{saidIn, answersIn, occurs, reportOf, outcomeOf, printedOf}
@@ -260,5 +262,9 @@ inputs-tell s t e = by (files .every s) (files .every t)
         let n = refusals-tell (suc (length (a .packs))) (suc (length (b .packs))) (omega arith) (omega arith) (sym (ap textOf (files .refuses s a)) ∙ e ∙ ap textOf (files .refuses t b)) in
         files .refuses s a ∙ ap refused n ∙ sym (files .refuses t b)
 
+eleven : decimalOf (numberOf answer.BadLine) ≡ ascii "11"
+unfolding decimalOf inPlaces ascii if_then_else_
+eleven = refl
+
 pub tells : Tells
-tells = record { inputs = inputs-tell; reports = reports-tell; refusals = refusals-tell; apart = apart }
+tells = record { inputs = inputs-tell; reports = reports-tell; refusals = refusals-tell; apart = apart; bad-line = eleven }

@@ -4,6 +4,10 @@ use Prim.Native.Nat.{ℕ, _≤_, _<_}
 use mathlib.Core.Path.{_≡_}
 use mathlib.Core.List.{List}
 use mathlib.Core.Option.{some}
+use Rattle.protocol.specs.Answer.{numberOf}
+use Rattle.protocol.specs.declared.error.Answer.the-variants as answer
+use Rattle.hex.specs.Text.{ascii}
+use Rattle.report.specs.Decimal.{decimalOf}
 use Rattle.report.specs.Report.{Figures, Report, report, refused, textOf}
 use Rattle.count_promises.specs.Packs.{saidIn, outcomeOf, printedOf}
 
@@ -31,3 +35,5 @@ pub record Tells : Type 0 where
   pub reports : (r q : Report) → TenDigits r → TenDigits q → textOf (report r) ≡ textOf (report q) → SameReport r q
   pub refusals : (m n : ℕ) → m < 10000000000 → n < 10000000000 → textOf (refused m) ≡ textOf (refused n) → m ≡ n
   pub apart : (r : Report) (n : ℕ) → textOf (report r) ≡ textOf (refused n) → ⊥
+  -- the number in a refusal is that of a bad line
+  pub bad-line : decimalOf (numberOf answer.BadLine) ≡ ascii "11"
