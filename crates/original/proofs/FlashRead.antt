@@ -16,6 +16,8 @@ use Rattle.protocol.specs.Frame.{sealed, macBytes, pairOf}
 use Rattle.protocol.specs.Reply.{macAsk, leadOf, aroundOf, bytesAsked, dataOf}
 use Rattle.protocol.specs.declared.error.Answer.{Answer}
 use Rattle.protocol.specs.declared.error.Answer.the-variants as answer
+use Rattle.engine.specs.Budget.{waited}
+use Rattle.engine.specs.declared.budget.Tally.{Tally}
 use Rattle.engine.specs.declared.limit.Limit.{Limit}
 use Rattle.reading.specs.Parts as parts
 use Rattle.reading.specs.Reading as reading
@@ -25,6 +27,7 @@ use Rattle.reading.specs.declared.call.ReadPlan.{ReadPlan}
 use Rattle.original.specs.Bus.{BusOutcome, Acknowledged, BusError, Timeout, delivered, Made, write, read, Log, made, delayed, Ok, Err, Waiting, Read, _leaving_, busOp_err_ok_}
 use Rattle.original.specs.Fed.{Lending, Lends, fedRead}
 use Rattle.original.specs.OriginalInterface.{toLeBytes, withPec, readChunks, readChunksPec}
+use Rattle.original.proofs.Laws.{one-wait}
 use Rattle.original.proofs.ReadTurns.{length-delivered, at, headAt, askAt, believed, waits-head, waits-read, turn-head, turn-read, after-failure, after-head, after-block, after-last}
 use Rattle.original.proofs.Replies.{checked-last, stored-chunk, length-chunk}
 
@@ -131,15 +134,15 @@ module _ (start : ℕ) where
     believes true i reply e = checked-last 0x44 35 reply e ∙ sym (not-not _)
     believes false i reply e = refl
 
-    stored : (pec : Bool) (i left waits : ℕ) (reply buffer : List ℕ) → length buffer ≡ n → length reply ≡ count pec (n - i * 32) → i * 32 ≤ n
-        → reading.storedOf (at (plan pec) n w false i left waits) reply buffer ≡ placed (i * 32) (min 32 (n - i * 32)) reply buffer
+    stored : (pec : Bool) (i left : ℕ) (tally : Tally) (reply buffer : List ℕ) → length buffer ≡ n → length reply ≡ count pec (n - i * 32) → i * 32 ≤ n
+        → reading.storedOf (at (plan pec) n w false i left tally) reply buffer ≡ placed (i * 32) (min 32 (n - i * 32)) reply buffer
     unfolding reading.storedOf reading.dueAsk parts.askOf parts.blockAsk parts.mostOf dataOf leadOf macAsk if_then_else_
-    stored true i left waits reply buffer b e h =
+    stored true i left tally reply buffer b e h =
         let r : length reply - 3 ≡ 33 = omega arith in
         let k : min 32 (min (length (take 32 (drop 3 reply))) (length buffer - i * 32)) ≡ min 32 (n - i * 32) = rw (length-take, length-drop, r, b) (least-of-33 (n - i * 32)) in
         stored-chunk (i * 32) (min 32 (n - i * 32)) (take 32 (drop 3 reply)) buffer (omega arith) k
         ∙ ap (λ (d : List ℕ). take (i * 32) buffer ++ d ++ drop (i * 32 + min 32 (n - i * 32)) buffer) (take-take (min 32 (n - i * 32)) 32 (drop 3 reply) (omega arith))
-    stored false i left waits reply buffer b e h =
+    stored false i left tally reply buffer b e h =
         let r : length reply - 3 ≡ min 32 (n - i * 32) = omega arith in
         let k : min 32 (min (length (take (min 32 (n - i * 32)) (drop 3 reply))) (length buffer - i * 32)) ≡ min 32 (n - i * 32) = rw (length-take, length-drop, r, b) (least (n - i * 32)) in
         stored-chunk (i * 32) (min 32 (n - i * 32)) (take (min 32 (n - i * 32)) (drop 3 reply)) buffer (omega arith) k
@@ -153,106 +156,107 @@ module _ (start : ℕ) where
 
     -- a call that waits is the loop where it stands
     abbrev Same : Bool → List BusOutcome → Type 0
-    Same pec outcomes = (heading : Bool) (i left waits : ℕ) (buffer : List ℕ) (done : List Made) → length buffer ≡ n → i * 32 < n → waits + left ≤ 65535
-        → fedRead (at (plan pec) n w heading i left waits) buffer lent done outcomes ≡ loop pec left buffer (i * 32) heading (record { transfers = done; waits = waits }) outcomes
+    Same pec outcomes = (heading : Bool) (i left : ℕ) (tally : Tally) (buffer : List ℕ) (done : List Made) → length buffer ≡ n → i * 32 < n → tally .waits + left ≤ 65535
+        → fedRead (at (plan pec) n w heading i left tally) buffer lent done outcomes ≡ loop pec left buffer (i * 32) heading (record { transfers = done; waits = tally .waits }) outcomes
 
-    fault : (pec heading : Bool) (outcomes : List BusOutcome) → Same pec outcomes → (i left waits : ℕ) (why : Answer) (buffer : List ℕ) (done : List Made)
-        → eqb (numberOf why) 0 ≡ false → length buffer ≡ n → i * 32 < n → waits + left ≤ 65535 → (t : Bool) → eqb left 0 ≡ t
-        → fedRead (reading.failOf (at (plan pec) n w heading i left waits) why) buffer lent done outcomes
-        ≡ (if eqb left 0 then Err why (record { transfers = done; waits = waits }) outcomes leaving buffer else loop pec (left - 1) buffer (i * 32) true (record { transfers = done; waits = waits + 1 }) outcomes)
+    fault : (pec heading : Bool) (outcomes : List BusOutcome) → Same pec outcomes → (i left : ℕ) (tally : Tally) (why : Answer) (buffer : List ℕ) (done : List Made)
+        → eqb (numberOf why) 0 ≡ false → length buffer ≡ n → i * 32 < n → tally .waits + left ≤ 65535 → (t : Bool) → eqb left 0 ≡ t
+        → fedRead (reading.failOf (at (plan pec) n w heading i left tally) why) buffer lent done outcomes
+        ≡ (if eqb left 0 then Err why (record { transfers = done; waits = tally .waits }) outcomes leaving buffer else loop pec (left - 1) buffer (i * 32) true (record { transfers = done; waits = tally .waits + 1 }) outcomes)
     unfolding parts.hasHead if_then_else_
-    fault pec heading outcomes ih i left waits why buffer done bad b h c true t =
-        after-failure (plan pec) n w lent heading i left waits why buffer done outcomes c bad true t ∙ rw t
-    fault pec heading outcomes ih i left waits why buffer done bad b h c false t =
-        after-failure (plan pec) n w lent heading i left waits why buffer done outcomes c bad false t
-        ∙ rw t (ih true i (left - 1) (waits + 1) buffer done b h (omega (arith, eqb-false left 0 t)))
+    fault pec heading outcomes ih i left tally why buffer done bad b h c true t =
+        after-failure (plan pec) n w lent heading i left tally why buffer done outcomes bad true t ∙ rw t
+    fault pec heading outcomes ih i left tally why buffer done bad b h c false t =
+        let m : waited tally .waits ≡ tally .waits + 1 = one-wait tally (omega arith) in
+        after-failure (plan pec) n w lent heading i left tally why buffer done outcomes bad false t
+        ∙ rw (t, ← m) (ih true i (left - 1) (waited tally) buffer done b h (omega (arith, eqb-false left 0 t)))
 
     -- a chunk is in the buffer: another is due, or it was the last one
-    next-chunk : (pec : Bool) (outcomes : List BusOutcome) → Same pec outcomes → (i left waits : ℕ) (buffer : List ℕ) (done : List Made) → length buffer ≡ n → i * 32 < n → waits + left ≤ 65535
+    next-chunk : (pec : Bool) (outcomes : List BusOutcome) → Same pec outcomes → (i left : ℕ) (tally : Tally) (buffer : List ℕ) (done : List Made) → length buffer ≡ n → i * 32 < n → tally .waits + left ≤ 65535
         → (t : Bool) → ltb (suc i * 32) n ≡ t
-        → fedRead (reading.advanceOf (at (plan pec) n w false i left waits)) buffer lent done outcomes ≡ loop pec left buffer (i * 32 + min 32 (n - i * 32)) false (record { transfers = done; waits = waits }) outcomes
+        → fedRead (reading.advanceOf (at (plan pec) n w false i left tally)) buffer lent done outcomes ≡ loop pec left buffer (i * 32 + min 32 (n - i * 32)) false (record { transfers = done; waits = tally .waits }) outcomes
     unfolding parts.readCount
-    next-chunk pec outcomes ih i left waits buffer done b h c true t =
+    next-chunk pec outcomes ih i left tally buffer done b h c true t =
         let m : suc i * 32 < n = ltb-true (suc i * 32) n t in
         let k : i * 32 + min 32 (n - i * 32) ≡ suc i * 32 = omega arith in
-        rw (k, after-block (plan pec) n w i left waits (omega arith) (omega arith)) (ih false (suc i) left waits buffer done b m c)
-    next-chunk pec outcomes ih i left waits buffer done b h c false t =
+        rw (k, after-block (plan pec) n w i left tally (omega arith) (omega arith)) (ih false (suc i) left tally buffer done b m c)
+    next-chunk pec outcomes ih i left tally buffer done b h c false t =
         let m : n ≤ suc i * 32 = ltb-false (suc i * 32) n t in
-        after-last (plan pec) n w lent i left waits buffer done outcomes (omega arith) (omega arith)
-        ∙ sym (loop-done pec left buffer (i * 32 + min 32 (n - i * 32)) false (record { transfers = done; waits = waits }) outcomes (omega arith))
+        after-last (plan pec) n w lent i left tally buffer done outcomes (omega arith) (omega arith)
+        ∙ sym (loop-done pec left buffer (i * 32 + min 32 (n - i * 32)) false (record { transfers = done; waits = tally .waits }) outcomes (omega arith))
 
     -- a turn at the address, with what goes out written out
-    turn-address : (pec : Bool) (i left waits : ℕ) (buffer : List ℕ) (done : List Made) (o : BusOutcome) (outcomes : List BusOutcome) → length buffer ≡ n → i * 32 < n
-        → fedRead (at (plan pec) n w true i left waits) buffer lent done (o ∷ outcomes)
+    turn-address : (pec : Bool) (i left : ℕ) (tally : Tally) (buffer : List ℕ) (done : List Made) (o : BusOutcome) (outcomes : List BusOutcome) → length buffer ≡ n → i * 32 < n
+        → fedRead (at (plan pec) n w true i left tally) buffer lent done (o ∷ outcomes)
         ≡ (busOp o
-        err (λ e. fedRead (reading.failOf (at (plan pec) n w true i left waits) e) buffer lent (done ++ (write (address pec (i * 32)) ∷ [])) outcomes)
-        ok (λ bytes. fedRead (at (plan pec) n w false i left waits) buffer lent (done ++ (write (address pec (i * 32)) ∷ [])) outcomes))
+        err (λ e. fedRead (reading.failOf (at (plan pec) n w true i left tally) e) buffer lent (done ++ (write (address pec (i * 32)) ∷ [])) outcomes)
+        ok (λ bytes. fedRead (at (plan pec) n w false i left tally) buffer lent (done ++ (write (address pec (i * 32)) ∷ [])) outcomes))
     unfolding parts.readCount
-    turn-address pec i left waits buffer done o outcomes b h =
-        rw (← framed pec i, ← after-head (plan pec) n w i left waits (omega arith)) (turn-head (plan pec) n w lent steady i left waits buffer done o outcomes b (fits-head i))
+    turn-address pec i left tally buffer done o outcomes b h =
+        rw (← framed pec i, ← after-head (plan pec) n w i left tally (omega arith)) (turn-head (plan pec) n w lent steady i left tally buffer done o outcomes b (fits-head i))
 
     -- a turn at a read
-    turn-chunk : (pec : Bool) (i left waits : ℕ) (buffer : List ℕ) (done : List Made) (o : BusOutcome) (outcomes : List BusOutcome) → length buffer ≡ n → i * 32 < n
-        → fedRead (at (plan pec) n w false i left waits) buffer lent done (o ∷ outcomes)
+    turn-chunk : (pec : Bool) (i left : ℕ) (tally : Tally) (buffer : List ℕ) (done : List Made) (o : BusOutcome) (outcomes : List BusOutcome) → length buffer ≡ n → i * 32 < n
+        → fedRead (at (plan pec) n w false i left tally) buffer lent done (o ∷ outcomes)
         ≡ (busOp o
-        err (λ e. fedRead (reading.failOf (at (plan pec) n w false i left waits) e) buffer lent (done ++ (read 0x44 (count pec (n - i * 32)) ∷ [])) outcomes)
+        err (λ e. fedRead (reading.failOf (at (plan pec) n w false i left tally) e) buffer lent (done ++ (read 0x44 (count pec (n - i * 32)) ∷ [])) outcomes)
         ok (λ bytes. if not (bad pec (delivered (count pec (n - i * 32)) bytes))
-        then fedRead (reading.advanceOf (at (plan pec) n w false i left waits)) (placed (i * 32) (min 32 (n - i * 32)) (delivered (count pec (n - i * 32)) bytes) buffer)
+        then fedRead (reading.advanceOf (at (plan pec) n w false i left tally)) (placed (i * 32) (min 32 (n - i * 32)) (delivered (count pec (n - i * 32)) bytes) buffer)
         lent (done ++ (read 0x44 (count pec (n - i * 32)) ∷ [])) outcomes
-        else fedRead (reading.failOf (at (plan pec) n w false i left waits) answer.Pec) buffer lent (done ++ (read 0x44 (count pec (n - i * 32)) ∷ [])) outcomes))
+        else fedRead (reading.failOf (at (plan pec) n w false i left tally) answer.Pec) buffer lent (done ++ (read 0x44 (count pec (n - i * 32)) ∷ [])) outcomes))
     unfolding busOp_err_ok_
-    turn-chunk pec i left waits buffer done (Acknowledged bytes) outcomes b h =
+    turn-chunk pec i left tally buffer done (Acknowledged bytes) outcomes b h =
         let reply : List ℕ = delivered (count pec (n - i * 32)) bytes in
         let l : length (delivered (count pec (n - i * 32)) bytes) ≡ count pec (n - i * 32) = length-delivered (count pec (n - i * 32)) bytes in
-        turn-read (plan pec) n w lent steady i left waits buffer done (Acknowledged bytes) outcomes b
-        ∙ rw (counted pec i, commanded pec i, believes pec i reply l, stored pec i left waits reply buffer b l (omega arith))
-    turn-chunk pec i left waits buffer done (BusError code) outcomes b h =
-        turn-read (plan pec) n w lent steady i left waits buffer done (BusError code) outcomes b ∙ rw (counted pec i, commanded pec i)
-    turn-chunk pec i left waits buffer done Timeout outcomes b h =
-        turn-read (plan pec) n w lent steady i left waits buffer done Timeout outcomes b ∙ rw (counted pec i, commanded pec i)
+        turn-read (plan pec) n w lent steady i left tally buffer done (Acknowledged bytes) outcomes b
+        ∙ rw (counted pec i, commanded pec i, believes pec i reply l, stored pec i left tally reply buffer b l (omega arith))
+    turn-chunk pec i left tally buffer done (BusError code) outcomes b h =
+        turn-read (plan pec) n w lent steady i left tally buffer done (BusError code) outcomes b ∙ rw (counted pec i, commanded pec i)
+    turn-chunk pec i left tally buffer done Timeout outcomes b h =
+        turn-read (plan pec) n w lent steady i left tally buffer done Timeout outcomes b ∙ rw (counted pec i, commanded pec i)
 
     -- a reply is weighed
-    weighed : (pec : Bool) (outcomes : List BusOutcome) → Same pec outcomes → (i left waits : ℕ) (buffer : List ℕ) (done : List Made) (reply : List ℕ) → length buffer ≡ n → i * 32 < n → waits + left ≤ 65535
+    weighed : (pec : Bool) (outcomes : List BusOutcome) → Same pec outcomes → (i left : ℕ) (tally : Tally) (buffer : List ℕ) (done : List Made) (reply : List ℕ) → length buffer ≡ n → i * 32 < n → tally .waits + left ≤ 65535
         → length reply ≡ count pec (n - i * 32) → (t : Bool)
-        → (if not t then fedRead (reading.advanceOf (at (plan pec) n w false i left waits)) (placed (i * 32) (min 32 (n - i * 32)) reply buffer) lent done outcomes
-        else fedRead (reading.failOf (at (plan pec) n w false i left waits) answer.Pec) buffer lent done outcomes)
-        ≡ (if t then (if eqb left 0 then Err answer.Pec (record { transfers = done; waits = waits }) outcomes leaving buffer else loop pec (left - 1) buffer (i * 32) true (record { transfers = done; waits = waits + 1 }) outcomes)
-        else loop pec left (placed (i * 32) (min 32 (n - i * 32)) reply buffer) (i * 32 + min 32 (n - i * 32)) false (record { transfers = done; waits = waits }) outcomes)
+        → (if not t then fedRead (reading.advanceOf (at (plan pec) n w false i left tally)) (placed (i * 32) (min 32 (n - i * 32)) reply buffer) lent done outcomes
+        else fedRead (reading.failOf (at (plan pec) n w false i left tally) answer.Pec) buffer lent done outcomes)
+        ≡ (if t then (if eqb left 0 then Err answer.Pec (record { transfers = done; waits = tally .waits }) outcomes leaving buffer else loop pec (left - 1) buffer (i * 32) true (record { transfers = done; waits = tally .waits + 1 }) outcomes)
+        else loop pec left (placed (i * 32) (min 32 (n - i * 32)) reply buffer) (i * 32 + min 32 (n - i * 32)) false (record { transfers = done; waits = tally .waits }) outcomes)
     unfolding if_then_else_
-    weighed pec outcomes ih i left waits buffer done reply b h c l true =
-        fault pec false outcomes ih i left waits answer.Pec buffer done refl b h c (eqb left 0) refl
-    weighed pec outcomes ih i left waits buffer done reply b h c l false =
-        next-chunk pec outcomes ih i left waits (placed (i * 32) (min 32 (n - i * 32)) reply buffer) done (as-long pec i reply buffer b l (omega arith)) h c (ltb (suc i * 32) n) refl
+    weighed pec outcomes ih i left tally buffer done reply b h c l true =
+        fault pec false outcomes ih i left tally answer.Pec buffer done refl b h c (eqb left 0) refl
+    weighed pec outcomes ih i left tally buffer done reply b h c l false =
+        next-chunk pec outcomes ih i left tally (placed (i * 32) (min 32 (n - i * 32)) reply buffer) done (as-long pec i reply buffer b l (omega arith)) h c (ltb (suc i * 32) n) refl
 
     pub same : (outcomes : List BusOutcome) (pec : Bool) → Same pec outcomes
     unfolding busOp_err_ok_
-    same [] pec true i left waits buffer done b h c =
-        waits-head (plan pec) n w lent steady i left waits buffer done b (fits-head i)
-        ∙ rw (framed pec i) (sym (address-waits left buffer (i * 32) (record { transfers = done; waits = waits }) (omega arith) pec (omega arith)))
-    same [] pec false i left waits buffer done b h c =
-        waits-read (plan pec) n w lent steady i left waits buffer done b
-        ∙ rw (counted pec i, commanded pec i, ← b) (sym (read-waits left buffer (i * 32) (record { transfers = done; waits = waits }) (omega arith) pec))
-    same (Acknowledged bytes ∷ outcomes) pec true i left waits buffer done b h c =
-        turn-address pec i left waits buffer done (Acknowledged bytes) outcomes b h
-        ∙ same outcomes pec false i left waits buffer _ b h c
-        ∙ sym (address-turn left buffer (i * 32) (record { transfers = done; waits = waits }) (omega arith) pec (Acknowledged bytes) outcomes (omega arith))
-    same (Acknowledged bytes ∷ outcomes) pec false i left waits buffer done b h c =
-        turn-chunk pec i left waits buffer done (Acknowledged bytes) outcomes b h
-        ∙ weighed pec outcomes (same outcomes pec) i left waits buffer _ (delivered (count pec (n - i * 32)) bytes) b h c (length-delivered (count pec (n - i * 32)) bytes) (bad pec (delivered (count pec (n - i * 32)) bytes))
-        ∙ rw (← b) (sym (read-turn left buffer (i * 32) (record { transfers = done; waits = waits }) (omega arith) pec (Acknowledged bytes) outcomes))
-    same (BusError code ∷ outcomes) pec true i left waits buffer done b h c =
-        turn-address pec i left waits buffer done (BusError code) outcomes b h
-        ∙ fault pec true outcomes (same outcomes pec) i left waits (answer.I2c code) buffer _ refl b h c (eqb left 0) refl
-        ∙ sym (address-turn left buffer (i * 32) (record { transfers = done; waits = waits }) (omega arith) pec (BusError code) outcomes (omega arith))
-    same (BusError code ∷ outcomes) pec false i left waits buffer done b h c =
-        turn-chunk pec i left waits buffer done (BusError code) outcomes b h
-        ∙ fault pec false outcomes (same outcomes pec) i left waits (answer.I2c code) buffer _ refl b h c (eqb left 0) refl
-        ∙ rw (← b) (sym (read-turn left buffer (i * 32) (record { transfers = done; waits = waits }) (omega arith) pec (BusError code) outcomes))
-    same (Timeout ∷ outcomes) pec true i left waits buffer done b h c =
-        turn-address pec i left waits buffer done Timeout outcomes b h
-        ∙ fault pec true outcomes (same outcomes pec) i left waits answer.Timeout buffer _ refl b h c (eqb left 0) refl
-        ∙ sym (address-turn left buffer (i * 32) (record { transfers = done; waits = waits }) (omega arith) pec Timeout outcomes (omega arith))
-    same (Timeout ∷ outcomes) pec false i left waits buffer done b h c =
-        turn-chunk pec i left waits buffer done Timeout outcomes b h
-        ∙ fault pec false outcomes (same outcomes pec) i left waits answer.Timeout buffer _ refl b h c (eqb left 0) refl
-        ∙ rw (← b) (sym (read-turn left buffer (i * 32) (record { transfers = done; waits = waits }) (omega arith) pec Timeout outcomes))
+    same [] pec true i left tally buffer done b h c =
+        waits-head (plan pec) n w lent steady i left tally buffer done b (fits-head i)
+        ∙ rw (framed pec i) (sym (address-waits left buffer (i * 32) (record { transfers = done; waits = tally .waits }) (omega arith) pec (omega arith)))
+    same [] pec false i left tally buffer done b h c =
+        waits-read (plan pec) n w lent steady i left tally buffer done b
+        ∙ rw (counted pec i, commanded pec i, ← b) (sym (read-waits left buffer (i * 32) (record { transfers = done; waits = tally .waits }) (omega arith) pec))
+    same (Acknowledged bytes ∷ outcomes) pec true i left tally buffer done b h c =
+        turn-address pec i left tally buffer done (Acknowledged bytes) outcomes b h
+        ∙ same outcomes pec false i left tally buffer _ b h c
+        ∙ sym (address-turn left buffer (i * 32) (record { transfers = done; waits = tally .waits }) (omega arith) pec (Acknowledged bytes) outcomes (omega arith))
+    same (Acknowledged bytes ∷ outcomes) pec false i left tally buffer done b h c =
+        turn-chunk pec i left tally buffer done (Acknowledged bytes) outcomes b h
+        ∙ weighed pec outcomes (same outcomes pec) i left tally buffer _ (delivered (count pec (n - i * 32)) bytes) b h c (length-delivered (count pec (n - i * 32)) bytes) (bad pec (delivered (count pec (n - i * 32)) bytes))
+        ∙ rw (← b) (sym (read-turn left buffer (i * 32) (record { transfers = done; waits = tally .waits }) (omega arith) pec (Acknowledged bytes) outcomes))
+    same (BusError code ∷ outcomes) pec true i left tally buffer done b h c =
+        turn-address pec i left tally buffer done (BusError code) outcomes b h
+        ∙ fault pec true outcomes (same outcomes pec) i left tally (answer.I2c code) buffer _ refl b h c (eqb left 0) refl
+        ∙ sym (address-turn left buffer (i * 32) (record { transfers = done; waits = tally .waits }) (omega arith) pec (BusError code) outcomes (omega arith))
+    same (BusError code ∷ outcomes) pec false i left tally buffer done b h c =
+        turn-chunk pec i left tally buffer done (BusError code) outcomes b h
+        ∙ fault pec false outcomes (same outcomes pec) i left tally (answer.I2c code) buffer _ refl b h c (eqb left 0) refl
+        ∙ rw (← b) (sym (read-turn left buffer (i * 32) (record { transfers = done; waits = tally .waits }) (omega arith) pec (BusError code) outcomes))
+    same (Timeout ∷ outcomes) pec true i left tally buffer done b h c =
+        turn-address pec i left tally buffer done Timeout outcomes b h
+        ∙ fault pec true outcomes (same outcomes pec) i left tally answer.Timeout buffer _ refl b h c (eqb left 0) refl
+        ∙ sym (address-turn left buffer (i * 32) (record { transfers = done; waits = tally .waits }) (omega arith) pec Timeout outcomes (omega arith))
+    same (Timeout ∷ outcomes) pec false i left tally buffer done b h c =
+        turn-chunk pec i left tally buffer done Timeout outcomes b h
+        ∙ fault pec false outcomes (same outcomes pec) i left tally answer.Timeout buffer _ refl b h c (eqb left 0) refl
+        ∙ rw (← b) (sym (read-turn left buffer (i * 32) (record { transfers = done; waits = tally .waits }) (omega arith) pec Timeout outcomes))

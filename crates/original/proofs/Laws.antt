@@ -1,8 +1,9 @@
 -- What the calls share: how a length is measured, and what follows a call.
 -- Assumes nothing.
-use Prim.Native.Nat.{ℕ, _≤_}
+use Prim.Native.Nat.{ℕ, _+_, _≤_, _<_}
 use mathlib.Core.Path.{_≡_, refl, ap}
 use mathlib.Core.List.{List}
+use native.Mathlib.Omega.{arith}
 use lib.ListN.{length}
 use borrow.Author.Tests.{le-ltb}
 use Rattle.protocol.specs.Pick.{if_then_else_}
@@ -10,7 +11,9 @@ use Rattle.protocol.specs.Frame.{fixedPair}
 use Rattle.protocol.specs.declared.error.Answer.{Answer}
 use Rattle.protocol.specs.declared.frame.MacCommand.{MacCommand}
 use Rattle.protocol.specs.declared.frame.MacCommand.the-variants as mac
+use Rattle.engine.specs.Budget.{waited}
 use Rattle.engine.specs.Limit.{measured, admitted}
+use Rattle.engine.specs.declared.budget.Tally.{Tally}
 use Rattle.engine.specs.declared.limit.Limit.{Limit}
 use Rattle.original.specs.Bus.{BusOutcome, Log, Came, Ok, Err, Waiting, settle}
 
@@ -18,6 +21,11 @@ use Rattle.original.specs.Bus.{BusOutcome, Log, Came, Ok, Err, Waiting, 
 pub measure : (l : Limit) (start n w : ℕ) → 39 ≤ w → admitted l start n w ≡ measured l start n
 unfolding admitted if_then_else_
 measure l start n w h = rw (le-ltb w 39 h)
+
+-- a wait is one more
+pub one-wait : (tally : Tally) → tally .waits < 4294967295 → waited tally .waits ≡ tally .waits + 1
+unfolding waited
+one-wait tally h = omega arith
 
 -- a fixed pair is two bytes
 pub fixed-pair : (command : MacCommand) → length (fixedPair command) ≡ 2

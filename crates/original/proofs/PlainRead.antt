@@ -15,6 +15,8 @@ use Rattle.protocol.specs.Reply.{plainAsk, leadOf, bytesAsked, dataOf}
 use Rattle.protocol.specs.declared.common.Config.{Config}
 use Rattle.protocol.specs.declared.error.Answer.{Answer}
 use Rattle.protocol.specs.declared.error.Answer.the-variants as answer
+use Rattle.engine.specs.Budget.{waited}
+use Rattle.engine.specs.declared.budget.Tally.{Tally}
 use Rattle.engine.specs.declared.limit.Limit.{Limit}
 use Rattle.reading.specs.Parts as parts
 use Rattle.reading.specs.Reading as reading
@@ -22,6 +24,7 @@ use Rattle.reading.specs.declared.call.ReadPlan.{ReadPlan}
 use Rattle.original.specs.Bus.{BusOutcome, Acknowledged, BusError, Timeout, delivered, Made, read, Log, delayed, Ok, Err, Read, _leaving_, busOp_err_ok_, copied}
 use Rattle.original.specs.Fed.{Lending, Lends, fedRead}
 use Rattle.original.specs.OriginalInterface.{readLoop}
+use Rattle.original.proofs.Laws.{one-wait}
 use Rattle.original.proofs.ReadTurns.{length-delivered, at, askAt, believed, waits-read, turn-read, after-failure, after-last}
 use Rattle.original.proofs.Replies.{checked-last, count-plain, stored-whole, copied-pick, copied-ok, copied-err, copied-waiting, take-short-of}
 
@@ -38,90 +41,91 @@ module _ (config : Config) (limit : Limit) (command : ℕ) (buffer inner : List 
   unfolding reading.plainPlan parts.askOf
   counted pec h = count-plain command (length inner) pec h
 
-  abbrev now : Bool → ℕ → List Made → Log
-  now pec waits done = record { transfers = done ++ (read command (count pec) ∷ []); waits = waits }
+  abbrev now : Bool → Tally → List Made → Log
+  now pec tally done = record { transfers = done ++ (read command (count pec) ∷ []); waits = tally .waits }
 
   abbrev Same : Bool → List BusOutcome → Type 0
-  Same pec outcomes = (left waits : ℕ) (done : List Made) → waits + left ≤ 65535
-      → fedRead (at (plan pec) (length buffer) w false 0 left waits) buffer lent done outcomes ≡ copied buffer (readLoop left command inner pec (record { transfers = done; waits = waits }) outcomes)
+  Same pec outcomes = (left : ℕ) (tally : Tally) (done : List Made) → tally .waits + left ≤ 65535
+      → fedRead (at (plan pec) (length buffer) w false 0 left tally) buffer lent done outcomes ≡ copied buffer (readLoop left command inner pec (record { transfers = done; waits = tally .waits }) outcomes)
 
-  fault : (pec : Bool) (outcomes : List BusOutcome) → Same pec outcomes → (left waits : ℕ) (why : Answer) (done : List Made) → eqb (numberOf why) 0 ≡ false → waits + left ≤ 65535 → (t : Bool) → eqb left 0 ≡ t
-      → fedRead (reading.failOf (at (plan pec) (length buffer) w false 0 left waits) why) buffer lent (done ++ (read command (count pec) ∷ [])) outcomes
-      ≡ copied buffer (if eqb left 0 then Err why (now pec waits done) outcomes leaving inner else readLoop (left - 1) command inner pec (delayed (now pec waits done)) outcomes)
+  fault : (pec : Bool) (outcomes : List BusOutcome) → Same pec outcomes → (left : ℕ) (tally : Tally) (why : Answer) (done : List Made) → eqb (numberOf why) 0 ≡ false → tally .waits + left ≤ 65535 → (t : Bool) → eqb left 0 ≡ t
+      → fedRead (reading.failOf (at (plan pec) (length buffer) w false 0 left tally) why) buffer lent (done ++ (read command (count pec) ∷ [])) outcomes
+      ≡ copied buffer (if eqb left 0 then Err why (now pec tally done) outcomes leaving inner else readLoop (left - 1) command inner pec (delayed (now pec tally done)) outcomes)
   unfolding reading.plainPlan parts.hasHead copied if_then_else_
-  fault pec outcomes ih left waits why done bad b true t =
-      after-failure (plan pec) (length buffer) w lent false 0 left waits why buffer _ outcomes b bad true t ∙ rw t
-  fault pec outcomes ih left waits why done bad b false t =
-      after-failure (plan pec) (length buffer) w lent false 0 left waits why buffer _ outcomes b bad false t
-      ∙ rw t (ih (left - 1) (waits + 1) _ (omega (arith, eqb-false left 0 t)))
+  fault pec outcomes ih left tally why done bad b true t =
+      after-failure (plan pec) (length buffer) w lent false 0 left tally why buffer _ outcomes bad true t ∙ rw t
+  fault pec outcomes ih left tally why done bad b false t =
+      let m : waited tally .waits ≡ tally .waits + 1 = one-wait tally (omega arith) in
+      after-failure (plan pec) (length buffer) w lent false 0 left tally why buffer _ outcomes bad false t
+      ∙ rw (t, ← m) (ih (left - 1) (waited tally) _ (omega (arith, eqb-false left 0 t)))
 
   -- a reply that is believed fills the buffer
-  filled : (pec : Bool) (left waits : ℕ) (done : List Made) (reply : List ℕ) (outcomes : List BusOutcome) → length reply ≡ count pec
-      → fedRead (reading.advanceOf (at (plan pec) (length buffer) w false 0 left waits)) (reading.storedOf (at (plan pec) (length buffer) w false 0 left waits) reply buffer) lent (done ++ (read command (count pec) ∷ [])) outcomes
-      ≡ Ok (now pec waits done) outcomes leaving take (length buffer) (take (length inner) reply)
+  filled : (pec : Bool) (left : ℕ) (tally : Tally) (done : List Made) (reply : List ℕ) (outcomes : List BusOutcome) → length reply ≡ count pec
+      → fedRead (reading.advanceOf (at (plan pec) (length buffer) w false 0 left tally)) (reading.storedOf (at (plan pec) (length buffer) w false 0 left tally) reply buffer) lent (done ++ (read command (count pec) ∷ [])) outcomes
+      ≡ Ok (now pec tally done) outcomes leaving take (length buffer) (take (length inner) reply)
   unfolding reading.plainPlan reading.storedOf reading.dueAsk parts.askOf parts.mostOf parts.readCount dataOf leadOf plainAsk if_then_else_
-  filled pec left waits done reply outcomes e =
-      after-last (plan pec) (length buffer) w lent 0 left waits _ _ outcomes (omega arith) (omega arith)
-      ∙ ap (λ (b : List ℕ). Ok (now pec waits done) outcomes leaving b) (stored-whole (take (length inner) reply) buffer (rw length-take (by pec e)))
+  filled pec left tally done reply outcomes e =
+      after-last (plan pec) (length buffer) w lent 0 left tally _ _ outcomes (omega arith) (omega arith)
+      ∙ ap (λ (b : List ℕ). Ok (now pec tally done) outcomes leaving b) (stored-whole (take (length inner) reply) buffer (rw length-take (by pec e)))
     where
       by : (pec : Bool) → length reply ≡ (if pec then length inner + 1 else length inner) → length buffer ≤ min (length inner) (length reply)
       by true q = omega arith
       by false q = omega arith
 
   -- what a reply of the right length comes to
-  abbrev weighed : Bool → ℕ → ℕ → List Made → List ℕ → List BusOutcome → Read
-  weighed pec left waits done reply outcomes =
+  abbrev weighed : Bool → ℕ → Tally → List Made → List ℕ → List BusOutcome → Read
+  weighed pec left tally done reply outcomes =
       if believed (plan pec) (length buffer) w 0 reply
-      then fedRead (reading.advanceOf (at (plan pec) (length buffer) w false 0 left waits)) (reading.storedOf (at (plan pec) (length buffer) w false 0 left waits) reply buffer) lent (done ++ (read command (count pec) ∷ [])) outcomes
-      else fedRead (reading.failOf (at (plan pec) (length buffer) w false 0 left waits) answer.Pec) buffer lent (done ++ (read command (count pec) ∷ [])) outcomes
+      then fedRead (reading.advanceOf (at (plan pec) (length buffer) w false 0 left tally)) (reading.storedOf (at (plan pec) (length buffer) w false 0 left tally) reply buffer) lent (done ++ (read command (count pec) ∷ [])) outcomes
+      else fedRead (reading.failOf (at (plan pec) (length buffer) w false 0 left tally) answer.Pec) buffer lent (done ++ (read command (count pec) ∷ [])) outcomes
 
-  plain-reply : (left waits : ℕ) (done : List Made) (reply : List ℕ) (outcomes : List BusOutcome) → length reply ≡ length inner
-      → weighed false left waits done reply outcomes ≡ copied buffer (Ok (now false waits done) outcomes leaving take (length inner) reply)
+  plain-reply : (left : ℕ) (tally : Tally) (done : List Made) (reply : List ℕ) (outcomes : List BusOutcome) → length reply ≡ length inner
+      → weighed false left tally done reply outcomes ≡ copied buffer (Ok (now false tally done) outcomes leaving take (length inner) reply)
   unfolding reading.plainPlan parts.askOf plainAsk believed copied if_then_else_
-  plain-reply left waits done reply outcomes e = filled false left waits done reply outcomes e
+  plain-reply left tally done reply outcomes e = filled false left tally done reply outcomes e
 
-  sealed-reply : (outcomes : List BusOutcome) → Same true outcomes → (left waits : ℕ) (done : List Made) (reply : List ℕ) → length reply ≡ length inner + 1 → waits + left ≤ 65535
+  sealed-reply : (outcomes : List BusOutcome) → Same true outcomes → (left : ℕ) (tally : Tally) (done : List Made) (reply : List ℕ) → length reply ≡ length inner + 1 → tally .waits + left ≤ 65535
       → (t : Bool) → eqb (getD reply (length inner) 0) (pecOf 0 (0x16 ∷ command ∷ 0x17 ∷ take (length inner) reply)) ≡ t
-      → weighed true left waits done reply outcomes
+      → weighed true left tally done reply outcomes
       ≡ copied buffer (if not t then
-      (if eqb left 0 then Err answer.Pec (now true waits done) outcomes leaving inner else readLoop (left - 1) command inner true (delayed (now true waits done)) outcomes)
-      else Ok (now true waits done) outcomes leaving take (length inner) reply)
+      (if eqb left 0 then Err answer.Pec (now true tally done) outcomes leaving inner else readLoop (left - 1) command inner true (delayed (now true tally done)) outcomes)
+      else Ok (now true tally done) outcomes leaving take (length inner) reply)
   unfolding reading.plainPlan parts.askOf plainAsk believed copied if_then_else_
-  sealed-reply outcomes ih left waits done reply e b true t =
-      rw (checked-last command (length inner) reply e, t) (filled true left waits done reply outcomes e)
-  sealed-reply outcomes ih left waits done reply e b false t =
-      rw (checked-last command (length inner) reply e, t) (fault true outcomes ih left waits answer.Pec done refl b (eqb left 0) refl)
+  sealed-reply outcomes ih left tally done reply e b true t =
+      rw (checked-last command (length inner) reply e, t) (filled true left tally done reply outcomes e)
+  sealed-reply outcomes ih left tally done reply e b false t =
+      rw (checked-last command (length inner) reply e, t) (fault true outcomes ih left tally answer.Pec done refl b (eqb left 0) refl)
 
   -- a turn, with what is asked for written out
-  turn : (pec : Bool) → count pec ≤ 18446744073709551615 → (left waits : ℕ) (done : List Made) (o : BusOutcome) (outcomes : List BusOutcome)
-      → fedRead (at (plan pec) (length buffer) w false 0 left waits) buffer lent done (o ∷ outcomes)
+  turn : (pec : Bool) → count pec ≤ 18446744073709551615 → (left : ℕ) (tally : Tally) (done : List Made) (o : BusOutcome) (outcomes : List BusOutcome)
+      → fedRead (at (plan pec) (length buffer) w false 0 left tally) buffer lent done (o ∷ outcomes)
       ≡ (busOp o
-      err (λ e. fedRead (reading.failOf (at (plan pec) (length buffer) w false 0 left waits) e) buffer lent (done ++ (read command (count pec) ∷ [])) outcomes)
-      ok (λ bytes. weighed pec left waits done (delivered (count pec) bytes) outcomes))
+      err (λ e. fedRead (reading.failOf (at (plan pec) (length buffer) w false 0 left tally) e) buffer lent (done ++ (read command (count pec) ∷ [])) outcomes)
+      ok (λ bytes. weighed pec left tally done (delivered (count pec) bytes) outcomes))
   unfolding reading.plainPlan parts.askOf plainAsk
-  turn pec h left waits done o outcomes = rw (← counted pec h) (turn-read (plan pec) (length buffer) w lent steady 0 left waits buffer done o outcomes refl)
+  turn pec h left tally done o outcomes = rw (← counted pec h) (turn-read (plan pec) (length buffer) w lent steady 0 left tally buffer done o outcomes refl)
 
-  replied : (pec : Bool) (outcomes : List BusOutcome) → Same pec outcomes → (left waits : ℕ) (done : List Made) (reply : List ℕ) → length reply ≡ count pec → waits + left ≤ 65535
-      → weighed pec left waits done reply outcomes
+  replied : (pec : Bool) (outcomes : List BusOutcome) → Same pec outcomes → (left : ℕ) (tally : Tally) (done : List Made) (reply : List ℕ) → length reply ≡ count pec → tally .waits + left ≤ 65535
+      → weighed pec left tally done reply outcomes
       ≡ copied buffer (if pec && not (eqb (getD reply (length inner) 0) (pecOf 0 (0x16 ∷ command ∷ 0x17 ∷ take (length inner) reply))) then
-      (if eqb left 0 then Err answer.Pec (now pec waits done) outcomes leaving inner else readLoop (left - 1) command inner pec (delayed (now pec waits done)) outcomes)
-      else Ok (now pec waits done) outcomes leaving take (length inner) reply)
+      (if eqb left 0 then Err answer.Pec (now pec tally done) outcomes leaving inner else readLoop (left - 1) command inner pec (delayed (now pec tally done)) outcomes)
+      else Ok (now pec tally done) outcomes leaving take (length inner) reply)
   unfolding if_then_else_
-  replied true outcomes ih left waits done reply l b = sealed-reply outcomes ih left waits done reply l b _ refl
-  replied false outcomes ih left waits done reply l b = plain-reply left waits done reply outcomes l
+  replied true outcomes ih left tally done reply l b = sealed-reply outcomes ih left tally done reply l b _ refl
+  replied false outcomes ih left tally done reply l b = plain-reply left tally done reply outcomes l
 
   pub same : (pec : Bool) → count pec ≤ 18446744073709551615 → (outcomes : List BusOutcome) → Same pec outcomes
   unfolding readLoop copied busOp_err_ok_ reading.plainPlan parts.askOf plainAsk
-  same pec h [] left waits done b = rw (← counted pec h) (waits-read (plan pec) (length buffer) w lent steady 0 left waits buffer done refl)
-  same pec h (Acknowledged bytes ∷ outcomes) left waits done b =
-      turn pec h left waits done (Acknowledged bytes) outcomes
-      ∙ replied pec outcomes (same pec h outcomes) left waits done (delivered (count pec) bytes) (length-delivered (count pec) bytes) b
-  same pec h (BusError code ∷ outcomes) left waits done b =
-      turn pec h left waits done (BusError code) outcomes
-      ∙ fault pec outcomes (same pec h outcomes) left waits (answer.I2c code) done refl b (eqb left 0) refl
-  same pec h (Timeout ∷ outcomes) left waits done b =
-      turn pec h left waits done Timeout outcomes
-      ∙ fault pec outcomes (same pec h outcomes) left waits answer.Timeout done refl b (eqb left 0) refl
+  same pec h [] left tally done b = rw (← counted pec h) (waits-read (plan pec) (length buffer) w lent steady 0 left tally buffer done refl)
+  same pec h (Acknowledged bytes ∷ outcomes) left tally done b =
+      turn pec h left tally done (Acknowledged bytes) outcomes
+      ∙ replied pec outcomes (same pec h outcomes) left tally done (delivered (count pec) bytes) (length-delivered (count pec) bytes) b
+  same pec h (BusError code ∷ outcomes) left tally done b =
+      turn pec h left tally done (BusError code) outcomes
+      ∙ fault pec outcomes (same pec h outcomes) left tally (answer.I2c code) done refl b (eqb left 0) refl
+  same pec h (Timeout ∷ outcomes) left tally done b =
+      turn pec h left tally done Timeout outcomes
+      ∙ fault pec outcomes (same pec h outcomes) left tally answer.Timeout done refl b (eqb left 0) refl
 
 -- a read into the caller's own buffer
 module _ (command : ℕ) (buffer : List ℕ) (pec : Bool) where

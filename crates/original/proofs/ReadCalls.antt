@@ -18,6 +18,7 @@ use Rattle.protocol.specs.declared.error.Answer.the-variants as answer
 use Rattle.protocol.specs.declared.frame.MacCommand.{MacCommand}
 use Rattle.protocol.specs.declared.frame.MacCommand.the-variants as mac
 use Rattle.protocol.proofs.WindowLaws.{within}
+use Rattle.engine.specs.Budget.{nothing}
 use Rattle.engine.specs.Limit.{measured, admitted, windowed, commanded}
 use Rattle.engine.specs.declared.limit.Limit.{Limit}
 use Rattle.engine.specs.declared.limit.Limit.the-variants as limit
@@ -68,10 +69,10 @@ module _ (config : Config) (small : config .«max_bus_retries» ≤ 65535) (w : 
   -- a plain read that is admitted, into bytes of its own that are copied
   plain : (l : Limit) (command : ℕ) (buffer inner : List ℕ) (pec : Bool) → measured l 0 (length buffer) ≡ phase.Waiting → length buffer ≤ length inner → (if pec then length inner + 1 else length inner) ≤ 18446744073709551615
       → reads (reading.plainPlan config l (plainAsk command (length inner) pec)) buffer w lent outcomes ≡ copied buffer (rust.readWithRetries config command inner pec begun outcomes)
-  unfolding reading.plainPlan parts.hasHead parts.firstAddress rust.readWithRetries
+  unfolding reading.plainPlan parts.hasHead parts.firstAddress rust.readWithRetries nothing
   plain l command buffer inner pec m h few =
       started (reading.plainPlan config l (plainAsk command (length inner) pec)) (length buffer) w lent buffer outcomes (measure l 0 (length buffer) w roomy ∙ m)
-      ∙ plain-read.same config l command buffer inner w lent steady h pec few outcomes (config .«max_bus_retries») 0 [] (omega arith)
+      ∙ plain-read.same config l command buffer inner w lent steady h pec few outcomes (config .«max_bus_retries») nothing [] (omega arith)
 
   -- and one into the caller's own
   plain-own : (l : Limit) (command : ℕ) (buffer : List ℕ) (pec : Bool) → measured l 0 (length buffer) ≡ phase.Waiting → (if pec then length buffer + 1 else length buffer) ≤ 18446744073709551615
@@ -115,11 +116,11 @@ module _ (config : Config) (small : config .«max_bus_retries» ≤ 65535) (w : 
   -- a MAC read that is admitted, into bytes of its own that are copied
   behind : (l : Limit) (command : MacCommand) (buffer inner : List ℕ) → measured l 0 (length buffer) ≡ phase.Waiting → length buffer ≤ length inner → length inner ≤ 32
       → reads (reading.macPlan config l command (length inner)) buffer w lent outcomes ≡ copied buffer (rust.macReadWithRetries config (0x44 ∷ 2 ∷ fixedPair command) inner begun outcomes)
-  unfolding reading.macPlan parts.hasHead parts.firstAddress parts.headBytes rust.macReadWithRetries
+  unfolding reading.macPlan parts.hasHead parts.firstAddress parts.headBytes rust.macReadWithRetries nothing
   behind l command buffer inner m h least =
       started (reading.macPlan config l command (length inner)) (length buffer) w lent buffer outcomes (measure l 0 (length buffer) w roomy ∙ m)
       ∙ mac-read.at-frame (config .«max_bus_retries») l (head.Mac command) 0x44 (0x44 ∷ 2 ∷ fixedPair command) buffer inner w lent steady refl (mac-head command) refl (omega (arith, fixed-pair command)) h least
-      outcomes (config .«pec_read») (config .«max_bus_retries») 0 [] (omega arith)
+      outcomes (config .«pec_read») (config .«max_bus_retries») nothing [] (omega arith)
 
   -- and one into the caller's own
   behind-own : (l : Limit) (command : MacCommand) (buffer : List ℕ) → measured l 0 (length buffer) ≡ phase.Waiting → length buffer ≤ 32
@@ -171,7 +172,7 @@ module _ (config : Config) (small : config .«max_bus_retries» ≤ 65535) (w : 
   dataflash-by : (start : ℕ) (buffer : List ℕ) (t : Bool) → inWindow start (length buffer) ≡ t → (n : Bool) → eqb (length buffer) 0 ≡ n
       → reads (machine-r5.readDataflash config start) buffer w lent outcomes
       ≡ (if rust.checkDfRange start (length buffer) then flash-read.loop start (config .«pec_read») (config .«max_bus_retries») buffer 0 true begun outcomes else Err answer.DataFlashAddressOutOfRange begun outcomes leaving buffer)
-  unfolding machine-r5.readDataflash parts.hasHead parts.firstAddress measured admitted windowed answered if_then_else_
+  unfolding machine-r5.readDataflash parts.hasHead parts.firstAddress measured admitted windowed answered if_then_else_ nothing
   dataflash-by start buffer false t n e =
       no-transfer (machine-r5.readDataflash config start) (length buffer) w lent buffer answer.DataFlashAddressOutOfRange outcomes (rw (le-ltb w 39 roomy, t)) ∙ rw (range-window, t)
   dataflash-by start buffer true t true e =
@@ -181,7 +182,7 @@ module _ (config : Config) (small : config .«max_bus_retries» ≤ 65535) (w : 
       let some : 0 < length buffer = omega (arith, eqb-false (length buffer) 0 e) in
       let far : (0x4000 ≤ start) × (start + length buffer ≤ 0x6000) = within start (length buffer) t some in
       started (machine-r5.readDataflash config start) (length buffer) w lent buffer outcomes (rw (le-ltb w 39 roomy, t, e))
-      ∙ flash-read.same start (config .«max_bus_retries») limit.Window (length buffer) w lent steady roomy (far .0) (far .1) outcomes (config .«pec_read») true 0 (config .«max_bus_retries») 0 buffer [] refl some (omega arith)
+      ∙ flash-read.same start (config .«max_bus_retries») limit.Window (length buffer) w lent steady roomy (far .0) (far .1) outcomes (config .«pec_read») true 0 (config .«max_bus_retries») nothing buffer [] refl some (omega arith)
       ∙ rw (range-window, t)
 
   pub read-dataflash : (start : ℕ) (buffer : List ℕ) → reads (machine-r5.readDataflash config start) buffer w lent outcomes ≡ rust-r5.readDataflash config start buffer begun outcomes
@@ -192,16 +193,16 @@ module _ (config : Config) (small : config .«max_bus_retries» ≤ 65535) (w : 
       → reads (machine.dispatchCommand config address (length input) (length output)) output w lent outcomes
       ≡ (if eqb (length output) 0 then rust.macWriteWithRetries config (address / 65536 % 256 ∷ 2 ∷ address / 256 % 256 ∷ address % 256 ∷ []) begun outcomes leaving output
       else rust.macReadWithRetries config (address / 65536 % 256 ∷ 2 ∷ address / 256 % 256 ∷ address % 256 ∷ []) output begun outcomes)
-  unfolding machine.dispatchCommand machine.commandPec machine.commandReads parts.hasHead parts.firstAddress parts.headBytes commandBytes headAt sealed if_then_else_ rust.withPec rust.writeWithRetries rust.macWriteWithRetries rust.macReadWithRetries
+  unfolding machine.dispatchCommand machine.commandPec machine.commandReads parts.hasHead parts.firstAddress parts.headBytes commandBytes headAt sealed if_then_else_ rust.withPec rust.writeWithRetries rust.macWriteWithRetries rust.macReadWithRetries nothing
   dispatched address input output m h true n =
       let alone : machine.dispatchCommand config address (length input) (length output) .reads ≡ reads-of.Nothing = rw n in
       started (machine.dispatchCommand config address (length input) (length output)) (length output) w lent output outcomes (measure (limit.Command (length input)) 0 (length output) w roomy ∙ m)
-      ∙ only-head.same (machine.dispatchCommand config address (length input) (length output)) output w lent steady refl alone (omega arith) outcomes (config .«max_bus_retries») 0 [] (omega arith)
+      ∙ only-head.same (machine.dispatchCommand config address (length input) (length output)) output w lent steady refl alone (omega arith) outcomes (config .«max_bus_retries») nothing [] (omega arith)
       ∙ rw n
   dispatched address input output m h false n =
       rw n (started (reading.planOf config (limit.Command (length input)) (head.Command address) (config .«pec_read») (reads-of.Once (macAsk (address / 65536 % 256) (length output) (config .«pec_read»)))) (length output) w lent output outcomes (measure (limit.Command (length input)) 0 (length output) w roomy ∙ m)
       ∙ mac-read.at-frame (config .«max_bus_retries») (limit.Command (length input)) (head.Command address) (address / 65536 % 256) (commandBytes address) output output w lent steady refl refl refl (omega arith) (omega arith) h
-      outcomes (config .«pec_read») (config .«max_bus_retries») 0 [] (omega arith)
+      outcomes (config .«pec_read») (config .«max_bus_retries») nothing [] (omega arith)
       ∙ mac-read.own (commandBytes address) output (config .«pec_read») outcomes (config .«max_bus_retries») begun)
 
   pub dispatch-command : (address : ℕ) (input output : List ℕ) → rust.dispatchPanics input output ≡ false

@@ -20,6 +20,7 @@ use Rattle.engine.specs.Pick.{case_waiting_ended_, case_acknowledged_error_time
 use Rattle.engine.specs.Budget.{failed, moreOf, nothing, waited}
 use Rattle.engine.specs.Bus.{writeOf, phaseAfter, fitsOf}
 use Rattle.engine.specs.Limit.{admitted}
+use Rattle.engine.specs.declared.budget.Tally.{Tally}
 use Rattle.engine.specs.declared.bus.Phase.the-variants as phase
 use Rattle.writing.specs.Frames.{isFlash, firstAddress, bytesAt, frameCount}
 use Rattle.writing.specs.Writing as writing
@@ -29,6 +30,7 @@ use Rattle.writing.specs.declared.call.WriteCall.{WriteCall}
 use Rattle.original.specs.Bus.{BusOutcome, Acknowledged, BusError, Timeout, Made, brings, write, Log, begun, delayed, Came, Ok, Err, busOp_err_ok_, settle}
 use Rattle.original.specs.Fed.{Lending, Lends, told, reply, answered, shows_sending_transfer_answer_, wrote_taken_refused_, fedWrite}
 use Rattle.original.specs.OriginalInterface.{writeWithRetriesInternal}
+use Rattle.original.proofs.Laws.{one-wait}
 
 -- one that has ended says its answer
 at-end : (call : WriteCall) (payload : List ℕ) (lent : ℕ → Lending) (done : List Made) (a : Answer) → call .phase ≡ phase.Ended a
@@ -49,19 +51,19 @@ gave-up fs i why log outcomes e = by (isFlash fs) (eqb i 0)
     by false first = rw e
 
 module _ (plan : WritePlan) (payload : List ℕ) (w : ℕ) where
-  -- the call that has sent i frames and waits, with `left` retries for the frame that is due
-  abbrev pub at : ℕ → ℕ → ℕ → WriteCall
-  at i left waits = record {
+  -- the call that has sent i frames and waits, with `left` retries for the frame that is due and what it has counted
+  abbrev pub at : ℕ → ℕ → Tally → WriteCall
+  at i left tally = record {
     task = record { plan = plan; lent = record { length = length payload; work = w } };
     phase = phase.Waiting;
     sent = i;
     budget = record { left = left };
-    tally = record { waits = waits };
+    tally = tally;
   }
 
   -- whether the caller's own bytes go out
   abbrev pub own : Bool
-  own = writing.ownBytes (at 0 0 0)
+  own = writing.ownBytes (at 0 0 nothing)
 
   -- frame i as it goes out
   unfoldable pub frameAt : ℕ → List ℕ
@@ -72,33 +74,33 @@ module _ (plan : WritePlan) (payload : List ℕ) (w : ℕ) where
   fits = rw (eq-eqb (length payload) (length payload) refl, eq-eqb w w refl)
 
   -- what it shows: frame i
-  shown : {A : Type 0} (i left waits : ℕ) (work : List ℕ) (f : Made → A) (g : Answer → A) → length work ≡ w → (own ≡ false → length (bytesAt (plan .frames) i payload) < w)
+  shown : {A : Type 0} (i left : ℕ) (tally : Tally) (work : List ℕ) (f : Made → A) (g : Answer → A) → length work ≡ w → (own ≡ false → length (bytesAt (plan .frames) i payload) < w)
       → (t : Bool) → own ≡ t
-      → (shows writing.nextOf (at i left waits) payload (length work) sending writing.partOf (at i left waits) payload (writing.workAfter (at i left waits) payload work) transfer f answer g) ≡ f (write (frameAt i))
+      → (shows writing.nextOf (at i left tally) payload (length work) sending writing.partOf (at i left tally) payload (writing.workAfter (at i left tally) payload work) transfer f answer g) ≡ f (write (frameAt i))
   unfolding writing.nextOf writing.workAfter writing.partOf writing.ownBytes writing.shownOf writing.workShown writing.dueBytes case_waiting_ended_ frameAt shows_sending_transfer_answer_ if_then_else_ sendOf laidOf workLaid writeOf
-  shown i left waits work f g e h true o = rw (e, fits, o, o, take-length)
-  shown i left waits work f g e h false o = rw (e, fits, lt-ltb _ _ (h o), o, o, take-over)
+  shown i left tally work f g e h true o = rw (e, fits, o, o, take-length)
+  shown i left tally work f g e h false o = rw (e, fits, lt-ltb _ _ (h o), o, o, take-over)
 
   -- showing leaves the work buffer as long as it was
-  kept : (i left waits : ℕ) (work : List ℕ) → length work ≡ w → (own ≡ false → length (bytesAt (plan .frames) i payload) < w)
-      → (t : Bool) → own ≡ t → length (writing.workAfter (at i left waits) payload work) ≡ w
+  kept : (i left : ℕ) (tally : Tally) (work : List ℕ) → length work ≡ w → (own ≡ false → length (bytesAt (plan .frames) i payload) < w)
+      → (t : Bool) → own ≡ t → length (writing.workAfter (at i left tally) payload work) ≡ w
   unfolding writing.workAfter writing.ownBytes writing.workShown writing.dueBytes case_waiting_ended_ if_then_else_ workLaid
-  kept i left waits work e h true o = rw (e, fits, o) e
-  kept i left waits work e h false o =
+  kept i left tally work e h true o = rw (e, fits, o) e
+  kept i left tally work e h false o =
       let short : length (sealed (plan .pec) (bytesAt (plan .frames) i payload)) ≤ length work = omega (arith, h o, length-sealed (plan .pec) (bytesAt (plan .frames) i payload)) in
       rw (e, fits, lt-ltb _ _ (h o), o, length-over) e
 
   -- a report is taken
-  reported : {A : Type 0} (i left waits : ℕ) (frame beside : List ℕ) (o : BusOutcome) (f : WriteCall → A) (g : Answer → A) (n : ℕ) → n ≡ w
-      → (wrote writing.reportOf (at i left waits) (told o) (length (reply (write frame) beside o)) (length payload) n taken f refused g) ≡ f (writing.settleOf (at i left waits) (told o))
+  reported : {A : Type 0} (i left : ℕ) (tally : Tally) (frame beside : List ℕ) (o : BusOutcome) (f : WriteCall → A) (g : Answer → A) (n : ℕ) → n ≡ w
+      → (wrote writing.reportOf (at i left tally) (told o) (length (reply (write frame) beside o)) (length payload) n taken f refused g) ≡ f (writing.settleOf (at i left tally) (told o))
   unfolding writing.reportOf writing.repliedOf told reply brings case_waiting_ended_ case_acknowledged_error_timeout_ wrote_taken_refused_ if_then_else_
-  reported i left waits frame beside (Acknowledged bytes) f g n e = rw (e, fits)
-  reported i left waits frame beside (BusError code) f g n e = rw (e, fits)
-  reported i left waits frame beside Timeout f g n e = rw (e, fits)
+  reported i left tally frame beside (Acknowledged bytes) f g n e = rw (e, fits)
+  reported i left tally frame beside (BusError code) f g n e = rw (e, fits)
+  reported i left tally frame beside Timeout f g n e = rw (e, fits)
 
   -- what it has done, once frame i is out
-  abbrev out : ℕ → ℕ → List Made → Log
-  out i waits done = record { transfers = done ++ (write (frameAt i) ∷ []); waits = waits }
+  abbrev out : ℕ → Tally → List Made → Log
+  out i tally done = record { transfers = done ++ (write (frameAt i) ∷ []); waits = tally .waits }
 
   -- frames from i on, each with a budget of its own
   unfoldable pub each : ℕ → ℕ → Log → List BusOutcome → Came
@@ -108,81 +110,81 @@ module _ (plan : WritePlan) (payload : List ℕ) (w : ℕ) where
 
   module _ (lent : ℕ → Lending) (steady : Lends w lent) where
     -- a failed attempt
-    after-failure : (i left waits : ℕ) (why : Answer) (done : List Made) (outcomes : List BusOutcome) (t : Bool) → eqb left 0 ≡ t
-        → fedWrite (writing.failOf (at i left waits) why) payload lent done outcomes
-        ≡ (if eqb left 0 then answered (writing.gaveUp (plan .frames) i why) (record { transfers = done; waits = waits }) outcomes
-        else fedWrite (at i (left - 1) (moreOf waits)) payload lent done outcomes)
+    after-failure : (i left : ℕ) (tally : Tally) (why : Answer) (done : List Made) (outcomes : List BusOutcome) (t : Bool) → eqb left 0 ≡ t
+        → fedWrite (writing.failOf (at i left tally) why) payload lent done outcomes
+        ≡ (if eqb left 0 then answered (writing.gaveUp (plan .frames) i why) (record { transfers = done; waits = tally .waits }) outcomes
+        else fedWrite (at i (left - 1) (waited tally)) payload lent done outcomes)
     unfolding writing.failOf writing.endOf writing.retryOf failed waited case_retry_spent_ if_then_else_
-    after-failure i left waits why done outcomes true e =
-        let f : writing.failOf (at i left waits) why ≡ writing.endOf (at i left waits) why = rw e in
-        rw (f, e) (at-end (writing.endOf (at i left waits) why) payload lent done _ refl outcomes)
-    after-failure i left waits why done outcomes false e = rw e
+    after-failure i left tally why done outcomes true e =
+        let f : writing.failOf (at i left tally) why ≡ writing.endOf (at i left tally) why = rw e in
+        rw (f, e) (at-end (writing.endOf (at i left tally) why) payload lent done _ refl outcomes)
+    after-failure i left tally why done outcomes false e = rw e
 
     -- a turn: frame i goes out, and what the bus did with it is reported
-    turn : (i left waits : ℕ) (done : List Made) (o : BusOutcome) (outcomes : List BusOutcome) → (own ≡ false → length (bytesAt (plan .frames) i payload) < w)
-        → fedWrite (at i left waits) payload lent done (o ∷ outcomes)
-        ≡ fedWrite (writing.settleOf (at i left waits) (told o)) payload lent (done ++ (write (frameAt i) ∷ [])) outcomes
+    turn : (i left : ℕ) (tally : Tally) (done : List Made) (o : BusOutcome) (outcomes : List BusOutcome) → (own ≡ false → length (bytesAt (plan .frames) i payload) < w)
+        → fedWrite (at i left tally) payload lent done (o ∷ outcomes)
+        ≡ fedWrite (writing.settleOf (at i left tally) (told o)) payload lent (done ++ (write (frameAt i) ∷ [])) outcomes
     unfolding fedWrite
-    turn i left waits done o outcomes h =
-        shown i left waits (lent (length done) .work) _ _ (steady (length done)) h own refl
-        ∙ reported i left waits (frameAt i) (lent (length done) .beside) o _ _ _ (kept i left waits (lent (length done) .work) (steady (length done)) h own refl)
+    turn i left tally done o outcomes h =
+        shown i left tally (lent (length done) .work) _ _ (steady (length done)) h own refl
+        ∙ reported i left tally (frameAt i) (lent (length done) .beside) o _ _ _ (kept i left tally (lent (length done) .work) (steady (length done)) h own refl)
 
     module _ (room : (i : ℕ) → i < frameCount (plan .frames) (length payload) → own ≡ false → length (bytesAt (plan .frames) i payload) < w)
         (few : frameCount (plan .frames) (length payload) ≤ 256) (small : plan .retries ≤ 65535) where
       -- what a call does that waits
       abbrev Same : List BusOutcome → Type 0
-      Same outcomes = (todo i left waits : ℕ) (done : List Made) → suc (i + todo) ≡ frameCount (plan .frames) (length payload) → left ≤ 65535 → waits + left ≤ suc i * 65535
-          → fedWrite (at i left waits) payload lent done outcomes
-          ≡ settle (each todo (suc i)) (writing.gaveUp (plan .frames) i) (writeWithRetriesInternal left (frameAt i) (record { transfers = done; waits = waits }) outcomes)
+      Same outcomes = (todo i left : ℕ) (tally : Tally) (done : List Made) → suc (i + todo) ≡ frameCount (plan .frames) (length payload) → left ≤ 65535 → tally .waits + left ≤ suc i * 65535
+          → fedWrite (at i left tally) payload lent done outcomes
+          ≡ settle (each todo (suc i)) (writing.gaveUp (plan .frames) i) (writeWithRetriesInternal left (frameAt i) (record { transfers = done; waits = tally .waits }) outcomes)
 
-      after-frame : (outcomes : List BusOutcome) → Same outcomes → (todo i left waits : ℕ) (done : List Made) → suc (i + todo) ≡ frameCount (plan .frames) (length payload) → waits ≤ suc i * 65535
-          → fedWrite (writing.advanceOf (at i left waits)) payload lent done outcomes ≡ each todo (suc i) (record { transfers = done; waits = waits }) outcomes
+      after-frame : (outcomes : List BusOutcome) → Same outcomes → (todo i left : ℕ) (tally : Tally) (done : List Made) → suc (i + todo) ≡ frameCount (plan .frames) (length payload) → tally .waits ≤ suc i * 65535
+          → fedWrite (writing.advanceOf (at i left tally)) payload lent done outcomes ≡ each todo (suc i) (record { transfers = done; waits = tally .waits }) outcomes
       unfolding each writing.advanceOf phaseAfter answered if_then_else_
-      after-frame outcomes ih zero i left waits done c b =
+      after-frame outcomes ih zero i left tally done c b =
           let m : moreOf i ≡ suc i = omega arith in
-          let p : writing.advanceOf (at i left waits) .phase ≡ phase.Ended answer.Done = rw (m, le-leb (frameCount (plan .frames) (length payload)) (suc i) (omega arith)) in
-          at-end (writing.advanceOf (at i left waits)) payload lent done answer.Done p outcomes
-      after-frame outcomes ih (suc todo) i left waits done c b =
+          let p : writing.advanceOf (at i left tally) .phase ≡ phase.Ended answer.Done = rw (m, le-leb (frameCount (plan .frames) (length payload)) (suc i) (omega arith)) in
+          at-end (writing.advanceOf (at i left tally)) payload lent done answer.Done p outcomes
+      after-frame outcomes ih (suc todo) i left tally done c b =
           let m : moreOf i ≡ suc i = omega arith in
-          let q : writing.advanceOf (at i left waits) ≡ at (suc i) (plan .retries) waits = rw (m, lt-leb (frameCount (plan .frames) (length payload)) (suc i) (omega arith)) in
-          rw q (ih todo (suc i) (plan .retries) waits done (omega arith) small (omega arith))
+          let q : writing.advanceOf (at i left tally) ≡ at (suc i) (plan .retries) tally = rw (m, lt-leb (frameCount (plan .frames) (length payload)) (suc i) (omega arith)) in
+          rw q (ih todo (suc i) (plan .retries) tally done (omega arith) small (omega arith))
 
-      after-fault : (outcomes : List BusOutcome) → Same outcomes → (todo i left waits : ℕ) (why : Answer) (done : List Made) → eqb (numberOf why) 0 ≡ false
-          → suc (i + todo) ≡ frameCount (plan .frames) (length payload) → left ≤ 65535 → waits + left ≤ suc i * 65535 → (t : Bool) → eqb left 0 ≡ t
-          → fedWrite (writing.failOf (at i left waits) why) payload lent (done ++ (write (frameAt i) ∷ [])) outcomes
+      after-fault : (outcomes : List BusOutcome) → Same outcomes → (todo i left : ℕ) (tally : Tally) (why : Answer) (done : List Made) → eqb (numberOf why) 0 ≡ false
+          → suc (i + todo) ≡ frameCount (plan .frames) (length payload) → left ≤ 65535 → tally .waits + left ≤ suc i * 65535 → (t : Bool) → eqb left 0 ≡ t
+          → fedWrite (writing.failOf (at i left tally) why) payload lent (done ++ (write (frameAt i) ∷ [])) outcomes
           ≡ settle (each todo (suc i)) (writing.gaveUp (plan .frames) i)
-          (if eqb left 0 then Err why (out i waits done) outcomes else writeWithRetriesInternal (left - 1) (frameAt i) (delayed (out i waits done)) outcomes)
+          (if eqb left 0 then Err why (out i tally done) outcomes else writeWithRetriesInternal (left - 1) (frameAt i) (delayed (out i tally done)) outcomes)
       unfolding if_then_else_ settle
-      after-fault outcomes ih todo i left waits why done bad c l b true t =
-          after-failure i left waits why (done ++ (write (frameAt i) ∷ [])) outcomes true t ∙ rw t (gave-up (plan .frames) i why (out i waits done) outcomes bad)
-      after-fault outcomes ih todo i left waits why done bad c l b false t =
-          let m : moreOf waits ≡ waits + 1 = omega (arith, eqb-false left 0 t) in
+      after-fault outcomes ih todo i left tally why done bad c l b true t =
+          after-failure i left tally why (done ++ (write (frameAt i) ∷ [])) outcomes true t ∙ rw t (gave-up (plan .frames) i why (out i tally done) outcomes bad)
+      after-fault outcomes ih todo i left tally why done bad c l b false t =
+          let m : waited tally .waits ≡ tally .waits + 1 = one-wait tally (omega (arith, eqb-false left 0 t)) in
           let some : 1 ≤ left = omega (arith, eqb-false left 0 t) in
-          after-failure i left waits why (done ++ (write (frameAt i) ∷ [])) outcomes false t
-          ∙ rw (t, m) (ih todo i (left - 1) (waits + 1) (done ++ (write (frameAt i) ∷ [])) c (omega arith) (omega arith))
+          after-failure i left tally why (done ++ (write (frameAt i) ∷ [])) outcomes false t
+          ∙ rw (t, ← m) (ih todo i (left - 1) (waited tally) (done ++ (write (frameAt i) ∷ [])) c (omega arith) (omega arith))
 
       same : (outcomes : List BusOutcome) → Same outcomes
       unfolding fedWrite writeWithRetriesInternal settle busOp_err_ok_ told writing.settleOf case_acknowledged_error_timeout_
-      same [] todo i left waits done c l b = shown i left waits (lent (length done) .work) _ _ (steady (length done)) (room i (omega arith)) own refl
-      same (Acknowledged bytes ∷ outcomes) todo i left waits done c l b =
+      same [] todo i left tally done c l b = shown i left tally (lent (length done) .work) _ _ (steady (length done)) (room i (omega arith)) own refl
+      same (Acknowledged bytes ∷ outcomes) todo i left tally done c l b =
           let h : own ≡ false → length (bytesAt (plan .frames) i payload) < w = room i (omega arith) in
-          turn i left waits done (Acknowledged bytes) outcomes h
-          ∙ after-frame outcomes (same outcomes) todo i left waits _ c (omega arith)
-      same (BusError code ∷ outcomes) todo i left waits done c l b =
+          turn i left tally done (Acknowledged bytes) outcomes h
+          ∙ after-frame outcomes (same outcomes) todo i left tally _ c (omega arith)
+      same (BusError code ∷ outcomes) todo i left tally done c l b =
           let h : own ≡ false → length (bytesAt (plan .frames) i payload) < w = room i (omega arith) in
-          turn i left waits done (BusError code) outcomes h
-          ∙ after-fault outcomes (same outcomes) todo i left waits (answer.I2c code) done refl c l b (eqb left 0) refl
-      same (Timeout ∷ outcomes) todo i left waits done c l b =
+          turn i left tally done (BusError code) outcomes h
+          ∙ after-fault outcomes (same outcomes) todo i left tally (answer.I2c code) done refl c l b (eqb left 0) refl
+      same (Timeout ∷ outcomes) todo i left tally done c l b =
           let h : own ≡ false → length (bytesAt (plan .frames) i payload) < w = room i (omega arith) in
-          turn i left waits done Timeout outcomes h
-          ∙ after-fault outcomes (same outcomes) todo i left waits answer.Timeout done refl c l b (eqb left 0) refl
+          turn i left tally done Timeout outcomes h
+          ∙ after-fault outcomes (same outcomes) todo i left tally answer.Timeout done refl c l b (eqb left 0) refl
 
       -- a call that is admitted, fed, is its frames one after the other
       pub frames-in-turn : (todo : ℕ) (outcomes : List BusOutcome) → frameCount (plan .frames) (length payload) ≡ suc todo
           → admitted (plan .limit) (firstAddress (plan .frames)) (length payload) w ≡ phase.Waiting
           → fedWrite (writing.startOf plan (length payload) w) payload lent [] outcomes ≡ each (suc todo) 0 begun outcomes
       unfolding each writing.startOf nothing
-      frames-in-turn todo outcomes c a = rw a (same outcomes todo 0 (plan .retries) 0 [] (omega arith) small (omega arith))
+      frames-in-turn todo outcomes c a = rw a (same outcomes todo 0 (plan .retries) nothing [] (omega arith) small (omega arith))
 
 -- a call that is refused, or done at once, makes no transfer
 pub no-frame : (plan : WritePlan) (payload : List ℕ) (w : ℕ) (lent : ℕ → Lending) (a : Answer) (outcomes : List BusOutcome) → admitted (plan .limit) (firstAddress (plan .frames)) (length payload) w ≡ phase.Ended a
