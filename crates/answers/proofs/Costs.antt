@@ -9,16 +9,15 @@ use native.Mathlib.Omega.{arith}
 use lib.Dec.{leb, eqb}
 use lib.ListN.{length, take, drop}
 use lib.Seq.{length-take-le, take-append-seam}
-use borrow.Author.Tests.{leb-true, eqb-true, eqb-false}
+use borrow.Author.Tests.{leb-true}
 use Rattle.protocol.specs.Pick.{if_then_else_}
 use Rattle.protocol.specs.Bytes.{blockIn, storedAt}
 use Rattle.protocol.specs.Reply as reply
 use Rattle.protocol.specs.declared.error.Answer.{Answer}
 use Rattle.protocol.specs.declared.error.Answer.the-variants as answer
-use Rattle.engine.specs.Pick.{case_waiting_ended_, case_acknowledged_error_timeout_, case_retry_spent_}
+use Rattle.engine.specs.Pick.{case_waiting_ended_, case_acknowledged_error_timeout_}
 use Rattle.engine.specs.Budget.{failed, waited}
 use Rattle.engine.specs.Bus.{fitsOf}
-use Rattle.engine.specs.declared.budget.Budget.{Budget}
 use Rattle.engine.specs.declared.bus.Outcome.{Outcome}
 use Rattle.engine.specs.declared.bus.Outcome.the-variants as outcome
 use Rattle.engine.specs.declared.bus.Phase.{Phase}
@@ -38,23 +37,8 @@ use Rattle.reading.specs.declared.call.ReadReported.{ReadReported}
 use Rattle.reading.specs.declared.call.ReadReported.the-variants as read
 use Rattle.answers.specs.Rows.{Failure, Damaged, readsMade}
 use Rattle.answers.specs.Steps.{MissedW, PaidW, CostW, MissedR, HeardR, PaidR, CostR, Delivers}
-use Rattle.answers.proofs.Laws.{bare-head}
+use Rattle.answers.proofs.Laws.{either, bare-head}
 use Rattle.answers.proofs.Kept.{stored-length}
-
--- a failed attempt: a retry is taken from the budget, or none is left
-either : {A : Type 0} (P : A → Type 0) (left : Budget) (again : Budget → A) (over : A)
-    → ((b : Budget) → b .left + 1 ≡ left .left → P (again b)) → (left .left ≡ 0 → P over) → P (case_retry_spent_ (failed left) again over)
-unfolding failed case_retry_spent_ if_then_else_
-either {A} P left again over some none = by (eqb (left .left) 0) refl
-  where
-    by : (t : Bool) → eqb (left .left) 0 ≡ t → P (case_retry_spent_ (failed left) again over)
-    by true t =
-        let q : case_retry_spent_ (failed left) again over ≡ over = rw t in
-        subst P (sym q) (none (eqb-true _ _ t))
-    by false t =
-        let more = eqb-false (left .left) 0 t in
-        let q : case_retry_spent_ (failed left) again over ≡ again (record { left = left .left - 1 }) = rw t in
-        subst P (sym q) (some (record { left = left .left - 1 }) (omega arith))
 
 -- a call that has ended does not wait
 over-waits : {a : Answer} → phase.Ended a ≡ phase.Waiting → ⊥

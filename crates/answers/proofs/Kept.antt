@@ -9,7 +9,7 @@ use native.Mathlib.Omega.{arith}
 use lib.Dec.{leb, eqb}
 use lib.ListN.{length, take, drop, length-take, length-drop, length-append}
 use lib.Seq.{drop-drop, drop-append-add, length-take-le}
-use borrow.Author.Tests.{leb-true, leb-false, eqb-false}
+use borrow.Author.Tests.{leb-true, leb-false}
 use Rattle.protocol.specs.Pick.{if_then_else_}
 use Rattle.protocol.specs.Bytes.{over, blockIn, storedAt}
 use Rattle.protocol.proofs.Laws.{drop-over, length-over}
@@ -18,8 +18,8 @@ use Rattle.protocol.specs.declared.error.Answer.the-variants as answer
 use Rattle.protocol.specs.Reply as reply
 use Rattle.protocol.specs.declared.reply.Heard.{Heard}
 use Rattle.protocol.specs.declared.reply.Heard.the-variants as heard
-use Rattle.engine.specs.Pick.{case_waiting_ended_, case_acknowledged_error_timeout_, case_retry_spent_}
-use Rattle.engine.specs.Budget.{failed, moreOf, waited, nothing}
+use Rattle.engine.specs.Pick.{case_waiting_ended_, case_acknowledged_error_timeout_}
+use Rattle.engine.specs.Budget.{moreOf, waited, nothing}
 use Rattle.engine.specs.Bus.{phaseAfter, fitsOf}
 use Rattle.engine.specs.declared.budget.Budget.{Budget}
 use Rattle.engine.specs.declared.bus.Outcome.{Outcome}
@@ -36,6 +36,7 @@ use Rattle.reading.specs.declared.call.ReadCall.{ReadCall}
 use Rattle.reading.specs.declared.call.Verdict.{Verdict}
 use Rattle.reading.specs.declared.call.Verdict.the-variants as verdict
 use Rattle.answers.specs.Runs.{ReadReport, Reader, callR, reportedR, feedR, TameR}
+use Rattle.answers.proofs.Laws.{not-done, either}
 
 -- a block that is stored changes nothing after it, and no length
 pub stored-after : (at most : ℕ) (b w : List ℕ) → drop (at + most) (storedAt at most b w) ≡ drop (at + most) w
@@ -84,10 +85,10 @@ pub data Step (call : ReadCall) (buffer : List ℕ) : ReadCall → List ℕ → 
   ends : (why : Answer) → call .phase ≡ phase.Waiting → Step call buffer (endOf call why) buffer
 
 -- what a verdict says of the call
-abbrev Means : ReadCall → Verdict → Type 0
+abbrev pub Means : ReadCall → Verdict → Type 0
 Means call (verdict.Refused a) = Unit {0}
 Means call (verdict.Failed a) = call .phase ≡ phase.Waiting
-Means call verdict.Head = call .phase ≡ phase.Waiting
+Means call verdict.Head = (call .phase ≡ phase.Waiting) × (call .heading ≡ true)
 Means call verdict.Block = (call .phase ≡ phase.Waiting) × (call .heading ≡ false)
 
 module _ (call : ReadCall) where
@@ -97,12 +98,12 @@ module _ (call : ReadCall) where
   block-means heard.WrongPec p f = p
   block-means heard.Good p f = (p, f)
 
-  head-means : (r : ℕ) → call .phase ≡ phase.Waiting → Means call (heardHead r)
+  head-means : (r : ℕ) → call .phase ≡ phase.Waiting → call .heading ≡ true → Means call (heardHead r)
   unfolding heardHead if_then_else_
-  head-means r p = by (eqb r 0) refl
+  head-means r p h = by (eqb r 0) refl
     where
       by : (t : Bool) → eqb r 0 ≡ t → Means call (heardHead r)
-      by true t = let q : heardHead r ≡ verdict.Head = rw t in subst (Means call) (sym q) p
+      by true t = let q : heardHead r ≡ verdict.Head = rw t in subst (Means call) (sym q) (p, h)
       by false t = let q : heardHead r ≡ verdict.Refused answer.WrongReply = rw t in subst (Means call) (sym q) tt
 
   outcome-means : (o : Outcome) (bytes : List ℕ) → call .phase ≡ phase.Waiting → Means call (weighOf call o bytes)
@@ -112,14 +113,14 @@ module _ (call : ReadCall) where
       by : (t : Bool) → call .heading ≡ t → Means call (weighOf call outcome.Acknowledged bytes)
       by true h =
           let q : weighOf call outcome.Acknowledged bytes ≡ heardHead (length bytes) = rw h in
-          subst (Means call) (sym q) (head-means (length bytes) p)
+          subst (Means call) (sym q) (head-means (length bytes) p h)
       by false h =
           let q : weighOf call outcome.Acknowledged bytes ≡ heardBlock (dueAsk call) bytes = rw h in
           subst (Means call) (sym q) (block-means (reply.heardOf (dueAsk call) bytes) p h)
   outcome-means (outcome.BusError code) bytes p = p
   outcome-means outcome.Timeout bytes p = p
 
-  judge-means : (o : Outcome) (bytes : List ℕ) (n w : ℕ) → Means call (judgeOf call o bytes n w)
+  pub judge-means : (o : Outcome) (bytes : List ℕ) (n w : ℕ) → Means call (judgeOf call o bytes n w)
   unfolding judgeOf case_waiting_ended_ if_then_else_
   judge-means o bytes n w = by (call .phase) refl (fitsOf (call .task .lent) n w) refl
     where
@@ -135,17 +136,9 @@ module _ (call : ReadCall) where
           subst (Means call) (sym q) (outcome-means o bytes e)
 
   fails : (buffer : List ℕ) (why : Answer) → call .phase ≡ phase.Waiting → Step call buffer (failOf call why) buffer
-  unfolding failOf failed case_retry_spent_ if_then_else_
-  fails buffer why e = by (eqb (call .budget .left) 0) refl
-    where
-      by : (t : Bool) → eqb (call .budget .left) 0 ≡ t → Step call buffer (failOf call why) buffer
-      by true t =
-          let q : failOf call why ≡ endOf call why = rw t in
-          subst (λ (c : ReadCall). Step call buffer c buffer) (sym q) (ends why e)
-      by false t =
-          let some = eqb-false (call .budget .left) 0 t in
-          let q : failOf call why ≡ retryOf call (record { left = call .budget .left - 1 }) = rw t in
-          subst (λ (c : ReadCall). Step call buffer c buffer) (sym q) (again (record { left = call .budget .left - 1 }) e (omega arith))
+  unfolding failOf
+  fails buffer why e =
+      either (λ (c : ReadCall). Step call buffer c buffer) (call .budget) (retryOf call) (endOf call why) (λ left less. again left e less) (λ none. ends why e)
 
   pub steps : (o : Outcome) (bytes buffer : List ℕ) (w : ℕ) → Step call buffer (callR (reportOf call o bytes (length buffer) w)) (bufferAfter call o bytes buffer w)
   unfolding reportOf bufferAfter case_refused_fault_headed_block_
@@ -157,7 +150,9 @@ module _ (call : ReadCall) where
       by : (v : Verdict) → at v
       by (verdict.Refused a) e = rw e stays
       by (verdict.Failed a) e = rw e (fails buffer a (subst (Means call) e (judge-means o bytes (length buffer) w)))
-      by verdict.Head e = rw e (opens (subst (Means call) e (judge-means o bytes (length buffer) w)))
+      by verdict.Head e =
+          let m : Means call verdict.Head = subst (Means call) e (judge-means o bytes (length buffer) w) in
+          rw e (opens (m .0))
       by verdict.Block e =
           let m : Means call verdict.Block = subst (Means call) e (judge-means o bytes (length buffer) w) in
           rw e (goes-on bytes (m .0) (m .1))
@@ -180,14 +175,6 @@ pub record Sound (count : ℕ) (start : List ℕ) (r : Reader) : Type 0 where
   bound : r .call .task .plan .retries ≤ 65535
   size : length (r .buffer) ≡ length start
   front : Front count start (r .call) (r .buffer)
-
-not-done : (count m : ℕ) → phaseAfter count m ≡ phase.Waiting → m < count
-unfolding phaseAfter if_then_else_
-not-done count m e = by (leb count m) refl
-  where
-    by : (t : Bool) → leb count m ≡ t → m < count
-    by true t = let z : _≡_ {A = ℕ} 0 1 = cc (rw t at e) in absurd (omega arith)
-    by false t = leb-false count m t
 
 -- a waiting call has not ended well
 waiting-front : (count : ℕ) (start : List ℕ) (call : ReadCall) (buffer : List ℕ) → call .phase ≡ phase.Waiting → Front count start call buffer

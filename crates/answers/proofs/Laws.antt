@@ -1,15 +1,19 @@
--- What the tables use of an answer's number and of the tests.
+-- What the tables use of an answer's number, of the tests, and of a failed attempt.
 -- Assumes nothing.
-use Prim.Native.Nat.{ℕ}
+use Prim.Native.Nat.{ℕ, _+_, _-_, _<_}
 use mathlib.Core.Path.{_≡_, refl, sym, subst, _∙_}
 use mathlib.Core.Bool.{Bool, true, false, _&&_, false≢true}
 use mathlib.Core.Logic.{_↔_}
 use native.Mathlib.Omega.{arith}
-use lib.Dec.{eqb}
-use borrow.Author.Tests.{eqb-true, eq-eqb}
+use lib.Dec.{leb, eqb}
+use borrow.Author.Tests.{leb-false, eqb-true, eqb-false, eq-eqb}
+use Rattle.protocol.specs.Pick.{if_then_else_}
 use Rattle.protocol.specs.Answer.{numberOf, detailOf}
 use Rattle.protocol.specs.declared.error.Answer.{Answer}
-use Rattle.engine.specs.Bus.{fitsOf}
+use Rattle.engine.specs.Pick.{case_retry_spent_}
+use Rattle.engine.specs.Budget.{failed}
+use Rattle.engine.specs.Bus.{phaseAfter, fitsOf}
+use Rattle.engine.specs.declared.budget.Budget.{Budget}
 use Rattle.engine.specs.declared.bus.Lent.{Lent}
 use Rattle.engine.specs.declared.bus.Phase.{Phase}
 use Rattle.engine.specs.declared.bus.Phase.the-variants as phase
@@ -70,3 +74,29 @@ bare-head head.Bare = (λ e. refl, λ e. refl)
 bare-head (head.Command address) = (λ e. absurd (false≢true (sym e)), λ e. let z : _≡_ {A = ℕ} 0 1 = cc in absurd (omega arith))
 bare-head (head.Mac command) = (λ e. absurd (false≢true (sym e)), λ e. let z : _≡_ {A = ℕ} 0 1 = cc in absurd (omega arith))
 bare-head (head.DataFlash start) = (λ e. absurd (false≢true (sym e)), λ e. let z : _≡_ {A = ℕ} 0 1 = cc in absurd (omega arith))
+
+-- ---- steps and attempts
+
+-- a call that waits has steps to make
+pub not-done : (count m : ℕ) → phaseAfter count m ≡ phase.Waiting → m < count
+unfolding phaseAfter if_then_else_
+not-done count m e = by (leb count m) refl
+  where
+    by : (t : Bool) → leb count m ≡ t → m < count
+    by true t = let z : _≡_ {A = ℕ} 0 1 = cc (rw t at e) in absurd (omega arith)
+    by false t = leb-false count m t
+
+-- a failed attempt: a retry is taken from the budget, or none is left
+pub either : {A : Type 0} (P : A → Type 0) (left : Budget) (again : Budget → A) (over : A)
+    → ((b : Budget) → b .left + 1 ≡ left .left → P (again b)) → (left .left ≡ 0 → P over) → P (case_retry_spent_ (failed left) again over)
+unfolding failed case_retry_spent_ if_then_else_
+either {A} P left again over some none = by (eqb (left .left) 0) refl
+  where
+    by : (t : Bool) → eqb (left .left) 0 ≡ t → P (case_retry_spent_ (failed left) again over)
+    by true t =
+        let q : case_retry_spent_ (failed left) again over ≡ over = rw t in
+        subst P (sym q) (none (eqb-true _ _ t))
+    by false t =
+        let more = eqb-false (left .left) 0 t in
+        let q : case_retry_spent_ (failed left) again over ≡ again (record { left = left .left - 1 }) = rw t in
+        subst P (sym q) (some (record { left = left .left - 1 }) (omega arith))

@@ -5,17 +5,17 @@ use mathlib.Core.Path.{_≡_, refl, sym, ap, subst, _∙_}
 use mathlib.Core.Bool.{Bool, true, false}
 use mathlib.Core.List.{List, [], _∷_}
 use native.Mathlib.Omega.{arith}
-use lib.Dec.{leb, eqb}
-use borrow.Author.Tests.{leb-false, eqb-true, eqb-false}
+use lib.Dec.{eqb}
+use borrow.Author.Tests.{eqb-true, eqb-false}
 use Rattle.protocol.specs.Pick.{if_then_else_}
 use Rattle.protocol.specs.Bytes.{blocksOf}
 use Rattle.protocol.specs.Window.{inWindow}
 use Rattle.protocol.proofs.WindowLaws.{within}
 use Rattle.protocol.specs.declared.error.Answer.{Answer}
 use Rattle.protocol.specs.declared.error.Answer.the-variants as answer
-use Rattle.engine.specs.Pick.{case_waiting_ended_, case_acknowledged_error_timeout_, case_retry_spent_}
-use Rattle.engine.specs.Budget.{failed, moreOf, waited, nothing}
-use Rattle.engine.specs.Bus.{phaseAfter, fitsOf}
+use Rattle.engine.specs.Pick.{case_waiting_ended_, case_acknowledged_error_timeout_}
+use Rattle.engine.specs.Budget.{moreOf, waited, nothing}
+use Rattle.engine.specs.Bus.{fitsOf}
 use Rattle.engine.specs.declared.budget.Budget.{Budget}
 use Rattle.engine.specs.declared.bus.Outcome.{Outcome}
 use Rattle.engine.specs.declared.bus.Outcome.the-variants as outcome
@@ -26,6 +26,7 @@ use Rattle.writing.specs.Writing.{startOf, advanceOf, retryOf, endOf, failOf, s
 use Rattle.writing.specs.declared.call.WritePlan.{WritePlan}
 use Rattle.writing.specs.declared.call.WriteCall.{WriteCall}
 use Rattle.answers.specs.Runs.{WriteReport, callW, reportedW, feedW, TameW}
+use Rattle.answers.proofs.Laws.{not-done, either}
 
 -- where a report can lead a writing call
 pub data Step (call : WriteCall) : WriteCall → Type 0 where
@@ -36,15 +37,8 @@ pub data Step (call : WriteCall) : WriteCall → Type 0 where
 
 module _ (call : WriteCall) where
   fails : (why : Answer) → call .phase ≡ phase.Waiting → Step call (failOf call why)
-  unfolding failOf failed case_retry_spent_ if_then_else_
-  fails why e = by (eqb (call .budget .left) 0) refl
-    where
-      by : (t : Bool) → eqb (call .budget .left) 0 ≡ t → Step call (failOf call why)
-      by true t = let q : failOf call why ≡ endOf call why = rw t in subst (Step call) (sym q) (ends why e)
-      by false t =
-          let some = eqb-false (call .budget .left) 0 t in
-          let q : failOf call why ≡ retryOf call (record { left = call .budget .left - 1 }) = rw t in
-          subst (Step call) (sym q) (again (record { left = call .budget .left - 1 }) e (omega arith))
+  unfolding failOf
+  fails why e = either (Step call) (call .budget) (retryOf call) (endOf call why) (λ left less. again left e less) (λ none. ends why e)
 
   settles : (o : Outcome) → call .phase ≡ phase.Waiting → Step call (settleOf call o)
   unfolding settleOf case_acknowledged_error_timeout_
@@ -72,15 +66,6 @@ pub record Sound (count : ℕ) (call : WriteCall) : Type 0 where
   sent : call .sent ≤ 256
   spare : call .budget .left ≤ 65535
   waits : call .tally .waits + call .budget .left ≤ 65535 * (call .sent + 1)
-
--- a call that is done does not wait
-not-done : (count m : ℕ) → phaseAfter count m ≡ phase.Waiting → m < count
-unfolding phaseAfter if_then_else_
-not-done count m e = by (leb count m) refl
-  where
-    by : (t : Bool) → leb count m ≡ t → m < count
-    by true t = let z : _≡_ {A = ℕ} 0 1 = cc (rw t at e) in absurd (omega arith)
-    by false t = leb-false count m t
 
 module _ (count : ℕ) (few : count ≤ 256) where
   keeps : (call after : WriteCall) → Step call after → Sound count call → Sound count after
