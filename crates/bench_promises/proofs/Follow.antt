@@ -31,8 +31,7 @@ use Rattle.hex.specs.Line.{lineBytes}
 use Rattle.dialogue.specs.Bench.{thenSay, reportThen, toldThen, callLines, callRun}
 use Rattle.original.specs.Bus.{BusOutcome, Acknowledged, BusError, Timeout, delivered, Made, write, read, brings, Ok, Err, Waiting, Read, _leaving_}
 use Rattle.original.specs.Fed as feeding
-use Rattle.original.specs.Fed.{Lending, reply, answered, shows_sending_transfer_answer_}
-use Rattle.original.specs.ByKind.{came_taken_refused_, fed}
+use Rattle.original.specs.Fed.{Lending, reply, answered, shows_sending_transfer_answer_, came_taken_refused_, fed}
 use Rattle.bench_promises.specs.RustBench.{transferLine, transferLines, endLine, cutLine, outcome, stopped, acknowledgedBy, errorBy, timeoutBy, heardIn, lastAsks, cameTo_waiting_, heard_goes_stops_, runOf}
 use Rattle.bench_promises.proofs.Steps.{IsTaken, Failure, Takes, takes}
 use Rattle.bench_promises.proofs.Said.{end-said, last-said, read-said}

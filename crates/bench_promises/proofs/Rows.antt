@@ -28,7 +28,8 @@ use Rattle.dialogue.specs.Bench.{callRun, requestThen}
 use Rattle.original.specs.Bus.{BusOutcome, begun, Came, Err, Read, _leaving_}
 use Rattle.original.specs.OriginalInterface as rust
 use Rattle.original.specs.Equal.{Equal}
-use Rattle.original.specs.ByKind.{fed, rustOf, Defined, Added, long-frame, input-given, keys-written, key-written, EqualByKind}
+use Rattle.original.specs.Fed.{fed}
+use Rattle.original.specs.ByKind.{rustOf, Defined, Added, long-frame, input-given, keys-written, key-written, EqualByKind}
 use Rattle.original.proofs.Equal.{equal}
 use Rattle.original.proofs.ByKind.{equal-by-kind}
 use Rattle.bench_promises.specs.Kinds.{Row, unlike, rows, Asked, bad, call, askedBy, askedAmong}

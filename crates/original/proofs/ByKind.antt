@@ -34,9 +34,9 @@ use Rattle.calls.specs.declared.kind.Kind.{Kind}
 use Rattle.calls.specs.declared.kind.Kind.the-variants as kind
 use Rattle.calls.specs.declared.call.Call.the-variants as call
 use Rattle.original.specs.Bus.{BusOutcome, Made, write, read, begun, Came, Err, Read, _leaving_}
-use Rattle.original.specs.Fed.{told, Lending, Lends, reply, answered, shows_sending_transfer_answer_, wrote_taken_refused_, heard_taken_refused_, fedWrite, fedRead, writes, reads}
+use Rattle.original.specs.Fed.{told, Lending, Lends, reply, answered, shows_sending_transfer_answer_, wrote_taken_refused_, heard_taken_refused_, fedWrite, fedRead, writes, reads, came_taken_refused_, fed}
 use Rattle.original.specs.Equal.{Equal}
-use Rattle.original.specs.ByKind.{came_taken_refused_, fed, rustOf, Defined, Added, long-frame, input-given, keys-written, keys-read, key-written, key-read, override-written, override-read, key-sent, unsealed, EqualByKind}
+use Rattle.original.specs.ByKind.{rustOf, Defined, Added, long-frame, input-given, keys-written, keys-read, key-written, key-read, override-written, override-read, key-sent, unsealed, EqualByKind}
 use Rattle.original.proofs.WriteTurns.{no-frame}
 use Rattle.original.proofs.ReadTurns.{no-transfer}
 use Rattle.original.proofs.Equal.{equal}

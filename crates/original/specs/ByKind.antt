@@ -3,49 +3,19 @@
 use Prim.Native.Nat.{ℕ, _≤_, _<_}
 use mathlib.Core.Path.{_≡_}
 use mathlib.Core.Bool.{true, false}
-use mathlib.Core.List.{List, [], _∷_, _++_}
+use mathlib.Core.List.{List, []}
 use lib.ListN.{length, getD}
 use Rattle.protocol.specs.declared.common.Config.{Config}
 use Rattle.protocol.specs.declared.error.Answer.{Answer}
 use Rattle.protocol.specs.declared.error.Answer.the-variants as answer
 use Rattle.r5.specs.Voltage.{overrideOf}
-use Rattle.calls.specs.Call.{startOf, nextOf, workAfter, partOf, reportOf, bufferAfter, tallyOf}
+use Rattle.calls.specs.Call.{startOf}
 use Rattle.calls.specs.declared.kind.Kind.{Kind}
 use Rattle.calls.specs.declared.kind.Kind.the-variants as kind
-use Rattle.calls.specs.declared.call.Call.{Call}
-use Rattle.calls.specs.declared.call.Reported.{Reported}
-use Rattle.calls.specs.declared.call.Reported.the-variants as reported
-use Rattle.original.specs.Bus.{BusOutcome, Made, begun, Err, Waiting, Read, _leaving_}
-use Rattle.original.specs.Fed.{told, Lending, reply, answered, shows_sending_transfer_answer_}
+use Rattle.original.specs.Bus.{BusOutcome, begun, Err, Read, _leaving_}
+use Rattle.original.specs.Fed.{Lending, fed}
 use Rattle.original.specs.OriginalInterface as rust
 use Rattle.original.specs.OriginalR5 as rust-r5
-
--- ---- the host
-
-infixr 10 came_taken_refused_
-unfoldable pub came_taken_refused_ : {A : Type 0} → Reported → (Call → A) → (Answer → A) → A
-came reported.Taken call taken f refused g = f call
-came reported.Refused a call taken f refused g = g a
-
--- a call, fed, as `fedWrite` and `fedRead` have it
-unfoldable pub fed : Call → (payload buffer : List ℕ) → (ℕ → Lending) → List Made → List BusOutcome → Read
-fed call payload buffer lent done [] =
-    let work : List ℕ = lent (length done) .work in
-    let shown : List ℕ = workAfter call payload (length buffer) work in
-    let waits : ℕ = tallyOf call .waits in
-    shows nextOf call payload (length buffer) (length work) sending partOf call payload shown
-    transfer (λ t. Waiting (record { transfers = done ++ (t ∷ []); waits = waits }) leaving buffer)
-    answer (λ a. answered a (record { transfers = done; waits = waits }) [] leaving buffer)
-fed call payload buffer lent done (o ∷ outcomes) =
-    let work : List ℕ = lent (length done) .work in
-    let bytes : Made → List ℕ = λ t. reply t (lent (length done) .beside) o in
-    let shown : List ℕ = workAfter call payload (length buffer) work in
-    let waits : ℕ = tallyOf call .waits in
-    shows nextOf call payload (length buffer) (length work) sending partOf call payload shown
-    transfer (λ t. came reportOf call (told o) (bytes t) (length payload) (length buffer) (length shown)
-    taken (λ next. fed next payload (bufferAfter call (told o) (bytes t) buffer (length shown)) lent (done ++ (t ∷ [])) outcomes)
-    refused (λ a. answered a (record { transfers = done ++ (t ∷ []); waits = waits }) outcomes leaving buffer))
-    answer (λ a. answered a (record { transfers = done; waits = waits }) (o ∷ outcomes) leaving buffer)
 
 -- ---- the Rust
 

@@ -12,6 +12,10 @@ use Rattle.engine.specs.declared.bus.Outcome.{Outcome}
 use Rattle.engine.specs.declared.bus.Outcome.the-variants as outcome
 use Rattle.engine.specs.declared.bus.Transfer.{Transfer}
 use Rattle.engine.specs.declared.bus.Transfer.the-variants as transfer
+use Rattle.calls.specs.Call.{nextOf, workAfter, partOf, reportOf, bufferAfter, tallyOf}
+use Rattle.calls.specs.declared.call.Call.{Call}
+use Rattle.calls.specs.declared.call.Reported.{Reported}
+use Rattle.calls.specs.declared.call.Reported.the-variants as call-reported
 use Rattle.writing.specs.Writing as writing
 use Rattle.writing.specs.declared.call.WritePlan.{WritePlan}
 use Rattle.writing.specs.declared.call.WriteCall.{WriteCall}
@@ -116,3 +120,28 @@ writes plan payload w lent outcomes = fedWrite (writing.startOf plan (length pay
 -- a reading call from its start
 abbrev pub reads : ReadPlan → List ℕ → ℕ → (ℕ → Lending) → List BusOutcome → Read
 reads plan buffer w lent outcomes = fedRead (reading.startOf plan (length buffer) w) buffer lent [] outcomes
+
+infixr 10 came_taken_refused_
+unfoldable pub came_taken_refused_ : {A : Type 0} → Reported → (Call → A) → (Answer → A) → A
+came call-reported.Taken call taken f refused g = f call
+came call-reported.Refused a call taken f refused g = g a
+
+-- a call, fed, as its engine is: what a host has
+unfoldable pub fed : Call → (payload buffer : List ℕ) → (ℕ → Lending) → List Made → List BusOutcome → Read
+fed call payload buffer lent done [] =
+    let work : List ℕ = lent (length done) .work in
+    let shown : List ℕ = workAfter call payload (length buffer) work in
+    let waits : ℕ = tallyOf call .waits in
+    shows nextOf call payload (length buffer) (length work) sending partOf call payload shown
+    transfer (λ t. Waiting (record { transfers = done ++ (t ∷ []); waits = waits }) leaving buffer)
+    answer (λ a. answered a (record { transfers = done; waits = waits }) [] leaving buffer)
+fed call payload buffer lent done (o ∷ outcomes) =
+    let work : List ℕ = lent (length done) .work in
+    let bytes : Made → List ℕ = λ t. reply t (lent (length done) .beside) o in
+    let shown : List ℕ = workAfter call payload (length buffer) work in
+    let waits : ℕ = tallyOf call .waits in
+    shows nextOf call payload (length buffer) (length work) sending partOf call payload shown
+    transfer (λ t. came reportOf call (told o) (bytes t) (length payload) (length buffer) (length shown)
+    taken (λ next. fed next payload (bufferAfter call (told o) (bytes t) buffer (length shown)) lent (done ++ (t ∷ [])) outcomes)
+    refused (λ a. answered a (record { transfers = done ++ (t ∷ []); waits = waits }) outcomes leaving buffer))
+    answer (λ a. answered a (record { transfers = done; waits = waits }) (o ∷ outcomes) leaving buffer)
