@@ -37,6 +37,10 @@ pub record Left : Type 0 where
 abbrev pub left : Run → List ℕ → List ℕ → List ℕ → Left
 left run buffer work flash = record { run = run; buffer = buffer; work = work; flash = flash }
 
+-- what a run left, to be run on
+abbrev pub left-over : Left → World
+left-over l = world (l .run .link) (l .buffer) (l .work) (l .flash)
+
 -- a refused report leaves the call as it was
 unfoldable pub takenOf : Reported → Call
 takenOf (reported.Refused a call) = call

@@ -13,8 +13,8 @@ use Rattle.smbus_pec.specs.Pec.{pecOf}
 use Rattle.protocol.specs.Pick.{if_then_else_}
 use Rattle.protocol.specs.Bytes.{over}
 use Rattle.protocol.proofs.Laws.{take-over, drop-over, take-short}
-use Rattle.original.specs.Bus.{BusOutcome, Made, Read}
-use Rattle.original.specs.Fronts.{Layout, rightPec, dataIn, brought, allBrought, transfersOf, bufferLeft, gathered, Front}
+use Rattle.original.specs.Bus.{BusOutcome, Made, Read, transfersOf}
+use Rattle.original.specs.Fronts.{Layout, rightPec, dataIn, brought, allBrought, bufferLeft, gathered, Front}
 
 -- so many bytes dropped of those taken
 pub drop-take : (a n : ℕ) (l : List ℕ) → drop a (take (a + n) l) ≡ take n (drop a l)

@@ -15,12 +15,12 @@ use Rattle.protocol.specs.declared.error.Answer.{Answer}
 use Rattle.protocol.specs.declared.error.Answer.the-variants as answer
 use Rattle.protocol.proofs.WindowLaws.{within}
 use Rattle.interface.specs.Plans as machine
-use Rattle.original.specs.Bus.{BusOutcome, begun, Err, Read, _leaving_, copied}
+use Rattle.original.specs.Bus.{BusOutcome, begun, Err, Read, _leaving_, copied, transfersOf}
 use Rattle.original.specs.Fed.{Lending, Lends, reads}
 use Rattle.original.specs.OriginalInterface as rust
 use Rattle.original.specs.OriginalR5 as rust-r5
 use Rattle.original.specs.Equal.{Equal}
-use Rattle.original.specs.Fronts.{Layout, plain, mac, allBrought, transfersOf, bufferLeft, Front, Fronts}
+use Rattle.original.specs.Fronts.{Layout, plain, mac, allBrought, bufferLeft, Front, Fronts}
 use Rattle.original.proofs.PlainRead as plain-read
 use Rattle.original.proofs.MacRead as mac-read
 use Rattle.original.proofs.FlashRead as flash-read

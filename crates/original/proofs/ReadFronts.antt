@@ -16,9 +16,9 @@ use Rattle.protocol.specs.Bytes.{over}
 use Rattle.protocol.proofs.Laws.{length-over}
 use Rattle.protocol.specs.declared.error.Answer.{Answer}
 use Rattle.protocol.specs.declared.error.Answer.the-variants as answer
-use Rattle.original.specs.Bus.{BusOutcome, Acknowledged, BusError, Timeout, delivered, read, Log, made, delayed, Ok, Err, _leaving_, busOp_err_ok_, copied}
+use Rattle.original.specs.Bus.{BusOutcome, Acknowledged, BusError, Timeout, delivered, read, Log, made, delayed, Ok, Err, _leaving_, busOp_err_ok_, copied, transfersOf}
 use Rattle.original.specs.OriginalInterface.{readLoop, macWriteTurn, macReadTurn}
-use Rattle.original.specs.Fronts.{plain, mac, dataIn, brought, transfersOf, bufferLeft}
+use Rattle.original.specs.Fronts.{plain, mac, dataIn, brought, bufferLeft}
 use Rattle.original.proofs.ReadTurns.{length-delivered}
 use Rattle.original.proofs.FlashRead.{loop, count, bad, placed, loop-done, address-waits, address-turn, read-waits, read-turn}
 use Rattle.original.proofs.Brought.{drop-take, over-more, data-in, counted, Comes, stopped, waits, as-well, either, stepped, unmoved, filled}

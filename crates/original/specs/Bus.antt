@@ -49,6 +49,12 @@ infix 12 _leaving_
 pub data Read : Type 0 where
   _leaving_ : Came → List ℕ → Read
 
+-- the transfers that it has made
+unfoldable pub transfersOf : Read → List Made
+transfersOf (Ok log outcomes leaving left) = log .transfers
+transfersOf (Err e log outcomes leaving left) = log .transfers
+transfersOf (Waiting log leaving left) = log .transfers
+
 -- bus_op! and what is done with its result: I2c or Timeout, or Ok with the bytes that came
 infixr 10 busOp_err_ok_
 unfoldable pub busOp_err_ok_ : {A : Type 0} → BusOutcome → (Answer → A) → (List ℕ → A) → A

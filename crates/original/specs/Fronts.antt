@@ -13,7 +13,7 @@ use Rattle.protocol.specs.Bytes.{over}
 use Rattle.protocol.specs.declared.common.Config.{Config}
 use Rattle.interface.specs.Plans as machine
 use Rattle.r5.specs.Plans as machine-r5
-use Rattle.original.specs.Bus.{BusOutcome, Acknowledged, BusError, Timeout, delivered, Made, write, read, Ok, Err, Waiting, Read, _leaving_}
+use Rattle.original.specs.Bus.{BusOutcome, Acknowledged, BusError, Timeout, delivered, Made, write, read, Read, _leaving_, transfersOf}
 use Rattle.original.specs.Fed.{Lending, reads}
 
 -- how a reply is laid out: so many bytes before the data, a PEC behind it or none, and the command that the PEC covers
@@ -53,12 +53,7 @@ allBrought layout [] outcomes = []
 allBrought layout (t ∷ transfers) [] = []
 allBrought layout (t ∷ transfers) (o ∷ outcomes) = brought layout t o ++ allBrought layout transfers outcomes
 
--- the transfers that a reading call has made, and what it leaves in the buffer
-unfoldable pub transfersOf : Read → List Made
-transfersOf (Ok log outcomes leaving left) = log .transfers
-transfersOf (Err e log outcomes leaving left) = log .transfers
-transfersOf (Waiting log leaving left) = log .transfers
-
+-- what a reading call leaves in the buffer
 unfoldable pub bufferLeft : Read → List ℕ
 bufferLeft (came leaving left) = left
 

@@ -33,7 +33,7 @@ use Rattle.model_gauge.specs.declared.gauge.Fate.the-variants as fate
 use Rattle.model_gauge.specs.declared.gauge.Gauge.{Gauge}
 use Rattle.courses.specs.Pick.{case_sending_to_none_}
 use Rattle.courses.specs.Course.{fateOf, fatesOf, soundOf, endOf}
-use Rattle.courses.specs.Run.{World, Left, left, takenOf, heardIn, stepOf, driveOf, endedOf, leavesOf, runOf}
+use Rattle.courses.specs.Run.{World, Left, left, takenOf, heardIn, stepOf, driveOf, endedOf, leavesOf, runOf, left-over}
 use Rattle.courses.specs.declared.course.End.{End}
 use Rattle.courses.proofs.Cases.{at-write}
 use Rattle.promises.specs.Flash.{placeOf, blockOf, Overlaid}
@@ -41,7 +41,7 @@ use Rattle.promises.specs.Events as written
 use Rattle.promises.specs.Events.{each}
 use Rattle.promises.specs.Writes.{WriteWorld, began, shows, step, run}
 use Rattle.promises.specs.Demand3.{clean, Told, endIn, Tells, EndedWell, ended-well, Accepted}
-use Rattle.promises.specs.Courses.{eventAt, eventsAt, beside, ran, ranIn, stoppedAt, left-over, Leaves, Runs, started, ran-on, GoOnCourses, OnCourses}
+use Rattle.promises.specs.Courses.{eventAt, eventsAt, beside, ran, ranIn, stoppedAt, Leaves, Runs, started, ran-on, GoOnCourses, OnCourses}
 use Rattle.promises.proofs.Frames.{block-acts}
 use Rattle.promises.proofs.Machine.{worldAt, frameOf, shows-block, shows-ended, lays, hands-out, laid-long, is-taken, nothing-lent, made-sent, made-ended}
 use Rattle.promises.proofs.Stopped.{ToldAt, Going, going-step, going, run-empty, stopped}

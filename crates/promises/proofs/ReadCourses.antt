@@ -33,13 +33,13 @@ use Rattle.model_gauge.specs.declared.gauge.Fate.{Fate}
 use Rattle.model_gauge.specs.declared.gauge.Gauge.{Gauge}
 use Rattle.courses.specs.Pick.{case_sending_to_none_}
 use Rattle.courses.specs.Course.{fatesOf, soundOf, endOf}
-use Rattle.courses.specs.Run.{World, Left, left, takenOf, heardIn, stepOf, driveOf, endedOf, leavesOf, runOf}
+use Rattle.courses.specs.Run.{World, Left, left, takenOf, heardIn, stepOf, driveOf, endedOf, leavesOf, runOf, left-over}
 use Rattle.courses.specs.declared.course.End.{End}
 use Rattle.courses.proofs.Cases.{at-write, at-read}
 use Rattle.answers.specs.Runs.{callR}
 use Rattle.promises.specs.Events.{Event, each}
 use Rattle.promises.specs.Demand3.{endIn, Accepted}
-use Rattle.promises.specs.Courses.{eventsAt, left-over}
+use Rattle.promises.specs.Courses.{eventsAt}
 use Rattle.promises.specs.Reads.{ReadWorld, readBegan, heard, readShows, readStep, readRun}
 use Rattle.promises.specs.Reading.{inModel, readRan, readRanIn, readStoppedAt}
 use Rattle.promises.proofs.Courses.{eventIn, eventsIn, events-at, effect-in, same-after, drive-both, fates-both, sound-both}

@@ -12,7 +12,7 @@ use Rattle.calls.specs.declared.call.Call.the-variants as call
 use Rattle.calls.specs.declared.kind.Kind.the-variants as kind
 use Rattle.model_gauge.specs.declared.gauge.Gauge.{Gauge}
 use Rattle.courses.specs.Course.{soundOf}
-use Rattle.courses.specs.Run.{World, Left, world, left, runOf}
+use Rattle.courses.specs.Run.{World, Left, world, left, runOf, left-over}
 use Rattle.courses.specs.declared.course.End.{End}
 use Rattle.promises.specs.Flash.{placeOf, Overlaid, Stands}
 use Rattle.promises.specs.Events.{Event, acknowledged, failed, unheard, timedOut}
@@ -52,10 +52,6 @@ ranIn config address payload work flash course = run payload (eventsAt course) (
 abbrev pub stoppedAt : List ℕ → Gauge → (buffer : List ℕ) → WriteWorld → Left
 stoppedAt payload gauge buffer w =
     left (record { link = record { call = call.Write (w .call); gauge = gauge }; end = endIn (shows payload w) }) buffer (w .work) (w .flash)
-
--- what a run left, to be run on
-abbrev pub left-over : Left → World
-left-over l = world (l .run .link) (l .buffer) (l .work) (l .flash)
 
 -- ---- what is promised of a run
 

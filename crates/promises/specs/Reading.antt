@@ -18,13 +18,13 @@ use Rattle.calls.specs.declared.call.Call.the-variants as call
 use Rattle.calls.specs.declared.kind.Kind.the-variants as kind
 use Rattle.model_gauge.specs.declared.gauge.Gauge.{Gauge}
 use Rattle.courses.specs.Course.{soundOf}
-use Rattle.courses.specs.Run.{World, Left, world, left, runOf}
+use Rattle.courses.specs.Run.{World, Left, world, left, runOf, left-over}
 use Rattle.promises.specs.Flash.{placeOf}
 use Rattle.promises.specs.Events.{Event}
 use Rattle.promises.specs.Host.{Doing, events, Allowed}
 use Rattle.promises.specs.Reads.{ReadWorld, readBegan, readShows, readRun, Coming, Damages, readNoisily, readDoes, ReadMay, readHosted, ReadAlike}
 use Rattle.promises.specs.Demand3.{endIn, EndedWell, Accepted}
-use Rattle.promises.specs.Courses.{eventsAt, ran, left-over}
+use Rattle.promises.specs.Courses.{eventsAt, ran}
 
 -- the n bytes of the flash from an address on
 abbrev pub flashBytes : ℕ → ℕ → List ℕ → List ℕ
