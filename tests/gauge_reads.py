@@ -18,7 +18,7 @@ for retries in range(3):
                 end = call.run(gauge, course)
                 counts["runs"] += 1
                 counts["cuts" if end == "cut" else {0: "done", 2: "timeouts"}.get(end[0], "others")] += 1
-                stops.add(255 if end == "cut" else end[0], call.waits, gauge.pointer, *call.buffer)
+                stops.add(255 if end == "cut" else end[0], call.waits, gauge.transfers, gauge.pointer, *call.buffer)
                 if end == "cut":
                     call.run(gauge, [0] * 7)
                 elif end[0]:

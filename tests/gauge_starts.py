@@ -19,7 +19,7 @@ def digest(data):
 def line(name, address, length, check, call, gauge):
     end = call.run(gauge, COURSE)
     how = "cut" if end == "cut" else "answer {} detail {}".format(*end)
-    return f"{name} {address:04x} {length} pec {check}: {how} waits {call.waits} pointer {gauge.pointer:04x} flash {digest(gauge.flash)}"
+    return f"{name} {address:04x} {length} pec {check}: {how} waits {call.waits} transfers {gauge.transfers} pointer {gauge.pointer:04x} flash {digest(gauge.flash)}"
 
 for address, length in STARTS:
     for check in (0, 1):

@@ -28,7 +28,7 @@ class Digest:
 
 class Gauge:
     def __init__(self, flash, pointer=0x4000):
-        self.flash, self.pointer = flash, pointer
+        self.flash, self.pointer, self.transfers = flash, pointer, 0
 
     def hear(self, frame):
         """an address in the window sets the pointer, a block wholly inside is stored; whether either was so"""
@@ -63,11 +63,13 @@ class Gauge:
 
     def write(self, event, frame):
         """what the host hears of a frame"""
+        self.transfers += 1
         taken = self.hear(frame) if event != LOST_BEFORE else None
         return TIMEOUT if event else ACKNOWLEDGED if taken else BUS_ERROR
 
     def read(self, event, command, asked):
         """what the host hears of a read, and the bytes that reach it"""
+        self.transfers += 1
         reply = self.reply(command, asked) if event != LOST_BEFORE else None
         return (TIMEOUT, b"") if event else (ACKNOWLEDGED, reply) if reply is not None else (BUS_ERROR, b"")
 

@@ -16,7 +16,7 @@ use Rattle.protocol.specs.Reply as reply
 use Rattle.protocol.specs.declared.error.Answer.{Answer}
 use Rattle.protocol.specs.declared.error.Answer.the-variants as answer
 use Rattle.engine.specs.Pick.{case_waiting_ended_, case_acknowledged_error_timeout_}
-use Rattle.engine.specs.Budget.{failed, waited}
+use Rattle.engine.specs.Budget.{moreOf, waited, tallied}
 use Rattle.engine.specs.Bus.{fitsOf}
 use Rattle.engine.specs.declared.bus.Outcome.{Outcome}
 use Rattle.engine.specs.declared.bus.Outcome.the-variants as outcome
@@ -36,7 +36,7 @@ use Rattle.reading.specs.declared.call.Verdict.the-variants as verdict
 use Rattle.reading.specs.declared.call.ReadReported.{ReadReported}
 use Rattle.reading.specs.declared.call.ReadReported.the-variants as read
 use Rattle.answers.specs.Rows.{Failure, Damaged, readsMade}
-use Rattle.answers.specs.Steps.{MissedW, PaidW, CostW, MissedR, HeardR, PaidR, CostR, Delivers}
+use Rattle.answers.specs.Steps.{MissedW, CostW, MissedR, HeardR, PaidR, CostR, Delivers}
 use Rattle.answers.proofs.Laws.{either, bare-head}
 use Rattle.answers.proofs.Kept.{stored-length}
 
@@ -49,23 +49,23 @@ over-waits e = let z : _≡_ {A = ℕ} 0 1 = cc in absurd (omega arith)
 module _ (call : WriteCall) where
   -- what a report that was taken costs, with what the call was started for unchanged
   MissesW : WriteCall → Type 0
-  MissesW next = (next .task ≡ call .task) × MissedW call next
+  MissesW next = (next .task ≡ call .task) × (next .tally .transfers ≡ moreOf (call .tally .transfers)) × MissedW call next
 
-  misses-w : (why : Answer) → MissesW (writing.failOf call why)
-  unfolding MissesW writing.failOf writing.retryOf writing.endOf waited
+  misses-w : (why : Answer) → MissesW (writing.failOf (writing.countedOf call) why)
+  unfolding MissesW writing.failOf writing.retryOf writing.endOf waited writing.countedOf tallied
   misses-w why =
-      either MissesW (call .budget) (writing.retryOf call) (writing.endOf call why) (λ b less. (refl, (inl (refl, less, refl), refl)))
-      (λ none. (refl, (inr (over-waits, none, none, refl), refl)))
+      either MissesW (call .budget) (writing.retryOf (writing.countedOf call)) (writing.endOf (writing.countedOf call) why) (λ b less. (refl, refl, (inl (refl, less, refl), refl)))
+      (λ none. (refl, refl, (inr (over-waits, none, none, refl), refl)))
 
-  settles : (o : Outcome) → (writing.settleOf call o .task ≡ call .task) × PaidW call o (writing.settleOf call o)
-  unfolding MissesW writing.settleOf writing.advanceOf case_acknowledged_error_timeout_
-  settles outcome.Acknowledged = (refl, (refl, refl, refl))
+  settles : (o : Outcome) → CostW call o (wrote.Taken (writing.settleOf (writing.countedOf call) o))
+  unfolding MissesW writing.settleOf writing.advanceOf case_acknowledged_error_timeout_ writing.countedOf tallied
+  settles outcome.Acknowledged = (refl, refl, (refl, refl, refl))
   settles (outcome.BusError code) = misses-w (answer.I2c code)
   settles outcome.Timeout = misses-w answer.Timeout
 
   -- WHAT EVERY REPORT COSTS A WRITING CALL
   pub cost-w : (o : Outcome) (r n w : ℕ) → CostW call o (writing.reportOf call o r n w)
-  unfolding writing.reportOf case_waiting_ended_ if_then_else_
+  unfolding writing.reportOf case_waiting_ended_ if_then_else_ writing.countedOf tallied
   cost-w o r n w = by (call .phase) refl (fitsOf (call .task .lent) n w) refl (writing.repliedOf o r) refl
     where
       result : WriteReported
@@ -75,20 +75,20 @@ module _ (call : WriteCall) where
       by (phase.Ended a) e t f s g = let q : result ≡ wrote.Refused answer.NothingOutstanding call = rw e in subst (CostW call o) (sym q) tt
       by phase.Waiting e false f s g = let q : result ≡ wrote.Refused answer.WrongBuffer call = rw (e, f) in subst (CostW call o) (sym q) tt
       by phase.Waiting e true f true g = let q : result ≡ wrote.Refused answer.WrongReply call = rw (e, f, g) in subst (CostW call o) (sym q) tt
-      by phase.Waiting e true f false g = let q : result ≡ wrote.Taken (writing.settleOf call o) = rw (e, f, g) in subst (CostW call o) (sym q) (settles o)
+      by phase.Waiting e true f false g = let q : result ≡ wrote.Taken (writing.settleOf (writing.countedOf call) o) = rw (e, f, g) in subst (CostW call o) (sym q) (settles o)
 
 -- ---- a reading call
 
 module _ (call : ReadCall) where
   MissesR : ReadCall → Type 0
-  MissesR next = (next .task ≡ call .task) × MissedR call next
+  MissesR next = (next .task ≡ call .task) × (next .tally .transfers ≡ moreOf (call .tally .transfers)) × MissedR call next
 
-  misses-r : (why : Answer) → MissesR (reading.failOf call why)
-  unfolding MissesR reading.failOf reading.retryOf reading.endOf waited
+  misses-r : (why : Answer) → MissesR (reading.failOf (reading.countedOf call) why)
+  unfolding MissesR reading.failOf reading.retryOf reading.endOf waited reading.countedOf tallied
   misses-r why =
-      either MissesR (call .budget) (reading.retryOf call) (reading.endOf call why)
-      (λ b less. (refl, (inl (refl, less, refl), (λ e. bare-head (call .task .plan .head)), (λ over. absurd (over refl)), refl)))
-      (λ none. (refl, (inr (over-waits, none, none, refl), (λ e. absurd (over-waits e)), (λ over. refl), refl)))
+      either MissesR (call .budget) (reading.retryOf (reading.countedOf call)) (reading.endOf (reading.countedOf call) why)
+      (λ b less. (refl, refl, (inl (refl, less, refl), (λ e. bare-head (call .task .plan .head)), (λ over. absurd (over refl)), refl)))
+      (λ none. (refl, refl, (inr (over-waits, none, none, refl), (λ e. absurd (over-waits e)), (λ over. refl), refl)))
 
   -- what a verdict that is no refusal says of outcome and reply
   abbrev Comes : Outcome → List ℕ → Verdict → Type 0
@@ -159,7 +159,7 @@ module _ (call : ReadCall) where
 
   -- WHAT EVERY REPORT COSTS A READING CALL
   pub cost-r : (o : Outcome) (bytes : List ℕ) (n w : ℕ) → CostR call o bytes (reading.reportOf call o bytes n w)
-  unfolding MissesR reading.reportOf reading.headedOf reading.advanceOf readsMade case_refused_fault_headed_block_ if_then_else_
+  unfolding MissesR reading.reportOf reading.headedOf reading.advanceOf readsMade case_refused_fault_headed_block_ if_then_else_ reading.countedOf tallied
   cost-r o bytes n w = by (reading.judgeOf call o bytes n w) refl (judge-comes o bytes n w)
     where
       result : ReadReported
@@ -168,18 +168,18 @@ module _ (call : ReadCall) where
       by : (v : Verdict) → reading.judgeOf call o bytes n w ≡ v → Comes o bytes (reading.judgeOf call o bytes n w) → CostR call o bytes result
       by (verdict.Refused a) e c = let q : result ≡ read.Refused a call = rw e in subst (CostR call o bytes) (sym q) tt
       by (verdict.Failed a) e c =
-          let q : result ≡ read.Taken (reading.failOf call a) = rw e in
+          let q : result ≡ read.Taken (reading.failOf (reading.countedOf call) a) = rw e in
           let m = misses-r a in
-          subst (CostR call o bytes) (sym q) (m .0, pays-miss o bytes (reading.failOf call a) (subst (Comes o bytes) e c) (m .1))
+          subst (CostR call o bytes) (sym q) (m .0, m .1, pays-miss o bytes (reading.failOf (reading.countedOf call) a) (subst (Comes o bytes) e c) (m .2))
       by verdict.Head e c =
-          let q : result ≡ read.Taken (reading.headedOf call) = rw e in
+          let q : result ≡ read.Taken (reading.headedOf (reading.countedOf call)) = rw e in
           let d : Comes o bytes verdict.Head = subst (Comes o bytes) e c in
           subst (CostR call o bytes) (sym q)
-          (refl, pays-heard o bytes (reading.headedOf call) (d .0) (λ x. false≢true (sym (x .0) ∙ d .1)) (refl, refl, refl, rw (d .1)))
+          (refl, refl, pays-heard o bytes (reading.headedOf (reading.countedOf call)) (d .0) (λ x. false≢true (sym (x .0) ∙ d .1)) (refl, refl, refl, rw (d .1)))
       by verdict.Block e c =
-          let q : result ≡ read.Taken (reading.advanceOf call) = rw e in
+          let q : result ≡ read.Taken (reading.advanceOf (reading.countedOf call)) = rw e in
           let d : Comes o bytes verdict.Block = subst (Comes o bytes) e c in
-          subst (CostR call o bytes) (sym q) (refl, pays-heard o bytes (reading.advanceOf call) (d .0) (d .2) (refl, refl, refl, rw (d .1)))
+          subst (CostR call o bytes) (sym q) (refl, refl, pays-heard o bytes (reading.advanceOf (reading.countedOf call)) (d .0) (d .2) (refl, refl, refl, rw (d .1)))
 
 -- ---- a reading call's buffer
 

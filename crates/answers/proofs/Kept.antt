@@ -19,7 +19,7 @@ use Rattle.protocol.specs.Reply as reply
 use Rattle.protocol.specs.declared.reply.Heard.{Heard}
 use Rattle.protocol.specs.declared.reply.Heard.the-variants as heard
 use Rattle.engine.specs.Pick.{case_waiting_ended_, case_acknowledged_error_timeout_}
-use Rattle.engine.specs.Budget.{moreOf, waited, nothing}
+use Rattle.engine.specs.Budget.{moreOf, waited, nothing, tallied}
 use Rattle.engine.specs.Bus.{phaseAfter, fitsOf}
 use Rattle.engine.specs.declared.budget.Budget.{Budget}
 use Rattle.engine.specs.declared.bus.Outcome.{Outcome}
@@ -28,7 +28,7 @@ use Rattle.engine.specs.declared.bus.Phase.{Phase}
 use Rattle.engine.specs.declared.bus.Phase.the-variants as phase
 use Rattle.reading.specs.Pick.{case_refused_fault_headed_block_}
 use Rattle.reading.specs.Parts as parts
-use Rattle.reading.specs.Reading.{startOf, dueAsk, headedOf, advanceOf, retryOf, endOf, failOf, heardHead, verdictOf, heardBlock, acknowledgedOf, weighOf, judgeOf, storedOf, reportOf, bufferAfter}
+use Rattle.reading.specs.Reading.{startOf, dueAsk, headedOf, advanceOf, retryOf, endOf, failOf, heardHead, verdictOf, heardBlock, acknowledgedOf, weighOf, judgeOf, storedOf, reportOf, bufferAfter, countedOf}
 use Rattle.reading.specs.declared.parts.Reads.{Reads}
 use Rattle.reading.specs.declared.parts.Reads.the-variants as reads
 use Rattle.reading.specs.declared.call.ReadPlan.{ReadPlan}
@@ -79,10 +79,10 @@ stored-length at most b w = by (leb at (length w)) refl
 -- where a report can lead a reading call and its buffer
 pub data Step (call : ReadCall) (buffer : List ℕ) : ReadCall → List ℕ → Type 0 where
   stays : Step call buffer call buffer
-  opens : call .phase ≡ phase.Waiting → Step call buffer (headedOf call) buffer
-  goes-on : (bytes : List ℕ) → call .phase ≡ phase.Waiting → call .heading ≡ false → Step call buffer (advanceOf call) (storedOf call bytes buffer)
-  again : (left : Budget) → call .phase ≡ phase.Waiting → left .left + 1 ≡ call .budget .left → Step call buffer (retryOf call left) buffer
-  ends : (why : Answer) → call .phase ≡ phase.Waiting → Step call buffer (endOf call why) buffer
+  opens : call .phase ≡ phase.Waiting → Step call buffer (headedOf (countedOf call)) buffer
+  goes-on : (bytes : List ℕ) → call .phase ≡ phase.Waiting → call .heading ≡ false → Step call buffer (advanceOf (countedOf call)) (storedOf call bytes buffer)
+  again : (left : Budget) → call .phase ≡ phase.Waiting → left .left + 1 ≡ call .budget .left → Step call buffer (retryOf (countedOf call) left) buffer
+  ends : (why : Answer) → call .phase ≡ phase.Waiting → Step call buffer (endOf (countedOf call) why) buffer
 
 -- what a verdict says of the call
 abbrev pub Means : ReadCall → Verdict → Type 0
@@ -135,13 +135,13 @@ module _ (call : ReadCall) where
           let q : judgeOf call o bytes n w ≡ weighOf call o bytes = rw (e, f) in
           subst (Means call) (sym q) (outcome-means o bytes e)
 
-  fails : (buffer : List ℕ) (why : Answer) → call .phase ≡ phase.Waiting → Step call buffer (failOf call why) buffer
-  unfolding failOf
+  fails : (buffer : List ℕ) (why : Answer) → call .phase ≡ phase.Waiting → Step call buffer (failOf (countedOf call) why) buffer
+  unfolding failOf countedOf tallied
   fails buffer why e =
-      either (λ (c : ReadCall). Step call buffer c buffer) (call .budget) (retryOf call) (endOf call why) (λ left less. again left e less) (λ none. ends why e)
+      either (λ (c : ReadCall). Step call buffer c buffer) (call .budget) (retryOf (countedOf call)) (endOf (countedOf call) why) (λ left less. again left e less) (λ none. ends why e)
 
   pub steps : (o : Outcome) (bytes buffer : List ℕ) (w : ℕ) → Step call buffer (callR (reportOf call o bytes (length buffer) w)) (bufferAfter call o bytes buffer w)
-  unfolding reportOf bufferAfter case_refused_fault_headed_block_
+  unfolding reportOf bufferAfter case_refused_fault_headed_block_ countedOf tallied
   steps o bytes buffer w = by (judgeOf call o bytes (length buffer) w) refl
     where
       at : Verdict → Type 0
@@ -186,20 +186,20 @@ waiting-front count start call buffer e (inr f) = f
 block-front : (count : ℕ) (start : List ℕ) (call : ReadCall) (bytes buffer : List ℕ) → count ≤ 256
     → parts.readCount (call .task .plan .reads) (call .task .lent .length) ≡ count → call .received < count
     → drop (call .received * 32) buffer ≡ drop (call .received * 32) start
-    → Front count start (advanceOf call) (storedOf call bytes buffer)
-unfolding advanceOf storedOf phaseAfter parts.mostOf parts.readCount if_then_else_
+    → Front count start (advanceOf (countedOf call)) (storedOf call bytes buffer)
+unfolding advanceOf storedOf phaseAfter parts.mostOf parts.readCount if_then_else_ countedOf tallied
 block-front count start call bytes buffer few counts below same = by (call .task .plan .reads) refl (leb count (moreOf (call .received))) refl
   where
     next : moreOf (call .received) ≡ call .received + 1
     next = omega arith
 
-    done : leb count (moreOf (call .received)) ≡ true → Front count start (advanceOf call) (storedOf call bytes buffer)
+    done : leb count (moreOf (call .received)) ≡ true → Front count start (advanceOf (countedOf call)) (storedOf call bytes buffer)
     done t = inl (rw (counts, t))
 
     past : (call .received + 1) * 32 ≡ call .received * 32 + 32
     past = omega arith
 
-    by : (k : Reads) → call .task .plan .reads ≡ k → (t : Bool) → leb count (moreOf (call .received)) ≡ t → Front count start (advanceOf call) (storedOf call bytes buffer)
+    by : (k : Reads) → call .task .plan .reads ≡ k → (t : Bool) → leb count (moreOf (call .received)) ≡ t → Front count start (advanceOf (countedOf call)) (storedOf call bytes buffer)
     by k e true t = done t
     by reads.Nothing e false t =
         let none : 0 ≡ count = rw e at counts in
@@ -217,7 +217,7 @@ block-front count start call bytes buffer few counts below same = by (call .task
 module _ (count : ℕ) (start : List ℕ) (few : count ≤ 256) where
   keeps : (call after : ReadCall) (buffer left : List ℕ) → Step call buffer after left
       → Sound count start (record { call = call; buffer = buffer }) → Sound count start (record { call = after; buffer = left })
-  unfolding headedOf advanceOf retryOf endOf waited storedOf
+  unfolding headedOf advanceOf retryOf endOf waited storedOf countedOf tallied
   keeps call after buffer left stays s = s
   keeps call after buffer left (opens e) s = record {
     counts = s .counts;
@@ -316,7 +316,7 @@ module _ (plan : ReadPlan) (w : ℕ) (buffer : List ℕ) (r : plan .retries ≤ 
 
 -- no report changes what a call was started for
 step-task : (call after : ReadCall) (buffer left : List ℕ) → Step call buffer after left → after .task ≡ call .task
-unfolding headedOf advanceOf retryOf endOf
+unfolding headedOf advanceOf retryOf endOf countedOf
 step-task call after buffer left stays = refl
 step-task call after buffer left (opens e) = refl
 step-task call after buffer left (goes-on bytes e h) = refl

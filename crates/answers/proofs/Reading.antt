@@ -22,7 +22,7 @@ use Rattle.engine.specs.declared.bus.Phase.{Phase}
 use Rattle.engine.specs.declared.bus.Phase.the-variants as phase
 use Rattle.reading.specs.Pick.{case_refused_fault_headed_block_}
 use Rattle.reading.specs.Parts as parts
-use Rattle.reading.specs.Reading.{dueAsk, headedOf, advanceOf, retryOf, endOf, failOf, heardHead, verdictOf, heardBlock, acknowledgedOf, weighOf, judgeOf, reportOf}
+use Rattle.reading.specs.Reading.{dueAsk, headedOf, advanceOf, retryOf, endOf, failOf, heardHead, verdictOf, heardBlock, acknowledgedOf, weighOf, judgeOf, reportOf, countedOf}
 use Rattle.reading.specs.declared.call.ReadCall.{ReadCall}
 use Rattle.reading.specs.declared.call.Verdict.{Verdict}
 use Rattle.reading.specs.declared.call.Verdict.the-variants as verdict
@@ -38,12 +38,12 @@ module _ (call : ReadCall) (o : Outcome) (bytes : List ℕ) (n w : ℕ) where
   -- where a verdict leads
   abbrev leads : Verdict → Phase
   leads (verdict.Refused a) = phase.Ended a
-  leads (verdict.Failed a) = failOf call a .phase
-  leads verdict.Head = headedOf call .phase
-  leads verdict.Block = advanceOf call .phase
+  leads (verdict.Failed a) = failOf (countedOf call) a .phase
+  leads verdict.Head = headedOf (countedOf call) .phase
+  leads verdict.Block = advanceOf (countedOf call) .phase
 
   said : saidR (reportOf call o bytes n w) ≡ leads (judgeOf call o bytes n w)
-  unfolding reportOf case_refused_fault_headed_block_
+  unfolding reportOf case_refused_fault_headed_block_ countedOf
   said = by (judgeOf call o bytes n w) refl
     where
       by : (v : Verdict) → judgeOf call o bytes n w ≡ v → saidR (reportOf call o bytes n w) ≡ leads (judgeOf call o bytes n w)
@@ -54,13 +54,13 @@ module _ (call : ReadCall) (o : Outcome) (bytes : List ℕ) (n w : ℕ) where
 
   -- ---- an answer that is given is its row's
 
-  fail-holds : (why : Answer) → (call .budget .left ≡ 0 → Reads call o bytes n w (numberOf why) (detailOf why)) → Holds (failOf call why .phase)
-  unfolding failOf failed retryOf endOf case_retry_spent_ if_then_else_
+  fail-holds : (why : Answer) → (call .budget .left ≡ 0 → Reads call o bytes n w (numberOf why) (detailOf why)) → Holds (failOf (countedOf call) why .phase)
+  unfolding failOf failed retryOf endOf case_retry_spent_ if_then_else_ countedOf
   fail-holds why row = by (eqb (call .budget .left) 0) refl
     where
-      by : (t : Bool) → eqb (call .budget .left) 0 ≡ t → Holds (failOf call why .phase)
-      by true t = let q : failOf call why .phase ≡ phase.Ended why = rw t in subst Holds (sym q) (row (eqb-true _ _ t))
-      by false t = let q : failOf call why .phase ≡ phase.Waiting = rw t in subst Holds (sym q) tt
+      by : (t : Bool) → eqb (call .budget .left) 0 ≡ t → Holds (failOf (countedOf call) why .phase)
+      by true t = let q : failOf (countedOf call) why .phase ≡ phase.Ended why = rw t in subst Holds (sym q) (row (eqb-true _ _ t))
+      by false t = let q : failOf (countedOf call) why .phase ≡ phase.Waiting = rw t in subst Holds (sym q) tt
 
   -- all reads are made, or some are left
   after-holds : (m : ℕ) (p : Phase) → p ≡ phaseAfter (parts.readCount (call .task .plan .reads) (call .task .lent .length)) m
@@ -74,7 +74,7 @@ module _ (call : ReadCall) (o : Outcome) (bytes : List ℕ) (n w : ℕ) where
 
   -- a head that was acknowledged
   head-holds : OpenR call n w → o ≡ outcome.Acknowledged → call .heading ≡ true → Holds (leads (heardHead (length bytes)))
-  unfolding heardHead headedOf asked readsMade if_then_else_
+  unfolding heardHead headedOf asked readsMade if_then_else_ countedOf
   head-holds ready ack h = by (eqb (length bytes) 0) refl
     where
       none : asked call ≡ 0
@@ -82,9 +82,9 @@ module _ (call : ReadCall) (o : Outcome) (bytes : List ℕ) (n w : ℕ) where
 
       by : (t : Bool) → eqb (length bytes) 0 ≡ t → Holds (leads (heardHead (length bytes)))
       by true t =
-          let q : leads (heardHead (length bytes)) ≡ headedOf call .phase = rw t in
+          let q : leads (heardHead (length bytes)) ≡ headedOf (countedOf call) .phase = rw t in
           subst Holds (sym q)
-          (after-holds (call .received) (headedOf call .phase) refl
+          (after-holds (call .received) (headedOf (countedOf call) .phase) refl
           (λ all. done ready ack (eqb-true _ _ t ∙ sym none) (λ d. false≢true (sym (d .0) ∙ h)) (rw h all)))
       by false t =
           let q : leads (heardHead (length bytes)) ≡ phase.Ended answer.WrongReply = rw t in
@@ -92,15 +92,15 @@ module _ (call : ReadCall) (o : Outcome) (bytes : List ℕ) (n w : ℕ) where
 
   -- a read that was acknowledged
   block-holds : OpenR call n w → o ≡ outcome.Acknowledged → call .heading ≡ false → Holds (leads (heardBlock (dueAsk call) bytes))
-  unfolding heardBlock verdictOf reply.heardOf advanceOf asked readsMade if_then_else_
+  unfolding heardBlock verdictOf reply.heardOf advanceOf asked readsMade if_then_else_ countedOf
   block-holds ready ack h = by (eqb (reply.bytesAsked (dueAsk call)) (length bytes)) refl (dueAsk call .pec) refl (reply.checkedOf (dueAsk call .covered) bytes) refl
     where
       some : asked call ≡ reply.bytesAsked (dueAsk call)
       some = rw h
 
-      good : leads (heardBlock (dueAsk call) bytes) ≡ advanceOf call .phase → length bytes ≡ asked call → (Damaged call bytes → ⊥) → Holds (leads (heardBlock (dueAsk call) bytes))
+      good : leads (heardBlock (dueAsk call) bytes) ≡ advanceOf (countedOf call) .phase → length bytes ≡ asked call → (Damaged call bytes → ⊥) → Holds (leads (heardBlock (dueAsk call) bytes))
       good q size fine =
-          subst Holds (sym q) (after-holds (moreOf (call .received)) (advanceOf call .phase) refl (λ all. done ready ack size fine (rw h all)))
+          subst Holds (sym q) (after-holds (moreOf (call .received)) (advanceOf (countedOf call) .phase) refl (λ all. done ready ack size fine (rw h all)))
 
       by : (t : Bool) → eqb (reply.bytesAsked (dueAsk call)) (length bytes) ≡ t → (p : Bool) → dueAsk call .pec ≡ p
           → (k : Bool) → reply.checkedOf (dueAsk call .covered) bytes ≡ k → Holds (leads (heardBlock (dueAsk call) bytes))
@@ -110,7 +110,7 @@ module _ (call : ReadCall) (o : Outcome) (bytes : List ℕ) (n w : ℕ) where
       by true t false x k y = good (rw (t, x)) (sym (some ∙ eqb-true _ _ t)) (λ d. false≢true (sym x ∙ d .1))
       by true t true x true y = good (rw (t, x, y)) (sym (some ∙ eqb-true _ _ t)) (λ d. false≢true (sym (d .2) ∙ y))
       by true t true x false y =
-          let q : leads (heardBlock (dueAsk call) bytes) ≡ failOf call answer.Pec .phase = rw (t, x, y) in
+          let q : leads (heardBlock (dueAsk call) bytes) ≡ failOf (countedOf call) answer.Pec .phase = rw (t, x, y) in
           subst Holds (sym q) (fail-holds answer.Pec (wrong-pec ready ack (sym (some ∙ eqb-true _ _ t)) (h, x, y)))
 
   outcome-holds : OpenR call n w → (x : Outcome) → o ≡ x → Holds (leads (weighOf call o bytes))
@@ -152,8 +152,8 @@ module _ (call : ReadCall) (o : Outcome) (bytes : List ℕ) (n w : ℕ) where
   unfolding judgeOf case_waiting_ended_ if_then_else_
   looked (e, same) = rw (e, same-fits (call .task .lent) n w same)
 
-  gives-up : (why : Answer) → call .budget .left ≡ 0 → failOf call why .phase ≡ phase.Ended why
-  unfolding failOf failed endOf case_retry_spent_ if_then_else_
+  gives-up : (why : Answer) → call .budget .left ≡ 0 → failOf (countedOf call) why .phase ≡ phase.Ended why
+  unfolding failOf failed endOf case_retry_spent_ if_then_else_ countedOf
   gives-up why last = rw (eq-eqb (call .budget .left) 0 last)
 
   heard : OpenR call n w → o ≡ outcome.Acknowledged → judgeOf call o bytes n w ≡ acknowledgedOf call bytes
@@ -171,7 +171,7 @@ module _ (call : ReadCall) (o : Outcome) (bytes : List ℕ) (n w : ℕ) where
 
   done-row : OpenR call n w → o ≡ outcome.Acknowledged → length bytes ≡ asked call → (Damaged call bytes → ⊥)
       → parts.readCount (call .task .plan .reads) (call .task .lent .length) ≤ readsMade call → leads (judgeOf call o bytes n w) ≡ phase.Ended answer.Done
-  unfolding acknowledgedOf heardHead heardBlock verdictOf reply.heardOf headedOf advanceOf phaseAfter asked readsMade if_then_else_
+  unfolding acknowledgedOf heardHead heardBlock verdictOf reply.heardOf headedOf advanceOf phaseAfter asked readsMade if_then_else_ countedOf
   done-row ready ack size fine all = ap leads (heard ready ack) ∙ by (call .heading) refl (dueAsk call .pec) refl (reply.checkedOf (dueAsk call .covered) bytes) refl
     where
       by : (t : Bool) → call .heading ≡ t → (p : Bool) → dueAsk call .pec ≡ p → (k : Bool) → reply.checkedOf (dueAsk call .covered) bytes ≡ k

@@ -14,7 +14,7 @@ use Rattle.protocol.proofs.WindowLaws.{within}
 use Rattle.protocol.specs.declared.error.Answer.{Answer}
 use Rattle.protocol.specs.declared.error.Answer.the-variants as answer
 use Rattle.engine.specs.Pick.{case_waiting_ended_, case_acknowledged_error_timeout_}
-use Rattle.engine.specs.Budget.{moreOf, waited, nothing}
+use Rattle.engine.specs.Budget.{moreOf, waited, nothing, tallied}
 use Rattle.engine.specs.Bus.{fitsOf}
 use Rattle.engine.specs.declared.budget.Budget.{Budget}
 use Rattle.engine.specs.declared.bus.Outcome.{Outcome}
@@ -22,7 +22,7 @@ use Rattle.engine.specs.declared.bus.Outcome.the-variants as outcome
 use Rattle.engine.specs.declared.bus.Phase.{Phase}
 use Rattle.engine.specs.declared.bus.Phase.the-variants as phase
 use Rattle.writing.specs.Frames as frames
-use Rattle.writing.specs.Writing.{startOf, advanceOf, retryOf, endOf, failOf, settleOf, repliedOf, reportOf}
+use Rattle.writing.specs.Writing.{startOf, advanceOf, retryOf, endOf, failOf, settleOf, repliedOf, reportOf, countedOf}
 use Rattle.writing.specs.declared.call.WritePlan.{WritePlan}
 use Rattle.writing.specs.declared.call.WriteCall.{WriteCall}
 use Rattle.answers.specs.Runs.{WriteReport, callW, reportedW, feedW, TameW}
@@ -31,23 +31,23 @@ use Rattle.answers.proofs.Laws.{not-done, either}
 -- where a report can lead a writing call
 pub data Step (call : WriteCall) : WriteCall → Type 0 where
   stays : Step call call
-  goes-on : call .phase ≡ phase.Waiting → Step call (advanceOf call)
-  again : (left : Budget) → call .phase ≡ phase.Waiting → left .left + 1 ≡ call .budget .left → Step call (retryOf call left)
-  ends : (why : Answer) → call .phase ≡ phase.Waiting → Step call (endOf call why)
+  goes-on : call .phase ≡ phase.Waiting → Step call (advanceOf (countedOf call))
+  again : (left : Budget) → call .phase ≡ phase.Waiting → left .left + 1 ≡ call .budget .left → Step call (retryOf (countedOf call) left)
+  ends : (why : Answer) → call .phase ≡ phase.Waiting → Step call (endOf (countedOf call) why)
 
 module _ (call : WriteCall) where
-  fails : (why : Answer) → call .phase ≡ phase.Waiting → Step call (failOf call why)
-  unfolding failOf
-  fails why e = either (Step call) (call .budget) (retryOf call) (endOf call why) (λ left less. again left e less) (λ none. ends why e)
+  fails : (why : Answer) → call .phase ≡ phase.Waiting → Step call (failOf (countedOf call) why)
+  unfolding failOf countedOf
+  fails why e = either (Step call) (call .budget) (retryOf (countedOf call)) (endOf (countedOf call) why) (λ left less. again left e less) (λ none. ends why e)
 
-  settles : (o : Outcome) → call .phase ≡ phase.Waiting → Step call (settleOf call o)
-  unfolding settleOf case_acknowledged_error_timeout_
+  settles : (o : Outcome) → call .phase ≡ phase.Waiting → Step call (settleOf (countedOf call) o)
+  unfolding settleOf case_acknowledged_error_timeout_ countedOf tallied
   settles outcome.Acknowledged e = goes-on e
   settles (outcome.BusError code) e = fails (answer.I2c code) e
   settles outcome.Timeout e = fails answer.Timeout e
 
   pub steps : (o : Outcome) (r n w : ℕ) → Step call (callW (reportOf call o r n w))
-  unfolding reportOf case_waiting_ended_ if_then_else_
+  unfolding reportOf case_waiting_ended_ if_then_else_ countedOf tallied
   steps o r n w = by (call .phase) refl (fitsOf (call .task .lent) n w) refl (repliedOf o r) refl
     where
       by : (p : Phase) → call .phase ≡ p → (t : Bool) → fitsOf (call .task .lent) n w ≡ t → (s : Bool) → repliedOf o r ≡ s → Step call (callW (reportOf call o r n w))
@@ -55,7 +55,7 @@ module _ (call : WriteCall) where
       by phase.Waiting e false f s g = let q : callW (reportOf call o r n w) ≡ call = rw (e, f) in subst (Step call) (sym q) stays
       by phase.Waiting e true f true g = let q : callW (reportOf call o r n w) ≡ call = rw (e, f, g) in subst (Step call) (sym q) stays
       by phase.Waiting e true f false g =
-          let q : callW (reportOf call o r n w) ≡ settleOf call o = rw (e, f, g) in
+          let q : callW (reportOf call o r n w) ≡ settleOf (countedOf call) o = rw (e, f, g) in
           subst (Step call) (sym q) (settles o e)
 
 -- what stays true: a waiting call has frames left, and each frame so far had at most 65,535 waits
@@ -69,7 +69,7 @@ pub record Sound (count : ℕ) (call : WriteCall) : Type 0 where
 
 module _ (count : ℕ) (few : count ≤ 256) where
   keeps : (call after : WriteCall) → Step call after → Sound count call → Sound count after
-  unfolding advanceOf retryOf endOf waited
+  unfolding advanceOf retryOf endOf waited countedOf tallied
   keeps call after stays s = s
   keeps call after (goes-on e) s =
       let below = s .due e in
@@ -121,7 +121,7 @@ tame count call s = record { frames = s .sent; waits = omega (arith, s .waits, s
 
 -- and no report changes what a call was started for
 step-task : (call after : WriteCall) → Step call after → after .task ≡ call .task
-unfolding advanceOf retryOf endOf
+unfolding advanceOf retryOf endOf countedOf
 step-task call after stays = refl
 step-task call after (goes-on e) = refl
 step-task call after (again left e less) = refl

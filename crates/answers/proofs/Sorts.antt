@@ -73,25 +73,25 @@ module _ (call : WriteCall) where
       by true f true q = let e : answer-of ≡ why = rw (f, q) in subst Ending (sym e) ok
       by true f false q = rw (f, q) (inr (inr (inr (inl refl))))
 
-  fail-ends : (why : Answer) → Ending why → Among (0 ∷ 1 ∷ 2 ∷ 6 ∷ []) (writing.failOf call why .phase)
-  unfolding Ending writing.failOf writing.retryOf writing.endOf failed case_retry_spent_ if_then_else_
+  fail-ends : (why : Answer) → Ending why → Among (0 ∷ 1 ∷ 2 ∷ 6 ∷ []) (writing.failOf (writing.countedOf call) why .phase)
+  unfolding Ending writing.failOf writing.retryOf writing.endOf failed case_retry_spent_ if_then_else_ writing.countedOf
   fail-ends why ok = by (eqb (call .budget .left) 0) refl
     where
-      by : (t : Bool) → eqb (call .budget .left) 0 ≡ t → Among (0 ∷ 1 ∷ 2 ∷ 6 ∷ []) (writing.failOf call why .phase)
+      by : (t : Bool) → eqb (call .budget .left) 0 ≡ t → Among (0 ∷ 1 ∷ 2 ∷ 6 ∷ []) (writing.failOf (writing.countedOf call) why .phase)
       by true t =
-          let q : writing.failOf call why .phase ≡ phase.Ended (writing.gaveUp (call .task .plan .frames) (call .sent) why) = rw t in
+          let q : writing.failOf (writing.countedOf call) why .phase ≡ phase.Ended (writing.gaveUp (call .task .plan .frames) (call .sent) why) = rw t in
           subst (Among (0 ∷ 1 ∷ 2 ∷ 6 ∷ [])) (sym q) (gives-up why ok)
-      by false t = let q : writing.failOf call why .phase ≡ phase.Waiting = rw t in subst (Among (0 ∷ 1 ∷ 2 ∷ 6 ∷ [])) (sym q) tt
+      by false t = let q : writing.failOf (writing.countedOf call) why .phase ≡ phase.Waiting = rw t in subst (Among (0 ∷ 1 ∷ 2 ∷ 6 ∷ [])) (sym q) tt
 
-  settle-ends : (o : Outcome) → Among (0 ∷ 1 ∷ 2 ∷ 6 ∷ []) (writing.settleOf call o .phase)
-  unfolding Ending writing.settleOf writing.advanceOf case_acknowledged_error_timeout_
+  settle-ends : (o : Outcome) → Among (0 ∷ 1 ∷ 2 ∷ 6 ∷ []) (writing.settleOf (writing.countedOf call) o .phase)
+  unfolding Ending writing.settleOf writing.advanceOf case_acknowledged_error_timeout_ writing.countedOf
   settle-ends outcome.Acknowledged = phase-ends _ _ _
   settle-ends (outcome.BusError code) = fail-ends (answer.I2c code) (inr (inl refl))
   settle-ends outcome.Timeout = fail-ends answer.Timeout (inr (inr (inl refl)))
 
   -- EVERY REPORT TO A WRITING CALL
   pub sort-w : (o : Outcome) (r n w : ℕ) → SortW call (writing.reportOf call o r n w)
-  unfolding writing.reportOf case_waiting_ended_ if_then_else_
+  unfolding writing.reportOf case_waiting_ended_ if_then_else_ writing.countedOf
   sort-w o r n w = by (call .phase) refl (fitsOf (call .task .lent) n w) refl (writing.repliedOf o r) refl
     where
       result : WriteReported
@@ -101,7 +101,7 @@ module _ (call : WriteCall) where
       by (phase.Ended a) e t f s g = let q : result ≡ wrote.Refused answer.NothingOutstanding call = rw e in subst (SortW call) (sym q) (inr (inr (inl refl)), refl)
       by phase.Waiting e false f s g = let q : result ≡ wrote.Refused answer.WrongBuffer call = rw (e, f) in subst (SortW call) (sym q) (inl refl, refl)
       by phase.Waiting e true f true g = let q : result ≡ wrote.Refused answer.WrongReply call = rw (e, f, g) in subst (SortW call) (sym q) (inr (inl refl), refl)
-      by phase.Waiting e true f false g = let q : result ≡ wrote.Taken (writing.settleOf call o) = rw (e, f, g) in subst (SortW call) (sym q) (e, settle-ends o)
+      by phase.Waiting e true f false g = let q : result ≡ wrote.Taken (writing.settleOf (writing.countedOf call) o) = rw (e, f, g) in subst (SortW call) (sym q) (e, settle-ends o)
 
   -- WHAT A WRITING CALL SHOWS
   pub shows-w : (payload work : List ℕ) → Shown (Unit {0}) AsksNothing (call .phase) (call .task .lent) (length payload) (length work) work (writing.workAfter call payload work) (writing.nextOf call payload (length work))
@@ -146,13 +146,13 @@ module _ (call : WriteCall) where
 -- ---- a reading call
 
 module _ (call : ReadCall) where
-  reads-fail : (why : Answer) → OneOf (0 ∷ 1 ∷ 2 ∷ 3 ∷ []) (numberOf why) → Among (0 ∷ 1 ∷ 2 ∷ 3 ∷ []) (reading.failOf call why .phase)
-  unfolding reading.failOf reading.retryOf reading.endOf failed case_retry_spent_ if_then_else_
+  reads-fail : (why : Answer) → OneOf (0 ∷ 1 ∷ 2 ∷ 3 ∷ []) (numberOf why) → Among (0 ∷ 1 ∷ 2 ∷ 3 ∷ []) (reading.failOf (reading.countedOf call) why .phase)
+  unfolding reading.failOf reading.retryOf reading.endOf failed case_retry_spent_ if_then_else_ reading.countedOf
   reads-fail why ok = by (eqb (call .budget .left) 0) refl
     where
-      by : (t : Bool) → eqb (call .budget .left) 0 ≡ t → Among (0 ∷ 1 ∷ 2 ∷ 3 ∷ []) (reading.failOf call why .phase)
-      by true t = let q : reading.failOf call why .phase ≡ phase.Ended why = rw t in subst (Among (0 ∷ 1 ∷ 2 ∷ 3 ∷ [])) (sym q) ok
-      by false t = let q : reading.failOf call why .phase ≡ phase.Waiting = rw t in subst (Among (0 ∷ 1 ∷ 2 ∷ 3 ∷ [])) (sym q) tt
+      by : (t : Bool) → eqb (call .budget .left) 0 ≡ t → Among (0 ∷ 1 ∷ 2 ∷ 3 ∷ []) (reading.failOf (reading.countedOf call) why .phase)
+      by true t = let q : reading.failOf (reading.countedOf call) why .phase ≡ phase.Ended why = rw t in subst (Among (0 ∷ 1 ∷ 2 ∷ 3 ∷ [])) (sym q) ok
+      by false t = let q : reading.failOf (reading.countedOf call) why .phase ≡ phase.Waiting = rw t in subst (Among (0 ∷ 1 ∷ 2 ∷ 3 ∷ [])) (sym q) tt
 
   -- what a verdict can be
   abbrev Fit : Verdict → Type 0
@@ -205,17 +205,17 @@ module _ (call : ReadCall) where
           subst Fit (sym q) (outcome-fit o bytes e)
 
   -- a call that goes on or is done
-  headed-ends : Among (0 ∷ 1 ∷ 2 ∷ 3 ∷ []) (reading.headedOf call .phase)
+  headed-ends : Among (0 ∷ 1 ∷ 2 ∷ 3 ∷ []) (reading.headedOf (reading.countedOf call) .phase)
   unfolding reading.headedOf
   headed-ends = phase-ends _ _ _
 
-  block-ends : Among (0 ∷ 1 ∷ 2 ∷ 3 ∷ []) (reading.advanceOf call .phase)
+  block-ends : Among (0 ∷ 1 ∷ 2 ∷ 3 ∷ []) (reading.advanceOf (reading.countedOf call) .phase)
   unfolding reading.advanceOf
   block-ends = phase-ends _ _ _
 
   -- once a block is handed over the call waits or is done
-  block-kept : (before after : List ℕ) → Kept (reading.advanceOf call .phase) before after
-  unfolding reading.advanceOf phaseAfter if_then_else_
+  block-kept : (before after : List ℕ) → Kept (reading.advanceOf (reading.countedOf call) .phase) before after
+  unfolding reading.advanceOf phaseAfter if_then_else_ reading.countedOf
   block-kept before after going undone = by (leb (parts.readCount (call .task .plan .reads) (call .task .lent .length)) (moreOf (call .received))) refl
     where
       by : (t : Bool) → leb (parts.readCount (call .task .plan .reads) (call .task .lent .length)) (moreOf (call .received)) ≡ t → after ≡ before
@@ -225,7 +225,7 @@ module _ (call : ReadCall) where
   -- EVERY REPORT TO A READING CALL
   pub sort-r : (o : Outcome) (bytes buffer : List ℕ) (w : ℕ)
       → SortR call buffer (reading.bufferAfter call o bytes buffer w) (reading.reportOf call o bytes (length buffer) w)
-  unfolding reading.reportOf reading.bufferAfter case_refused_fault_headed_block_
+  unfolding reading.reportOf reading.bufferAfter case_refused_fault_headed_block_ reading.countedOf
   sort-r o bytes buffer w = by (reading.judgeOf call o bytes (length buffer) w) refl (judge-fit o bytes (length buffer) w)
     where
       At : List ℕ → ReadReported → Type 0
@@ -241,13 +241,13 @@ module _ (call : ReadCall) where
       by (verdict.Refused a) e fit = both buffer (read.Refused a call) (rw e) (rw e) (subst Fit e fit, refl, refl)
       by (verdict.Failed a) e fit =
           let f : Fit (verdict.Failed a) = subst Fit e fit in
-          both buffer (read.Taken (reading.failOf call a)) (rw e) (rw e) (f .0, reads-fail a (f .1), (λ x y. refl))
+          both buffer (read.Taken (reading.failOf (reading.countedOf call) a)) (rw e) (rw e) (f .0, reads-fail a (f .1), (λ x y. refl))
       by verdict.Head e fit =
           let f : Fit verdict.Head = subst Fit e fit in
-          both buffer (read.Taken (reading.headedOf call)) (rw e) (rw e) (f, headed-ends, (λ x y. refl))
+          both buffer (read.Taken (reading.headedOf (reading.countedOf call))) (rw e) (rw e) (f, headed-ends, (λ x y. refl))
       by verdict.Block e fit =
           let f : Fit verdict.Block = subst Fit e fit in
-          both (reading.storedOf call bytes buffer) (read.Taken (reading.advanceOf call)) (rw e) (rw e) (f, block-ends, block-kept buffer (reading.storedOf call bytes buffer))
+          both (reading.storedOf call bytes buffer) (read.Taken (reading.advanceOf (reading.countedOf call))) (rw e) (rw e) (f, block-ends, block-kept buffer (reading.storedOf call bytes buffer))
 
   -- WHAT A READING CALL SHOWS
   pub shows-r : (n : ℕ) (work : List ℕ) → Shown (call .heading ≡ true) (AsksOf call) (call .phase) (call .task .lent) n (length work) work (reading.workAfter call n work) (reading.nextOf call n (length work))

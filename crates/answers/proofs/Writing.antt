@@ -21,7 +21,7 @@ use Rattle.engine.specs.declared.bus.Phase.the-variants as phase
 use Rattle.writing.specs.Frames as frames
 use Rattle.writing.specs.declared.frames.Frames.{Frames}
 use Rattle.writing.specs.declared.frames.Frames.the-variants as sent
-use Rattle.writing.specs.Writing.{advanceOf, gaveUp, retryOf, endOf, failOf, settleOf, repliedOf, reportOf}
+use Rattle.writing.specs.Writing.{advanceOf, gaveUp, retryOf, endOf, failOf, settleOf, repliedOf, reportOf, countedOf}
 use Rattle.writing.specs.declared.call.WriteCall.{WriteCall}
 use Rattle.writing.specs.declared.call.WriteReported.the-variants as wrote
 use Rattle.answers.specs.Rows.{Says, Failure, saidW, OpenW, Partial, Writes}
@@ -73,51 +73,51 @@ module _ (call : WriteCall) (o : Outcome) (r n w : ℕ) where
           subst Row (sym g) (partly ready bad last (flash-from _ f, omega arith))
 
   fail-holds : (why : Answer) → OpenW call n w → Failure o
-      → (call .budget .left ≡ 0 → (Partial call → ⊥) → Row why) → Holds (failOf call why .phase)
-  unfolding Row failOf failed retryOf endOf case_retry_spent_ if_then_else_
+      → (call .budget .left ≡ 0 → (Partial call → ⊥) → Row why) → Holds (failOf (countedOf call) why .phase)
+  unfolding Row failOf failed retryOf endOf case_retry_spent_ if_then_else_ countedOf
   fail-holds why ready bad row = by (eqb (call .budget .left) 0) refl
     where
-      by : (t : Bool) → eqb (call .budget .left) 0 ≡ t → Holds (failOf call why .phase)
+      by : (t : Bool) → eqb (call .budget .left) 0 ≡ t → Holds (failOf (countedOf call) why .phase)
       by true t =
           let last = eqb-true (call .budget .left) 0 t in
-          let q : failOf call why .phase ≡ phase.Ended (gaveUp (call .task .plan .frames) (call .sent) why) = rw t in
+          let q : failOf (countedOf call) why .phase ≡ phase.Ended (gaveUp (call .task .plan .frames) (call .sent) why) = rw t in
           subst Holds (sym q) (gave-up why ready bad last (row last))
-      by false t = let q : failOf call why .phase ≡ phase.Waiting = rw t in subst Holds (sym q) tt
+      by false t = let q : failOf (countedOf call) why .phase ≡ phase.Waiting = rw t in subst Holds (sym q) tt
 
-  sent-holds : OpenW call n w → o ≡ outcome.Acknowledged → r ≡ 0 → Holds (advanceOf call .phase)
-  unfolding advanceOf phaseAfter if_then_else_
+  sent-holds : OpenW call n w → o ≡ outcome.Acknowledged → r ≡ 0 → Holds (advanceOf (countedOf call) .phase)
+  unfolding advanceOf phaseAfter if_then_else_ countedOf
   sent-holds ready ack none = by (leb (frames.frameCount (call .task .plan .frames) (call .task .lent .length)) (moreOf (call .sent))) refl
     where
-      by : (t : Bool) → leb (frames.frameCount (call .task .plan .frames) (call .task .lent .length)) (moreOf (call .sent)) ≡ t → Holds (advanceOf call .phase)
+      by : (t : Bool) → leb (frames.frameCount (call .task .plan .frames) (call .task .lent .length)) (moreOf (call .sent)) ≡ t → Holds (advanceOf (countedOf call) .phase)
       by true t =
-          let q : advanceOf call .phase ≡ phase.Ended answer.Done = rw t in
+          let q : advanceOf (countedOf call) .phase ≡ phase.Ended answer.Done = rw t in
           subst Holds (sym q) (done ready ack none (leb-true _ _ t))
-      by false t = let q : advanceOf call .phase ≡ phase.Waiting = rw t in subst Holds (sym q) tt
+      by false t = let q : advanceOf (countedOf call) .phase ≡ phase.Waiting = rw t in subst Holds (sym q) tt
 
   -- a report that is looked at
-  taken-holds : OpenW call n w → (x : Outcome) → o ≡ x → Holds (saidW (if_then_else_ (repliedOf o r) (wrote.Refused answer.WrongReply call) (wrote.Taken (settleOf call o))))
-  unfolding Row repliedOf settleOf case_acknowledged_error_timeout_ if_then_else_
+  taken-holds : OpenW call n w → (x : Outcome) → o ≡ x → Holds (saidW (if_then_else_ (repliedOf o r) (wrote.Refused answer.WrongReply call) (wrote.Taken (settleOf (countedOf call) o))))
+  unfolding Row repliedOf settleOf case_acknowledged_error_timeout_ if_then_else_ countedOf
   taken-holds ready outcome.Acknowledged e = by (eqb r 0) refl
     where
       said : Phase
-      said = saidW (if_then_else_ (repliedOf o r) (wrote.Refused answer.WrongReply call) (wrote.Taken (settleOf call o)))
+      said = saidW (if_then_else_ (repliedOf o r) (wrote.Refused answer.WrongReply call) (wrote.Taken (settleOf (countedOf call) o)))
 
       by : (t : Bool) → eqb r 0 ≡ t → Holds said
       by true t =
-          let q : said ≡ advanceOf call .phase = rw (e, t) in
+          let q : said ≡ advanceOf (countedOf call) .phase = rw (e, t) in
           subst Holds (sym q) (sent-holds ready e (eqb-true r 0 t))
       by false t =
           let q : said ≡ phase.Ended answer.WrongReply = rw (e, t) in
           subst Holds (sym q) (wrong-reply ready e (eqb-false r 0 t))
   taken-holds ready (outcome.BusError code) e =
-      let q : saidW (if_then_else_ (repliedOf o r) (wrote.Refused answer.WrongReply call) (wrote.Taken (settleOf call o))) ≡ failOf call (answer.I2c code) .phase = rw e in
+      let q : saidW (if_then_else_ (repliedOf o r) (wrote.Refused answer.WrongReply call) (wrote.Taken (settleOf (countedOf call) o))) ≡ failOf (countedOf call) (answer.I2c code) .phase = rw e in
       subst Holds (sym q) (fail-holds (answer.I2c code) ready (rw e tt) (bus-error code ready e))
   taken-holds ready outcome.Timeout e =
-      let q : saidW (if_then_else_ (repliedOf o r) (wrote.Refused answer.WrongReply call) (wrote.Taken (settleOf call o))) ≡ failOf call answer.Timeout .phase = rw e in
+      let q : saidW (if_then_else_ (repliedOf o r) (wrote.Refused answer.WrongReply call) (wrote.Taken (settleOf (countedOf call) o))) ≡ failOf (countedOf call) answer.Timeout .phase = rw e in
       subst Holds (sym q) (fail-holds answer.Timeout ready (rw e tt) (timed-out ready e))
 
   report-holds : Holds (saidW (reportOf call o r n w))
-  unfolding reportOf case_waiting_ended_ if_then_else_
+  unfolding reportOf case_waiting_ended_ if_then_else_ countedOf
   report-holds = by (call .phase) refl (fitsOf (call .task .lent) n w) refl
     where
       by : (p : Phase) → call .phase ≡ p → (t : Bool) → fitsOf (call .task .lent) n w ≡ t → Holds (saidW (reportOf call o r n w))
@@ -128,17 +128,17 @@ module _ (call : WriteCall) (o : Outcome) (r n w : ℕ) where
           let q : saidW (reportOf call o r n w) ≡ phase.Ended answer.WrongBuffer = rw (e, f) in
           subst Holds (sym q) (wrong-buffer e (other-fits (call .task .lent) n w f))
       by phase.Waiting e true f =
-          let q : saidW (reportOf call o r n w) ≡ saidW (if_then_else_ (repliedOf o r) (wrote.Refused answer.WrongReply call) (wrote.Taken (settleOf call o))) = rw (e, f) in
+          let q : saidW (reportOf call o r n w) ≡ saidW (if_then_else_ (repliedOf o r) (wrote.Refused answer.WrongReply call) (wrote.Taken (settleOf (countedOf call) o))) = rw (e, f) in
           subst Holds (sym q) (taken-holds (e, fits-same (call .task .lent) n w f) o refl)
 
   -- ---- and a row that holds is answered
 
-  looked : OpenW call n w → reportOf call o r n w ≡ if_then_else_ (repliedOf o r) (wrote.Refused answer.WrongReply call) (wrote.Taken (settleOf call o))
+  looked : OpenW call n w → reportOf call o r n w ≡ if_then_else_ (repliedOf o r) (wrote.Refused answer.WrongReply call) (wrote.Taken (settleOf (countedOf call) o))
   unfolding reportOf case_waiting_ended_ if_then_else_
   looked (e, same) = rw (e, same-fits (call .task .lent) n w same)
 
-  gives-up : (why : Answer) → call .budget .left ≡ 0 → failOf call why .phase ≡ phase.Ended (gaveUp (call .task .plan .frames) (call .sent) why)
-  unfolding failOf failed endOf case_retry_spent_ if_then_else_
+  gives-up : (why : Answer) → call .budget .left ≡ 0 → failOf (countedOf call) why .phase ≡ phase.Ended (gaveUp (call .task .plan .frames) (call .sent) why)
+  unfolding failOf failed endOf case_retry_spent_ if_then_else_ countedOf
   gives-up why last = rw (eq-eqb (call .budget .left) 0 last)
 
   whole-why : (why : Answer) → (Partial call → ⊥) → gaveUp (call .task .plan .frames) (call .sent) why ≡ why
@@ -154,14 +154,14 @@ module _ (call : WriteCall) (o : Outcome) (r n w : ℕ) where
   unfolding gaveUp if_then_else_
   partial-why why (f, some) = let p : call .sent ≡ 0 → ⊥ = λ e. omega arith in rw (from-flash _ (f .0) (f .1), ne-eqb (call .sent) 0 p)
 
-  failure : OpenW call n w → (x : Outcome) → o ≡ x → Failure x → (a : Answer) → ((why : Answer) → failOf call why .phase ≡ phase.Ended a) → saidW (reportOf call o r n w) ≡ phase.Ended a
-  unfolding repliedOf settleOf case_acknowledged_error_timeout_ if_then_else_
+  failure : OpenW call n w → (x : Outcome) → o ≡ x → Failure x → (a : Answer) → ((why : Answer) → failOf (countedOf call) why .phase ≡ phase.Ended a) → saidW (reportOf call o r n w) ≡ phase.Ended a
+  unfolding repliedOf settleOf case_acknowledged_error_timeout_ if_then_else_ countedOf
   failure ready outcome.Acknowledged e bad a ends = absurd bad
   failure ready (outcome.BusError code) e bad a ends = ap saidW (looked ready) ∙ rw e (ends (answer.I2c code))
   failure ready outcome.Timeout e bad a ends = ap saidW (looked ready) ∙ rw e (ends answer.Timeout)
 
   report-row : (k d : ℕ) → Writes call o r n w k d → Says k d (saidW (reportOf call o r n w))
-  unfolding reportOf repliedOf settleOf advanceOf phaseAfter case_waiting_ended_ case_acknowledged_error_timeout_ if_then_else_
+  unfolding reportOf repliedOf settleOf advanceOf phaseAfter case_waiting_ended_ case_acknowledged_error_timeout_ if_then_else_ countedOf
   report-row k d (done ready ack none all) = says-of answer.Done (saidW (reportOf call o r n w)) (ap saidW (looked ready) ∙ rw (ack, eq-eqb r 0 none, le-leb _ _ all))
   report-row k d (bus-error code ready e last whole) =
       says-of (answer.I2c code) (saidW (reportOf call o r n w))

@@ -25,6 +25,7 @@ pub record BegunW (plan : WritePlan) (n w : ℕ) (call : WriteCall) : Type 0 whe
   pub sent : call .sent ≡ 0
   pub budget : call .budget .left ≡ plan .retries
   pub waits : call .tally .waits ≡ 0
+  pub transfers : call .tally .transfers ≡ 0
 
 pub record BegunR (plan : ReadPlan) (n w : ℕ) (call : ReadCall) : Type 0 where
   pub phase : call .phase ≡ admitted (plan .limit) (parts.firstAddress (plan .head)) n w
@@ -33,6 +34,7 @@ pub record BegunR (plan : ReadPlan) (n w : ℕ) (call : ReadCall) : Type 0 where
   pub received : call .received ≡ 0
   pub budget : call .budget .left ≡ plan .retries
   pub waits : call .tally .waits ≡ 0
+  pub transfers : call .tally .transfers ≡ 0
 
 -- a call starts as its limit says, for what it was started for, with nothing sent, received or counted; its first frame or its head is due, if it has one
 pub record Admitted : Type 0 where

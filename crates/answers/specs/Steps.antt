@@ -113,9 +113,9 @@ pub record HandsOut : Type 0 where
 
 -- a failed attempt takes one retry and one wait; with none left it ends the call, with no wait
 abbrev pub FailedOnce : Budget → Tally → Phase → Budget → Tally → Type 0
-FailedOnce left waits p left′ waits′ =
-    ((p ≡ phase.Waiting) × (left′ .left + 1 ≡ left .left) × (waits′ .waits ≡ moreOf (waits .waits)))
-    ⊎ ((p ≡ phase.Waiting → ⊥) × (left .left ≡ 0) × (left′ .left ≡ 0) × (waits′ .waits ≡ waits .waits))
+FailedOnce left tally p left′ tally′ =
+    ((p ≡ phase.Waiting) × (left′ .left + 1 ≡ left .left) × (tally′ .waits ≡ moreOf (tally .waits)))
+    ⊎ ((p ≡ phase.Waiting → ⊥) × (left .left ≡ 0) × (left′ .left ≡ 0) × (tally′ .waits ≡ tally .waits))
 
 -- of a write, after a failed attempt the same frame is due
 abbrev pub MissedW : WriteCall → WriteCall → Type 0
@@ -128,10 +128,10 @@ PaidW call outcome.Acknowledged next =
 PaidW call (outcome.BusError code) next = MissedW call next
 PaidW call outcome.Timeout next = MissedW call next
 
--- a refused report costs nothing (`SortW`); none that is taken changes what the call was started for
+-- a refused report costs nothing (`SortW`); one that is taken is one transfer more, and does not change what the call was started for
 abbrev pub CostW : WriteCall → Outcome → WriteReported → Type 0
 CostW call o (wrote.Refused a same) = Unit {0}
-CostW call o (wrote.Taken next) = (next .task ≡ call .task) × PaidW call o next
+CostW call o (wrote.Taken next) = (next .task ≡ call .task) × (next .tally .transfers ≡ moreOf (call .tally .transfers)) × PaidW call o next
 
 -- of a read, after a failed attempt the head is due again exactly where there is one, with as many blocks received
 abbrev pub MissedR : ReadCall → ReadCall → Type 0
@@ -154,7 +154,7 @@ PaidR call outcome.Timeout bytes next = MissedR call next
 
 abbrev pub CostR : ReadCall → Outcome → List ℕ → ReadReported → Type 0
 CostR call o bytes (read.Refused a same) = Unit {0}
-CostR call o bytes (read.Taken next) = (next .task ≡ call .task) × PaidR call o bytes next
+CostR call o bytes (read.Taken next) = (next .task ≡ call .task) × (next .tally .transfers ≡ moreOf (call .tally .transfers)) × PaidR call o bytes next
 
 -- ---- what a report leaves in a reading call's buffer: a head, a failure or a wrong PEC brings nothing, and the blocks in front stay
 

@@ -11,7 +11,7 @@ use Rattle.protocol.specs.Window.{inWindow}
 use Rattle.protocol.specs.Reply as reply
 use Rattle.protocol.specs.declared.common.Config.{Config}
 use Rattle.engine.specs.Pick.{case_waiting_ended_, case_acknowledged_error_timeout_, case_retry_spent_}
-use Rattle.engine.specs.Budget.{failed, nothing, waited}
+use Rattle.engine.specs.Budget.{failed, nothing, waited, tallied}
 use Rattle.engine.specs.Bus.{phaseAfter, fitsOf}
 use Rattle.engine.specs.Limit.{windowed, commanded, measured, admitted}
 use Rattle.engine.specs.declared.bus.Outcome.{Outcome}
@@ -79,8 +79,8 @@ runs =
 -- 0 to 10, with the bus error's code and the 32 bytes committed
 pub runs-reach : map figures runs
     ≡ (0 ∷ 0 ∷ []) ∷ (1 ∷ 5 ∷ []) ∷ (2 ∷ 0 ∷ []) ∷ (3 ∷ 0 ∷ []) ∷ (4 ∷ 0 ∷ []) ∷ (5 ∷ 0 ∷ []) ∷ (6 ∷ 32 ∷ []) ∷ (7 ∷ 0 ∷ []) ∷ (8 ∷ 0 ∷ []) ∷ (9 ∷ 0 ∷ []) ∷ (10 ∷ 0 ∷ []) ∷ []
-unfolding bitStep bitSteps byteStep pecOf if_then_else_ inWindow case_waiting_ended_ case_acknowledged_error_timeout_ case_retry_spent_ failed nothing waited phaseAfter fitsOf windowed commanded measured admitted
-    frames.isFlash frames.firstAddress frames.frameCount writing.planOf writing.startOf writing.advanceOf writing.gaveUp writing.retryOf writing.endOf writing.failOf writing.settleOf writing.repliedOf writing.reportOf
-    case_refused_fault_headed_block_ parts.hasHead parts.firstAddress parts.readCount parts.askOf parts.blockAsk reading.plainPlan reading.startOf reading.dueAsk reading.headedOf reading.advanceOf reading.retryOf reading.endOf reading.failOf reading.heardHead reading.verdictOf reading.heardBlock reading.acknowledgedOf reading.weighOf reading.judgeOf reading.reportOf
+unfolding bitStep bitSteps byteStep pecOf if_then_else_ inWindow case_waiting_ended_ case_acknowledged_error_timeout_ case_retry_spent_ failed nothing waited tallied phaseAfter fitsOf windowed commanded measured admitted
+    frames.isFlash frames.firstAddress frames.frameCount writing.planOf writing.startOf writing.advanceOf writing.gaveUp writing.retryOf writing.endOf writing.failOf writing.settleOf writing.repliedOf writing.countedOf writing.reportOf
+    case_refused_fault_headed_block_ parts.hasHead parts.firstAddress parts.readCount parts.askOf parts.blockAsk reading.plainPlan reading.startOf reading.dueAsk reading.headedOf reading.advanceOf reading.retryOf reading.endOf reading.failOf reading.heardHead reading.verdictOf reading.heardBlock reading.acknowledgedOf reading.weighOf reading.judgeOf reading.countedOf reading.reportOf
     reply.plainAsk reply.macAsk reply.leadOf reply.aroundOf reply.bytesAsked reply.checkedOf reply.heardOf writeRegister readRegister dispatchCommand readDataflash writeDataflash
 runs-reach = refl

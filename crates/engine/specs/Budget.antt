@@ -1,4 +1,5 @@
--- What a failed attempt costs. (01, Frames and retries: with r retries, r + 1 failures end a budget; each retried failure is one wait)
+-- What a failed attempt costs, and what a call counts. (01, Frames and retries: with r retries, r + 1 failures end a budget; each retried failure is one wait;
+-- 02, W-208: a call counts its transfers)
 -- Assumes nothing.
 use Prim.Native.Nat.{ℕ, _+_, _-_, min}
 use lib.Dec.{eqb}
@@ -17,8 +18,12 @@ abbrev pub moreOf : ℕ → ℕ
 moreOf n = min (n + 1) 4294967295
 
 unfoldable pub nothing : Tally
-nothing = record { waits = 0 }
+nothing = record { waits = 0; transfers = 0 }
 
 -- one wait more
 unfoldable pub waited : Tally → Tally
-waited t = record { waits = moreOf (t .waits) }
+waited t = record { waits = moreOf (t .waits); transfers = t .transfers }
+
+-- one transfer more
+unfoldable pub tallied : Tally → Tally
+tallied t = record { waits = t .waits; transfers = moreOf (t .transfers) }

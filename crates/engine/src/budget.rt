@@ -1,6 +1,6 @@
-// What a failed attempt costs: the one rule of retries, and the count of waits.
+// What a failed attempt costs: the one rule of retries, and what a call counts.
 ghost use mathlib.Core.Path.{_≡_};
-ghost use Rattle.engine.specs.Budget.{failed, moreOf, nothing, waited};
+ghost use Rattle.engine.specs.Budget.{failed, moreOf, nothing, waited, tallied};
 
 // The retries that are left to a frame, or to a whole reading call.
 pub struct Budget {
@@ -33,9 +33,11 @@ impl Budget {
 pub struct Tally {
     // Waits of 10 ms, one for each failure that was retried.
     pub waits: u32,
+    // Transfers, one for each outcome that was taken.
+    pub transfers: u32,
 }
 
-// One more. The count stays at the largest number, which no started call reaches.
+// One more. The count stays at the largest number, which no call by name reaches.
 pub fn more(n: u32) -> u32
     ensures { λ r. ⌜ r ≡ moreOf n ⌝ }
 {
@@ -47,7 +49,10 @@ impl Tally {
     pub fn new() -> Tally
         ensures { λ r. ⌜ r ≡ nothing ⌝ }
     {
-        Tally { waits: 0 }
+        Tally {
+            waits: 0,
+            transfers: 0,
+        }
     }
 
     // One wait more.
@@ -56,6 +61,17 @@ impl Tally {
     {
         Tally {
             waits: more(self.waits),
+            transfers: self.transfers,
+        }
+    }
+
+    // One transfer more.
+    pub fn transfer(self) -> Tally
+        ensures { λ r. ⌜ r ≡ tallied self ⌝ }
+    {
+        Tally {
+            waits: self.waits,
+            transfers: more(self.transfers),
         }
     }
 }

@@ -69,7 +69,8 @@ impl Seen {
         let gauge = link.gauge;
         let mut seen = self.ended(end);
         let waited = digest::number(seen.stops, tally.waits as u64);
-        let pointed = digest::number(waited, gauge.pointer as u64);
+        let made = digest::number(waited, tally.transfers as u64);
+        let pointed = digest::number(made, gauge.pointer as u64);
         seen.stops = digest::bytes(pointed, buffer);
         seen
     }

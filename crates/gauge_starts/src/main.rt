@@ -1,6 +1,7 @@
-// Runs data-flash writes and reads against the model gauge over one course with losses: from starts that are not aligned to a block, that go from one page of 256 addresses to
-// the next, that end at the last address, and that the window refuses. A line has the answer and its detail, the waits, the gauge's pointer, and digests of the flash and of a
-// read's buffer. The file `stdout` comes from tests/gauge_starts.py, a program of its own that goes by document 01.
+// Runs data-flash writes and reads against the model gauge over one course with losses: from starts that are not aligned to a block, that go from one
+// page of 256 addresses to the next, that end at the last address, and that the window refuses. A line has the answer and its detail, the waits, the
+// transfers, the gauge's pointer, and digests of the flash and of a read's buffer. The file `stdout` comes from tests/gauge_starts.py, a program of its own
+// that goes by document 01.
 mod runs;
 mod say;
 

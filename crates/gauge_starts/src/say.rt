@@ -56,7 +56,7 @@ fn end(end: End) {
     }
 }
 
-// How a run ended, the waits, and where the gauge then reads.
+// How a run ended, the waits, the transfers, and where the gauge then reads.
 pub(crate) fn left(run: Run) {
     let ended = run.end;
     let link = run.link;
@@ -65,6 +65,7 @@ pub(crate) fn left(run: Run) {
     let gauge = link.gauge;
     end(ended);
     number(b" waits ", tally.waits as u64);
+    number(b" transfers ", tally.transfers as u64);
     address(b" pointer ", gauge.pointer);
 }
 

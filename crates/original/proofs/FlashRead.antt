@@ -16,7 +16,7 @@ use Rattle.protocol.specs.Frame.{sealed, macBytes, pairOf}
 use Rattle.protocol.specs.Reply.{macAsk, leadOf, aroundOf, bytesAsked, dataOf}
 use Rattle.protocol.specs.declared.error.Answer.{Answer}
 use Rattle.protocol.specs.declared.error.Answer.the-variants as answer
-use Rattle.engine.specs.Budget.{waited}
+use Rattle.engine.specs.Budget.{waited, tallied}
 use Rattle.engine.specs.declared.budget.Tally.{Tally}
 use Rattle.engine.specs.declared.limit.Limit.{Limit}
 use Rattle.reading.specs.Parts as parts
@@ -189,27 +189,27 @@ module _ (start : ℕ) where
     turn-address : (pec : Bool) (i left : ℕ) (tally : Tally) (buffer : List ℕ) (done : List Made) (o : BusOutcome) (outcomes : List BusOutcome) → length buffer ≡ n → i * 32 < n
         → fedRead (at (plan pec) n w true i left tally) buffer lent done (o ∷ outcomes)
         ≡ (busOp o
-        err (λ e. fedRead (reading.failOf (at (plan pec) n w true i left tally) e) buffer lent (done ++ (write (address pec (i * 32)) ∷ [])) outcomes)
-        ok (λ bytes. fedRead (at (plan pec) n w false i left tally) buffer lent (done ++ (write (address pec (i * 32)) ∷ [])) outcomes))
+        err (λ e. fedRead (reading.failOf (at (plan pec) n w true i left (tallied tally)) e) buffer lent (done ++ (write (address pec (i * 32)) ∷ [])) outcomes)
+        ok (λ bytes. fedRead (at (plan pec) n w false i left (tallied tally)) buffer lent (done ++ (write (address pec (i * 32)) ∷ [])) outcomes))
     unfolding parts.readCount
     turn-address pec i left tally buffer done o outcomes b h =
-        rw (← framed pec i, ← after-head (plan pec) n w i left tally (omega arith)) (turn-head (plan pec) n w lent steady i left tally buffer done o outcomes b (fits-head i))
+        rw (← framed pec i, ← after-head (plan pec) n w i left (tallied tally) (omega arith)) (turn-head (plan pec) n w lent steady i left tally buffer done o outcomes b (fits-head i))
 
     -- a turn at a read
     turn-chunk : (pec : Bool) (i left : ℕ) (tally : Tally) (buffer : List ℕ) (done : List Made) (o : BusOutcome) (outcomes : List BusOutcome) → length buffer ≡ n → i * 32 < n
         → fedRead (at (plan pec) n w false i left tally) buffer lent done (o ∷ outcomes)
         ≡ (busOp o
-        err (λ e. fedRead (reading.failOf (at (plan pec) n w false i left tally) e) buffer lent (done ++ (read 0x44 (count pec (n - i * 32)) ∷ [])) outcomes)
+        err (λ e. fedRead (reading.failOf (at (plan pec) n w false i left (tallied tally)) e) buffer lent (done ++ (read 0x44 (count pec (n - i * 32)) ∷ [])) outcomes)
         ok (λ bytes. if not (bad pec (delivered (count pec (n - i * 32)) bytes))
-        then fedRead (reading.advanceOf (at (plan pec) n w false i left tally)) (placed (i * 32) (min 32 (n - i * 32)) (delivered (count pec (n - i * 32)) bytes) buffer)
+        then fedRead (reading.advanceOf (at (plan pec) n w false i left (tallied tally))) (placed (i * 32) (min 32 (n - i * 32)) (delivered (count pec (n - i * 32)) bytes) buffer)
         lent (done ++ (read 0x44 (count pec (n - i * 32)) ∷ [])) outcomes
-        else fedRead (reading.failOf (at (plan pec) n w false i left tally) answer.Pec) buffer lent (done ++ (read 0x44 (count pec (n - i * 32)) ∷ [])) outcomes))
+        else fedRead (reading.failOf (at (plan pec) n w false i left (tallied tally)) answer.Pec) buffer lent (done ++ (read 0x44 (count pec (n - i * 32)) ∷ [])) outcomes))
     unfolding busOp_err_ok_
     turn-chunk pec i left tally buffer done (Acknowledged bytes) outcomes b h =
         let reply : List ℕ = delivered (count pec (n - i * 32)) bytes in
         let l : length (delivered (count pec (n - i * 32)) bytes) ≡ count pec (n - i * 32) = length-delivered (count pec (n - i * 32)) bytes in
         turn-read (plan pec) n w lent steady i left tally buffer done (Acknowledged bytes) outcomes b
-        ∙ rw (counted pec i, commanded pec i, believes pec i reply l, stored pec i left tally reply buffer b l (omega arith))
+        ∙ rw (counted pec i, commanded pec i, believes pec i reply l, stored pec i left (tallied tally) reply buffer b l (omega arith))
     turn-chunk pec i left tally buffer done (BusError code) outcomes b h =
         turn-read (plan pec) n w lent steady i left tally buffer done (BusError code) outcomes b ∙ rw (counted pec i, commanded pec i)
     turn-chunk pec i left tally buffer done Timeout outcomes b h =
@@ -229,7 +229,7 @@ module _ (start : ℕ) where
         next-chunk pec outcomes ih i left tally (placed (i * 32) (min 32 (n - i * 32)) reply buffer) done (as-long pec i reply buffer b l (omega arith)) h c (ltb (suc i * 32) n) refl
 
     pub same : (outcomes : List BusOutcome) (pec : Bool) → Same pec outcomes
-    unfolding busOp_err_ok_
+    unfolding busOp_err_ok_ tallied
     same [] pec true i left tally buffer done b h c =
         waits-head (plan pec) n w lent steady i left tally buffer done b (fits-head i)
         ∙ rw (framed pec i) (sym (address-waits left buffer (i * 32) (record { transfers = done; waits = tally .waits }) (omega arith) pec (omega arith)))
@@ -238,25 +238,25 @@ module _ (start : ℕ) where
         ∙ rw (counted pec i, commanded pec i, ← b) (sym (read-waits left buffer (i * 32) (record { transfers = done; waits = tally .waits }) (omega arith) pec))
     same (Acknowledged bytes ∷ outcomes) pec true i left tally buffer done b h c =
         turn-address pec i left tally buffer done (Acknowledged bytes) outcomes b h
-        ∙ same outcomes pec false i left tally buffer _ b h c
+        ∙ same outcomes pec false i left (tallied tally) buffer _ b h c
         ∙ sym (address-turn left buffer (i * 32) (record { transfers = done; waits = tally .waits }) (omega arith) pec (Acknowledged bytes) outcomes (omega arith))
     same (Acknowledged bytes ∷ outcomes) pec false i left tally buffer done b h c =
         turn-chunk pec i left tally buffer done (Acknowledged bytes) outcomes b h
-        ∙ weighed pec outcomes (same outcomes pec) i left tally buffer _ (delivered (count pec (n - i * 32)) bytes) b h c (length-delivered (count pec (n - i * 32)) bytes) (bad pec (delivered (count pec (n - i * 32)) bytes))
+        ∙ weighed pec outcomes (same outcomes pec) i left (tallied tally) buffer _ (delivered (count pec (n - i * 32)) bytes) b h c (length-delivered (count pec (n - i * 32)) bytes) (bad pec (delivered (count pec (n - i * 32)) bytes))
         ∙ rw (← b) (sym (read-turn left buffer (i * 32) (record { transfers = done; waits = tally .waits }) (omega arith) pec (Acknowledged bytes) outcomes))
     same (BusError code ∷ outcomes) pec true i left tally buffer done b h c =
         turn-address pec i left tally buffer done (BusError code) outcomes b h
-        ∙ fault pec true outcomes (same outcomes pec) i left tally (answer.I2c code) buffer _ refl b h c (eqb left 0) refl
+        ∙ fault pec true outcomes (same outcomes pec) i left (tallied tally) (answer.I2c code) buffer _ refl b h c (eqb left 0) refl
         ∙ sym (address-turn left buffer (i * 32) (record { transfers = done; waits = tally .waits }) (omega arith) pec (BusError code) outcomes (omega arith))
     same (BusError code ∷ outcomes) pec false i left tally buffer done b h c =
         turn-chunk pec i left tally buffer done (BusError code) outcomes b h
-        ∙ fault pec false outcomes (same outcomes pec) i left tally (answer.I2c code) buffer _ refl b h c (eqb left 0) refl
+        ∙ fault pec false outcomes (same outcomes pec) i left (tallied tally) (answer.I2c code) buffer _ refl b h c (eqb left 0) refl
         ∙ rw (← b) (sym (read-turn left buffer (i * 32) (record { transfers = done; waits = tally .waits }) (omega arith) pec (BusError code) outcomes))
     same (Timeout ∷ outcomes) pec true i left tally buffer done b h c =
         turn-address pec i left tally buffer done Timeout outcomes b h
-        ∙ fault pec true outcomes (same outcomes pec) i left tally answer.Timeout buffer _ refl b h c (eqb left 0) refl
+        ∙ fault pec true outcomes (same outcomes pec) i left (tallied tally) answer.Timeout buffer _ refl b h c (eqb left 0) refl
         ∙ sym (address-turn left buffer (i * 32) (record { transfers = done; waits = tally .waits }) (omega arith) pec Timeout outcomes (omega arith))
     same (Timeout ∷ outcomes) pec false i left tally buffer done b h c =
         turn-chunk pec i left tally buffer done Timeout outcomes b h
-        ∙ fault pec false outcomes (same outcomes pec) i left tally answer.Timeout buffer _ refl b h c (eqb left 0) refl
+        ∙ fault pec false outcomes (same outcomes pec) i left (tallied tally) answer.Timeout buffer _ refl b h c (eqb left 0) refl
         ∙ rw (← b) (sym (read-turn left buffer (i * 32) (record { transfers = done; waits = tally .waits }) (omega arith) pec Timeout outcomes))

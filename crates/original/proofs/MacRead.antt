@@ -15,7 +15,7 @@ use Rattle.protocol.specs.Frame.{sealed}
 use Rattle.protocol.specs.Reply.{macAsk, leadOf, bytesAsked, dataOf}
 use Rattle.protocol.specs.declared.error.Answer.{Answer}
 use Rattle.protocol.specs.declared.error.Answer.the-variants as answer
-use Rattle.engine.specs.Budget.{waited}
+use Rattle.engine.specs.Budget.{waited, tallied}
 use Rattle.engine.specs.declared.budget.Tally.{Tally}
 use Rattle.engine.specs.declared.limit.Limit.{Limit}
 use Rattle.reading.specs.Parts as parts
@@ -126,47 +126,47 @@ module _ (retries : ℕ) (limit : Limit) (head : Head) (first : ℕ) (frame buff
   turn-frame : (pec : Bool) (left : ℕ) (tally : Tally) (done : List Made) (o : BusOutcome) (outcomes : List BusOutcome)
       → fedRead (at (plan pec) (length buffer) w true 0 left tally) buffer lent done (o ∷ outcomes)
       ≡ (busOp o
-      err (λ e. fedRead (reading.failOf (at (plan pec) (length buffer) w true 0 left tally) e) buffer lent (done ++ (write (out pec) ∷ [])) outcomes)
-      ok (λ bytes. fedRead (at (plan pec) (length buffer) w false 0 left tally) buffer lent (done ++ (write (out pec) ∷ [])) outcomes))
+      err (λ e. fedRead (reading.failOf (at (plan pec) (length buffer) w true 0 left (tallied tally)) e) buffer lent (done ++ (write (out pec) ∷ [])) outcomes)
+      ok (λ bytes. fedRead (at (plan pec) (length buffer) w false 0 left (tallied tally)) buffer lent (done ++ (write (out pec) ∷ [])) outcomes))
   unfolding parts.readCount
   turn-frame pec left tally done o outcomes =
-      rw (← framed pec, ← after-head (plan pec) (length buffer) w 0 left tally (omega arith)) (turn-head (plan pec) (length buffer) w lent steady 0 left tally buffer done o outcomes refl fits-head)
+      rw (← framed pec, ← after-head (plan pec) (length buffer) w 0 left (tallied tally) (omega arith)) (turn-head (plan pec) (length buffer) w lent steady 0 left tally buffer done o outcomes refl fits-head)
 
   -- a turn at the read
   turn-reply : (pec : Bool) (left : ℕ) (tally : Tally) (done : List Made) (o : BusOutcome) (outcomes : List BusOutcome)
       → fedRead (at (plan pec) (length buffer) w false 0 left tally) buffer lent done (o ∷ outcomes)
       ≡ (busOp o
-      err (λ e. fedRead (reading.failOf (at (plan pec) (length buffer) w false 0 left tally) e) buffer lent (done ++ (read first (count pec) ∷ [])) outcomes)
-      ok (λ bytes. weighed pec left tally (done ++ (read first (count pec) ∷ [])) (delivered (count pec) bytes) outcomes))
+      err (λ e. fedRead (reading.failOf (at (plan pec) (length buffer) w false 0 left (tallied tally)) e) buffer lent (done ++ (read first (count pec) ∷ [])) outcomes)
+      ok (λ bytes. weighed pec left (tallied tally) (done ++ (read first (count pec) ∷ [])) (delivered (count pec) bytes) outcomes))
   unfolding parts.askOf macAsk
   turn-reply pec left tally done o outcomes = rw (← counted pec) (turn-read (plan pec) (length buffer) w lent steady 0 left tally buffer done o outcomes refl)
 
   mutual
-    unfolding macWriteTurn copied busOp_err_ok_ parts.askOf macAsk
+    unfolding macWriteTurn copied busOp_err_ok_ parts.askOf macAsk tallied
 
     pub at-frame : (outcomes : List BusOutcome) (pec : Bool) → AtFrame pec outcomes
     at-frame [] pec left tally done b = rw (← framed pec) (waits-head (plan pec) (length buffer) w lent steady 0 left tally buffer done refl fits-head)
     at-frame (Acknowledged bytes ∷ outcomes) pec left tally done b =
         turn-frame pec left tally done (Acknowledged bytes) outcomes
-        ∙ at-read outcomes pec left tally _ b
+        ∙ at-read outcomes pec left (tallied tally) _ b
     at-frame (BusError code ∷ outcomes) pec left tally done b =
         turn-frame pec left tally done (BusError code) outcomes
-        ∙ fault pec true outcomes (λ left tally done b. at-frame outcomes pec left tally done b) left tally (answer.I2c code) _ refl b (eqb left 0) refl
+        ∙ fault pec true outcomes (λ left tally done b. at-frame outcomes pec left tally done b) left (tallied tally) (answer.I2c code) _ refl b (eqb left 0) refl
     at-frame (Timeout ∷ outcomes) pec left tally done b =
         turn-frame pec left tally done Timeout outcomes
-        ∙ fault pec true outcomes (λ left tally done b. at-frame outcomes pec left tally done b) left tally answer.Timeout _ refl b (eqb left 0) refl
+        ∙ fault pec true outcomes (λ left tally done b. at-frame outcomes pec left tally done b) left (tallied tally) answer.Timeout _ refl b (eqb left 0) refl
 
     at-read : (outcomes : List BusOutcome) (pec : Bool) → AtRead pec outcomes
     at-read [] pec left tally done b = rw (opening, ← counted pec) (waits-read (plan pec) (length buffer) w lent steady 0 left tally buffer done refl)
     at-read (Acknowledged bytes ∷ outcomes) pec left tally done b =
         rw opening (turn-reply pec left tally done (Acknowledged bytes) outcomes
-        ∙ replied pec outcomes (λ left tally done b. at-frame outcomes pec left tally done b) left tally _ (delivered (count pec) bytes) (length-delivered (count pec) bytes) b)
+        ∙ replied pec outcomes (λ left tally done b. at-frame outcomes pec left tally done b) left (tallied tally) _ (delivered (count pec) bytes) (length-delivered (count pec) bytes) b)
     at-read (BusError code ∷ outcomes) pec left tally done b =
         rw opening (turn-reply pec left tally done (BusError code) outcomes
-        ∙ fault pec false outcomes (λ left tally done b. at-frame outcomes pec left tally done b) left tally (answer.I2c code) _ refl b (eqb left 0) refl)
+        ∙ fault pec false outcomes (λ left tally done b. at-frame outcomes pec left tally done b) left (tallied tally) (answer.I2c code) _ refl b (eqb left 0) refl)
     at-read (Timeout ∷ outcomes) pec left tally done b =
         rw opening (turn-reply pec left tally done Timeout outcomes
-        ∙ fault pec false outcomes (λ left tally done b. at-frame outcomes pec left tally done b) left tally answer.Timeout _ refl b (eqb left 0) refl)
+        ∙ fault pec false outcomes (λ left tally done b. at-frame outcomes pec left tally done b) left (tallied tally) answer.Timeout _ refl b (eqb left 0) refl)
 
 -- a read into the caller's own buffer
 module _ (frame buffer : List ℕ) (pec : Bool) where

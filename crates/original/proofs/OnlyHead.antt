@@ -12,7 +12,7 @@ use Rattle.protocol.specs.Pick.{if_then_else_}
 use Rattle.protocol.specs.Answer.{numberOf}
 use Rattle.protocol.specs.declared.error.Answer.{Answer}
 use Rattle.protocol.specs.declared.error.Answer.the-variants as answer
-use Rattle.engine.specs.Budget.{waited}
+use Rattle.engine.specs.Budget.{waited, tallied}
 use Rattle.engine.specs.Bus.{phaseAfter}
 use Rattle.engine.specs.declared.budget.Tally.{Tally}
 use Rattle.engine.specs.declared.bus.Phase.the-variants as phase
@@ -54,13 +54,13 @@ module _ (plan : ReadPlan) (buffer : List ℕ) (w : ℕ) (lent : ℕ → Lending
       ∙ rw (t, opens, ← m) (ih (left - 1) (waited tally) done (omega (arith, eqb-false left 0 t)))
 
   pub same : (outcomes : List BusOutcome) → Same outcomes
-  unfolding writeWithRetriesInternal busOp_err_ok_
+  unfolding writeWithRetriesInternal busOp_err_ok_ tallied
   same [] left tally done b = waits-head plan (length buffer) w lent steady 0 left tally buffer done refl fitting
   same (Acknowledged bytes ∷ outcomes) left tally done b =
-      turn-head plan (length buffer) w lent steady 0 left tally buffer done (Acknowledged bytes) outcomes refl fitting ∙ after left tally _ outcomes
+      turn-head plan (length buffer) w lent steady 0 left tally buffer done (Acknowledged bytes) outcomes refl fitting ∙ after left (tallied tally) _ outcomes
   same (BusError code ∷ outcomes) left tally done b =
       turn-head plan (length buffer) w lent steady 0 left tally buffer done (BusError code) outcomes refl fitting
-      ∙ fault outcomes (same outcomes) left tally (answer.I2c code) _ refl b (eqb left 0) refl
+      ∙ fault outcomes (same outcomes) left (tallied tally) (answer.I2c code) _ refl b (eqb left 0) refl
   same (Timeout ∷ outcomes) left tally done b =
       turn-head plan (length buffer) w lent steady 0 left tally buffer done Timeout outcomes refl fitting
-      ∙ fault outcomes (same outcomes) left tally answer.Timeout _ refl b (eqb left 0) refl
+      ∙ fault outcomes (same outcomes) left (tallied tally) answer.Timeout _ refl b (eqb left 0) refl

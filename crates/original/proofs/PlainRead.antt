@@ -15,7 +15,7 @@ use Rattle.protocol.specs.Reply.{plainAsk, leadOf, bytesAsked, dataOf}
 use Rattle.protocol.specs.declared.common.Config.{Config}
 use Rattle.protocol.specs.declared.error.Answer.{Answer}
 use Rattle.protocol.specs.declared.error.Answer.the-variants as answer
-use Rattle.engine.specs.Budget.{waited}
+use Rattle.engine.specs.Budget.{waited, tallied}
 use Rattle.engine.specs.declared.budget.Tally.{Tally}
 use Rattle.engine.specs.declared.limit.Limit.{Limit}
 use Rattle.reading.specs.Parts as parts
@@ -100,8 +100,8 @@ module _ (config : Config) (limit : Limit) (command : ℕ) (buffer inner : List 
   turn : (pec : Bool) → count pec ≤ 18446744073709551615 → (left : ℕ) (tally : Tally) (done : List Made) (o : BusOutcome) (outcomes : List BusOutcome)
       → fedRead (at (plan pec) (length buffer) w false 0 left tally) buffer lent done (o ∷ outcomes)
       ≡ (busOp o
-      err (λ e. fedRead (reading.failOf (at (plan pec) (length buffer) w false 0 left tally) e) buffer lent (done ++ (read command (count pec) ∷ [])) outcomes)
-      ok (λ bytes. weighed pec left tally done (delivered (count pec) bytes) outcomes))
+      err (λ e. fedRead (reading.failOf (at (plan pec) (length buffer) w false 0 left (tallied tally)) e) buffer lent (done ++ (read command (count pec) ∷ [])) outcomes)
+      ok (λ bytes. weighed pec left (tallied tally) done (delivered (count pec) bytes) outcomes))
   unfolding reading.plainPlan parts.askOf plainAsk
   turn pec h left tally done o outcomes = rw (← counted pec h) (turn-read (plan pec) (length buffer) w lent steady 0 left tally buffer done o outcomes refl)
 
@@ -115,17 +115,17 @@ module _ (config : Config) (limit : Limit) (command : ℕ) (buffer inner : List 
   replied false outcomes ih left tally done reply l b = plain-reply left tally done reply outcomes l
 
   pub same : (pec : Bool) → count pec ≤ 18446744073709551615 → (outcomes : List BusOutcome) → Same pec outcomes
-  unfolding readLoop copied busOp_err_ok_ reading.plainPlan parts.askOf plainAsk
+  unfolding readLoop copied busOp_err_ok_ reading.plainPlan parts.askOf plainAsk tallied
   same pec h [] left tally done b = rw (← counted pec h) (waits-read (plan pec) (length buffer) w lent steady 0 left tally buffer done refl)
   same pec h (Acknowledged bytes ∷ outcomes) left tally done b =
       turn pec h left tally done (Acknowledged bytes) outcomes
-      ∙ replied pec outcomes (same pec h outcomes) left tally done (delivered (count pec) bytes) (length-delivered (count pec) bytes) b
+      ∙ replied pec outcomes (same pec h outcomes) left (tallied tally) done (delivered (count pec) bytes) (length-delivered (count pec) bytes) b
   same pec h (BusError code ∷ outcomes) left tally done b =
       turn pec h left tally done (BusError code) outcomes
-      ∙ fault pec outcomes (same pec h outcomes) left tally (answer.I2c code) done refl b (eqb left 0) refl
+      ∙ fault pec outcomes (same pec h outcomes) left (tallied tally) (answer.I2c code) done refl b (eqb left 0) refl
   same pec h (Timeout ∷ outcomes) left tally done b =
       turn pec h left tally done Timeout outcomes
-      ∙ fault pec outcomes (same pec h outcomes) left tally answer.Timeout done refl b (eqb left 0) refl
+      ∙ fault pec outcomes (same pec h outcomes) left (tallied tally) answer.Timeout done refl b (eqb left 0) refl
 
 -- a read into the caller's own buffer
 module _ (command : ℕ) (buffer : List ℕ) (pec : Bool) where

@@ -18,7 +18,7 @@ use Rattle.protocol.specs.declared.error.Answer.the-variants as answer
 use Rattle.protocol.specs.declared.reply.Ask.{Ask}
 use Rattle.protocol.specs.declared.reply.Heard.the-variants as heard
 use Rattle.engine.specs.Pick.{case_waiting_ended_, case_acknowledged_error_timeout_, case_retry_spent_}
-use Rattle.engine.specs.Budget.{failed, moreOf, nothing, waited}
+use Rattle.engine.specs.Budget.{failed, moreOf, nothing, waited, tallied}
 use Rattle.engine.specs.Bus.{writeOf, phaseAfter, fitsOf}
 use Rattle.engine.specs.Limit.{admitted}
 use Rattle.engine.specs.declared.budget.Tally.{Tally}
@@ -191,9 +191,9 @@ module _ (plan : ReadPlan) (n w : ℕ) where
       pub turn-head : (i left : ℕ) (tally : Tally) (buffer : List ℕ) (done : List Made) (o : BusOutcome) (outcomes : List BusOutcome) → length buffer ≡ n → length (parts.headBytes (plan .head) i) < w
           → fedRead (at true i left tally) buffer lent done (o ∷ outcomes)
           ≡ (busOp o
-          err (λ e. fedRead (reading.failOf (at true i left tally) e) buffer lent (with-head i done) outcomes)
-          ok (λ bytes. fedRead (reading.headedOf (at true i left tally)) buffer lent (with-head i done) outcomes))
-      unfolding fedRead reading.reportOf reading.bufferAfter case_refused_fault_headed_block_ heard_taken_refused_ busOp_err_ok_
+          err (λ e. fedRead (reading.failOf (at true i left (tallied tally)) e) buffer lent (with-head i done) outcomes)
+          ok (λ bytes. fedRead (reading.headedOf (at true i left (tallied tally))) buffer lent (with-head i done) outcomes))
+      unfolding fedRead reading.reportOf reading.countedOf reading.bufferAfter case_refused_fault_headed_block_ heard_taken_refused_ busOp_err_ok_
       turn-head i left tally buffer done (Acknowledged bytes) outcomes b h =
           shown-head i left tally buffer (lent (length done) .work) _ _ b (steady (length done)) h
           ∙ rw (judged-head i left tally (headAt i) (lent (length done) .beside) (Acknowledged bytes) (length buffer) (length (reading.workAfter (at true i left tally) (length buffer) (lent (length done) .work))) b (kept-head i left tally buffer (lent (length done) .work) b (steady (length done)) h))
@@ -209,9 +209,9 @@ module _ (plan : ReadPlan) (n w : ℕ) where
           → (t : Bool) → believed i (brought i bytes) ≡ t
           → fedRead (at false i left tally) buffer lent done (Acknowledged bytes ∷ outcomes)
           ≡ (if t
-          then fedRead (reading.advanceOf (at false i left tally)) (reading.storedOf (at false i left tally) (brought i bytes) buffer) lent (with-read i done) outcomes
-          else fedRead (reading.failOf (at false i left tally) answer.Pec) buffer lent (with-read i done) outcomes)
-      unfolding fedRead reading.reportOf reading.bufferAfter case_refused_fault_headed_block_ heard_taken_refused_ busOp_err_ok_ if_then_else_ reply brings
+          then fedRead (reading.advanceOf (at false i left (tallied tally))) (reading.storedOf (at false i left (tallied tally)) (brought i bytes) buffer) lent (with-read i done) outcomes
+          else fedRead (reading.failOf (at false i left (tallied tally)) answer.Pec) buffer lent (with-read i done) outcomes)
+      unfolding fedRead reading.reportOf reading.countedOf reading.bufferAfter reading.storedOf reading.dueAsk case_refused_fault_headed_block_ heard_taken_refused_ busOp_err_ok_ if_then_else_ reply brings
       turn-reply i left tally buffer done bytes outcomes b true q =
           shown-read i left tally buffer (lent (length done) .work) _ _ _ b (steady (length done))
           ∙ rw (judged-read i left tally (lent (length done) .beside) (Acknowledged bytes) (length buffer) (length (reading.workAfter (at false i left tally) (length buffer) (lent (length done) .work))) b (kept-read i left tally buffer (lent (length done) .work) (steady (length done))), q)
@@ -223,11 +223,11 @@ module _ (plan : ReadPlan) (n w : ℕ) where
       pub turn-read : (i left : ℕ) (tally : Tally) (buffer : List ℕ) (done : List Made) (o : BusOutcome) (outcomes : List BusOutcome) → length buffer ≡ n
           → fedRead (at false i left tally) buffer lent done (o ∷ outcomes)
           ≡ (busOp o
-          err (λ e. fedRead (reading.failOf (at false i left tally) e) buffer lent (with-read i done) outcomes)
+          err (λ e. fedRead (reading.failOf (at false i left (tallied tally)) e) buffer lent (with-read i done) outcomes)
           ok (λ bytes. if believed i (brought i bytes)
-          then fedRead (reading.advanceOf (at false i left tally)) (reading.storedOf (at false i left tally) (brought i bytes) buffer) lent (with-read i done) outcomes
-          else fedRead (reading.failOf (at false i left tally) answer.Pec) buffer lent (with-read i done) outcomes))
-      unfolding fedRead reading.reportOf reading.bufferAfter case_refused_fault_headed_block_ heard_taken_refused_ busOp_err_ok_
+          then fedRead (reading.advanceOf (at false i left (tallied tally))) (reading.storedOf (at false i left (tallied tally)) (brought i bytes) buffer) lent (with-read i done) outcomes
+          else fedRead (reading.failOf (at false i left (tallied tally)) answer.Pec) buffer lent (with-read i done) outcomes))
+      unfolding fedRead reading.reportOf reading.countedOf reading.bufferAfter case_refused_fault_headed_block_ heard_taken_refused_ busOp_err_ok_
       turn-read i left tally buffer done (Acknowledged bytes) outcomes b = turn-reply i left tally buffer done bytes outcomes b (believed i (brought i bytes)) refl
       turn-read i left tally buffer done (BusError code) outcomes b =
           shown-read i left tally buffer (lent (length done) .work) _ _ _ b (steady (length done))

@@ -17,7 +17,7 @@ use Rattle.protocol.proofs.Laws.{take-over, length-over, length-sealed}
 use Rattle.protocol.specs.declared.error.Answer.{Answer}
 use Rattle.protocol.specs.declared.error.Answer.the-variants as answer
 use Rattle.engine.specs.Pick.{case_waiting_ended_, case_acknowledged_error_timeout_, case_retry_spent_}
-use Rattle.engine.specs.Budget.{failed, moreOf, nothing, waited}
+use Rattle.engine.specs.Budget.{failed, moreOf, nothing, waited, tallied}
 use Rattle.engine.specs.Bus.{writeOf, phaseAfter, fitsOf}
 use Rattle.engine.specs.Limit.{admitted}
 use Rattle.engine.specs.declared.budget.Tally.{Tally}
@@ -92,8 +92,8 @@ module _ (plan : WritePlan) (payload : List ℕ) (w : ℕ) where
 
   -- a report is taken
   reported : {A : Type 0} (i left : ℕ) (tally : Tally) (frame beside : List ℕ) (o : BusOutcome) (f : WriteCall → A) (g : Answer → A) (n : ℕ) → n ≡ w
-      → (wrote writing.reportOf (at i left tally) (told o) (length (reply (write frame) beside o)) (length payload) n taken f refused g) ≡ f (writing.settleOf (at i left tally) (told o))
-  unfolding writing.reportOf writing.repliedOf told reply brings case_waiting_ended_ case_acknowledged_error_timeout_ wrote_taken_refused_ if_then_else_
+      → (wrote writing.reportOf (at i left tally) (told o) (length (reply (write frame) beside o)) (length payload) n taken f refused g) ≡ f (writing.settleOf (at i left (tallied tally)) (told o))
+  unfolding writing.reportOf writing.countedOf writing.repliedOf told reply brings case_waiting_ended_ case_acknowledged_error_timeout_ wrote_taken_refused_ if_then_else_
   reported i left tally frame beside (Acknowledged bytes) f g n e = rw (e, fits)
   reported i left tally frame beside (BusError code) f g n e = rw (e, fits)
   reported i left tally frame beside Timeout f g n e = rw (e, fits)
@@ -123,7 +123,7 @@ module _ (plan : WritePlan) (payload : List ℕ) (w : ℕ) where
     -- a turn: frame i goes out, and what the bus did with it is reported
     turn : (i left : ℕ) (tally : Tally) (done : List Made) (o : BusOutcome) (outcomes : List BusOutcome) → (own ≡ false → length (bytesAt (plan .frames) i payload) < w)
         → fedWrite (at i left tally) payload lent done (o ∷ outcomes)
-        ≡ fedWrite (writing.settleOf (at i left tally) (told o)) payload lent (done ++ (write (frameAt i) ∷ [])) outcomes
+        ≡ fedWrite (writing.settleOf (at i left (tallied tally)) (told o)) payload lent (done ++ (write (frameAt i) ∷ [])) outcomes
     unfolding fedWrite
     turn i left tally done o outcomes h =
         shown i left tally (lent (length done) .work) _ _ (steady (length done)) h own refl
@@ -164,20 +164,20 @@ module _ (plan : WritePlan) (payload : List ℕ) (w : ℕ) where
           ∙ rw (t, ← m) (ih todo i (left - 1) (waited tally) (done ++ (write (frameAt i) ∷ [])) c (omega arith) (omega arith))
 
       same : (outcomes : List BusOutcome) → Same outcomes
-      unfolding fedWrite writeWithRetriesInternal settle busOp_err_ok_ told writing.settleOf case_acknowledged_error_timeout_
+      unfolding fedWrite writeWithRetriesInternal settle busOp_err_ok_ told writing.settleOf case_acknowledged_error_timeout_ tallied
       same [] todo i left tally done c l b = shown i left tally (lent (length done) .work) _ _ (steady (length done)) (room i (omega arith)) own refl
       same (Acknowledged bytes ∷ outcomes) todo i left tally done c l b =
           let h : own ≡ false → length (bytesAt (plan .frames) i payload) < w = room i (omega arith) in
           turn i left tally done (Acknowledged bytes) outcomes h
-          ∙ after-frame outcomes (same outcomes) todo i left tally _ c (omega arith)
+          ∙ after-frame outcomes (same outcomes) todo i left (tallied tally) _ c (omega arith)
       same (BusError code ∷ outcomes) todo i left tally done c l b =
           let h : own ≡ false → length (bytesAt (plan .frames) i payload) < w = room i (omega arith) in
           turn i left tally done (BusError code) outcomes h
-          ∙ after-fault outcomes (same outcomes) todo i left tally (answer.I2c code) done refl c l b (eqb left 0) refl
+          ∙ after-fault outcomes (same outcomes) todo i left (tallied tally) (answer.I2c code) done refl c l b (eqb left 0) refl
       same (Timeout ∷ outcomes) todo i left tally done c l b =
           let h : own ≡ false → length (bytesAt (plan .frames) i payload) < w = room i (omega arith) in
           turn i left tally done Timeout outcomes h
-          ∙ after-fault outcomes (same outcomes) todo i left tally answer.Timeout done refl c l b (eqb left 0) refl
+          ∙ after-fault outcomes (same outcomes) todo i left (tallied tally) answer.Timeout done refl c l b (eqb left 0) refl
 
       -- a call that is admitted, fed, is its frames one after the other
       pub frames-in-turn : (todo : ℕ) (outcomes : List BusOutcome) → frameCount (plan .frames) (length payload) ≡ suc todo

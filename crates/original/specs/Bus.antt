@@ -1,6 +1,6 @@
 -- What passes between a call and the bus, as its user sees it: what the bus does, what a call has done so far, what it comes to.
 -- Assumes nothing.
-use Prim.Native.Nat.{ℕ, _+_}
+use Prim.Native.Nat.{ℕ, _+_, _-_, _≤_}
 use mathlib.Core.List.{List, [], _∷_, _++_}
 use lib.ListN.{length, take, replicate}
 use Rattle.protocol.specs.declared.error.Answer.{Answer}
@@ -54,6 +54,28 @@ unfoldable pub transfersOf : Read → List Made
 transfersOf (Ok log outcomes leaving left) = log .transfers
 transfersOf (Err e log outcomes leaving left) = log .transfers
 transfersOf (Waiting log leaving left) = log .transfers
+
+-- the transfers listed that the bus has answered for: a call that still waits has none for its last one
+unfoldable pub answeredIn : Read → ℕ
+answeredIn (Ok log outcomes leaving left) = length (log .transfers)
+answeredIn (Err a log outcomes leaving left) = length (log .transfers)
+answeredIn (Waiting log leaving left) = length (log .transfers) - 1
+
+-- how often it has waited
+unfoldable pub waitsIn : Read → ℕ
+waitsIn (Ok log outcomes leaving left) = log .waits
+waitsIn (Err a log outcomes leaving left) = log .waits
+waitsIn (Waiting log leaving left) = log .waits
+
+-- at most so many transfers are made, and so many waits
+abbrev pub NoMore : (most waits : ℕ) → Read → Type 0
+NoMore most waits r = (length (transfersOf r) ≤ most) × (waitsIn r ≤ waits)
+
+-- it does not wait for an outcome
+abbrev pub Over : Read → Type 0
+Over (Ok log outcomes leaving left) = Unit {0}
+Over (Err a log outcomes leaving left) = Unit {0}
+Over (Waiting log leaving left) = ⊥
 
 -- bus_op! and what is done with its result: I2c or Timeout, or Ok with the bytes that came
 infixr 10 busOp_err_ok_

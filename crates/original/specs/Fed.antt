@@ -1,6 +1,6 @@
 -- A call of the step machine and its host: the call shows a transfer, the host makes it and reports what the bus did, until the call ends or the outcomes run out.
 -- Assumes nothing.
-use Prim.Native.Nat.{ℕ}
+use Prim.Native.Nat.{ℕ, suc}
 use mathlib.Core.Path.{_≡_}
 use mathlib.Core.List.{List, [], _∷_, _++_}
 use lib.ListN.{length, take}
@@ -145,3 +145,17 @@ fed call payload buffer lent done (o ∷ outcomes) =
     taken (λ next. fed next payload (bufferAfter call (told o) (bytes t) buffer (length shown)) lent (done ++ (t ∷ [])) outcomes)
     refused (λ a. answered a (record { transfers = done ++ (t ∷ []); waits = waits }) outcomes leaving buffer))
     answer (λ a. answered a (record { transfers = done; waits = waits }) (o ∷ outcomes) leaving buffer)
+
+-- the call after the steps of `fed`, which this follows line by line: the same host and the same outcomes, and the call itself in place of what it comes to; i is the
+-- number of the next step
+unfoldable pub fedCall : Call → (payload buffer : List ℕ) → (ℕ → Lending) → ℕ → List BusOutcome → Call
+fedCall call payload buffer lent i [] = call
+fedCall call payload buffer lent i (o ∷ outcomes) =
+    let work : List ℕ = lent i .work in
+    let bytes : Made → List ℕ = λ t. reply t (lent i .beside) o in
+    let shown : List ℕ = workAfter call payload (length buffer) work in
+    shows nextOf call payload (length buffer) (length work) sending partOf call payload shown
+    transfer (λ t. came reportOf call (told o) (bytes t) (length payload) (length buffer) (length shown)
+    taken (λ next. fedCall next payload (bufferAfter call (told o) (bytes t) buffer (length shown)) lent (suc i) outcomes)
+    refused (λ a. call))
+    answer (λ a. call)

@@ -88,7 +88,7 @@ module _ (o : Outcome) (reply : List ℕ) (p : ℕ) (buffer : List ℕ) (w : ℕ
       got-follows c d buffer (reading.bufferAfter d o reply buffer w) (reading.reportOf d o reply (length buffer) w) (sort-r d o reply buffer w)
       (same-task-r (record { outcome = o; reply = reply; work = w } ∷ []) (record { call = d; buffer = buffer })) k
 
-  buffer-size : (c : Call) → length (bufferAfter c o reply buffer w) ≡ length buffer
+  pub buffer-size : (c : Call) → length (bufferAfter c o reply buffer w) ≡ length buffer
   unfolding bufferAfter
   buffer-size (call.Write c) = refl
   buffer-size (call.Read c) = delivers c buffer o reply w .size

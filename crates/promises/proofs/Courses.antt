@@ -5,7 +5,7 @@ use mathlib.Core.Path.{_≡_, refl, sym, ap, subst, _∙_}
 use mathlib.Core.Bool.{Bool, true, false}
 use mathlib.Core.List.{List, [], _∷_, _++_}
 use native.Mathlib.Omega.{arith}
-use lib.Dec.{eqb, ltb}
+use lib.Dec.{eqb}
 use lib.ListN.{length, drop, length-take, length-drop, replicate}
 use borrow.Author.Tests.{eq-eqb, ne-eqb, eqb-true, eqb-false}
 use Rattle.protocol.specs.Pick.{if_then_else_}
@@ -27,13 +27,14 @@ use Rattle.writing.specs.Frames.{blockBytes}
 use Rattle.writing.specs.Writing as writing
 use Rattle.calls.specs.Call.{startWith, startOf, nextOf, workAfter, partOf, wroteOf, reportOf, bufferAfter, phaseOf, fitsOf}
 use Rattle.calls.specs.Kind.{planOf}
+use Rattle.calls.specs.declared.kind.Kind.the-variants as kind
 use Rattle.model_gauge.specs.Gauge.{taken, acts, stored, effectOf}
 use Rattle.model_gauge.specs.declared.gauge.Fate.{Fate}
 use Rattle.model_gauge.specs.declared.gauge.Fate.the-variants as fate
 use Rattle.model_gauge.specs.declared.gauge.Gauge.{Gauge}
 use Rattle.courses.specs.Pick.{case_sending_to_none_}
 use Rattle.courses.specs.Course.{fateOf, fatesOf, soundOf, endOf}
-use Rattle.courses.specs.Run.{World, Left, left, takenOf, heardIn, stepOf, driveOf, endedOf, leavesOf, runOf, left-over}
+use Rattle.courses.specs.Run.{Left, left, takenOf, heardIn, stepOf, driveOf, endedOf, leavesOf, runOf, left-over}
 use Rattle.courses.specs.declared.course.End.{End}
 use Rattle.courses.proofs.Cases.{at-write}
 use Rattle.promises.specs.Flash.{placeOf, blockOf, Overlaid}
@@ -42,6 +43,8 @@ use Rattle.promises.specs.Events.{each}
 use Rattle.promises.specs.Writes.{WriteWorld, began, shows, step, run}
 use Rattle.promises.specs.Demand3.{clean, Told, endIn, Tells, EndedWell, ended-well, Accepted}
 use Rattle.promises.specs.Courses.{eventAt, eventsAt, beside, ran, ranIn, stoppedAt, Leaves, Runs, started, ran-on, GoOnCourses, OnCourses}
+use Rattle.promises.specs.Traffic.{begins}
+use Rattle.promises.proofs.RunLaws.{sound-both, runs-both}
 use Rattle.promises.proofs.Frames.{block-acts}
 use Rattle.promises.proofs.Machine.{worldAt, frameOf, shows-block, shows-ended, lays, hands-out, laid-long, is-taken, nothing-lent, made-sent, made-ended}
 use Rattle.promises.proofs.Stopped.{ToldAt, Going, going-step, going, run-empty, stopped}
@@ -232,40 +235,10 @@ module _ (config : Config) (address : ℕ) (payload work flash : List ℕ) (a : 
 
 -- ---- running on
 
-pub drive-both : (payload : List ℕ) (es further : List Fate) (w : World) → driveOf payload (es ++ further) w ≡ driveOf payload further (driveOf payload es w)
-unfolding driveOf
-drive-both payload [] further w = refl
-drive-both payload (e ∷ es) further w = drive-both payload es further (stepOf payload e w)
-
-pub fates-both : (course further : List ℕ) → fatesOf (course ++ further) ≡ fatesOf course ++ fatesOf further
-unfolding fatesOf
-fates-both [] further = refl
-fates-both (byte ∷ course) further = ap (λ (es : List Fate). fateOf byte ∷ es) (fates-both course further)
-
-pub sound-both : (course further : List ℕ) → soundOf course ≡ true → soundOf further ≡ true → soundOf (course ++ further) ≡ true
-unfolding soundOf if_then_else_
-sound-both [] further p q = q
-sound-both (byte ∷ course) further p q = by (ltb 2 byte) p (λ r. sound-both course further r q)
-  where
-    by : (t : Bool) → (if t then false else soundOf course) ≡ true → (soundOf course ≡ true → soundOf (course ++ further) ≡ true)
-        → (if t then false else soundOf (course ++ further)) ≡ true
-    by true p on = p
-    by false p on = on p
-
 module _ (config : Config) (address : ℕ) (payload work flash : List ℕ) (a : Accepted address payload work flash) (gauge : Gauge) (buffer : List ℕ) where
   pub runs-on : (course further : List ℕ) → soundOf course ≡ true → soundOf further ≡ true
       → ran config address payload buffer work flash gauge (course ++ further) ≡ runOf payload further (left-over (ran config address payload buffer work flash gauge course))
-  unfolding leavesOf endedOf
-  runs-on course further p q =
-      let w : World = beside gauge buffer (began config address payload work flash) in
-      let whole : length (driveOf payload (fatesOf course) w .flash) ≡ 8192 =
-      ap (λ (v : World). length (v .flash)) (drive-same config address payload work flash a gauge buffer (fatesOf course))
-      ∙ stopped config address payload work flash a (eventsIn (fatesOf course)) .bytes .size ∙ a .whole in
-      ran-is config address payload work flash a gauge buffer (course ++ further)
-      ∙ is-admitted payload w (course ++ further) (began-whole config address payload work flash a) (sound-both course further p q)
-      ∙ ap (leavesOf (length payload)) (ap (λ (es : List Fate). driveOf payload es w) (fates-both course further) ∙ drive-both payload (fatesOf course) (fatesOf further) w)
-      ∙ sym (ap (λ (l : Left). runOf payload further (left-over l)) (ran-is config address payload work flash a gauge buffer course ∙ is-admitted payload w course (began-whole config address payload work flash a) p)
-      ∙ is-admitted payload (driveOf payload (fatesOf course) w) further whole q)
+  runs-on course further p q = sym (runs-both payload course further (begins (kind.WriteDataflash address) config payload buffer work flash gauge) p q)
 
   -- ---- going on
 

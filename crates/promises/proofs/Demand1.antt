@@ -1,4 +1,4 @@
--- Demand 1 is what `answers` proves.
+-- Demand 1 is what `answers` proves, and `ceilings` of the ends of calls.
 -- Assumes nothing.
 use Rattle.answers.proofs.Numbers.{numbers}
 use Rattle.answers.proofs.Start.{starts}
@@ -12,10 +12,13 @@ use Rattle.answers.proofs.Hands.{hands-out}
 use Rattle.answers.proofs.Unique.{unique}
 use Rattle.answers.proofs.Unlooked.{unlooked-w, unlooked-r}
 use Rattle.answers.proofs.Within.{stays, within}
+use Rattle.ceilings.proofs.Ceilings.{ceilings}
 use Rattle.original.proofs.Fronts.{fronts}
 use Rattle.promises.specs.Demand1.{Demand1}
 use Rattle.promises.proofs.CourseRows.{course-rows}
 use Rattle.promises.proofs.RunLaws.{run-laws}
+use Rattle.promises.proofs.FedTraffic.{fed-ends}
+use Rattle.promises.proofs.CourseTraffic.{course-traffic}
 
 pub demand1 : Demand1
 demand1 = record {
@@ -39,7 +42,10 @@ demand1 = record {
   stays = stays;
   hands-out = hands-out;
   within = within;
+  ceilings = ceilings;
+  ends = fed-ends;
   courses = course-rows;
   runs = run-laws;
+  traffic = course-traffic;
   unique = unique;
 }

@@ -23,4 +23,8 @@ pub mod ReadStopped
 pub mod ReadHost
 pub mod ReadCourses
 pub mod RunLaws
+pub mod Taken
+pub mod FedTraffic
+pub mod Live
+pub mod CourseTraffic
 pub mod ReadsTrue

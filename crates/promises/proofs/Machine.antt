@@ -17,6 +17,7 @@ use Rattle.protocol.specs.declared.error.Answer.{Answer}
 use Rattle.protocol.specs.declared.error.Answer.the-variants as answer
 use Rattle.protocol.proofs.Laws.{take-over, length-over}
 use Rattle.engine.specs.Pick.{case_waiting_ended_, case_acknowledged_error_timeout_}
+use Rattle.engine.specs.Budget.{tallied}
 use Rattle.engine.specs.Bus.{writeOf, phaseAfter, fitsOf}
 use Rattle.engine.specs.declared.budget.Budget.{Budget}
 use Rattle.engine.specs.declared.budget.Tally.{Tally}
@@ -26,7 +27,7 @@ use Rattle.engine.specs.declared.bus.Phase.{Phase}
 use Rattle.engine.specs.declared.bus.Phase.the-variants as phase
 use Rattle.engine.specs.declared.bus.Transfer.the-variants as transfer
 use Rattle.writing.specs.Frames.{isPlain, frameCount, blockBytes, bytesAt}
-use Rattle.writing.specs.Writing.{planOf, ownBytes, dueBytes, shownOf, workShown, nextOf, workAfter, partOf, advanceOf, failOf, settleOf, repliedOf, reportOf}
+use Rattle.writing.specs.Writing.{planOf, ownBytes, dueBytes, shownOf, workShown, nextOf, workAfter, partOf, advanceOf, failOf, settleOf, repliedOf, countedOf, reportOf}
 use Rattle.writing.specs.declared.call.WriteCall.{WriteCall}
 use Rattle.writing.specs.declared.call.WriteTask.{WriteTask}
 use Rattle.r5.specs.Plans.{writeDataflash}
@@ -107,32 +108,32 @@ module _ (config : Config) (address : ℕ) (payload : List ℕ) (n : ℕ) where
     laid-long = length-over (frameOf i) work (omega (arith, frame-short i)) ∙ long
 
     -- a report that brings no bytes where it acknowledges is taken
-    pub is-taken : (o : Outcome) (r : ℕ) → repliedOf o r ≡ false → reportOf (callAt phase.Waiting i b t) o r (length payload) n ≡ reported.Taken (settleOf (callAt phase.Waiting i b t) o)
-    unfolding reportOf case_waiting_ended_ fitsOf if_then_else_
+    pub is-taken : (o : Outcome) (r : ℕ) → repliedOf o r ≡ false → reportOf (callAt phase.Waiting i b t) o r (length payload) n ≡ reported.Taken (settleOf (callAt phase.Waiting i b (tallied t)) o)
+    unfolding reportOf countedOf case_waiting_ended_ fitsOf if_then_else_
     is-taken o r bare = rw (eq-eqb (length payload) (length payload) refl, eq-eqb n n refl, bare)
 
     -- what became of the frame is heard, whatever is lent beside a failure
     pub made-sent : (e : Event) (beside flash : List ℕ)
         → transferMade payload e beside (worldAt phase.Waiting i b t work flash)
-        ≡ record { call = settleOf (callAt phase.Waiting i b t) (heardAs e); work = over (frameOf i) work; flash = flashAfter e (frameOf i) flash; acked = ackedAfter e i }
+        ≡ record { call = settleOf (callAt phase.Waiting i b (tallied t)) (heardAs e); work = over (frameOf i) work; flash = flashAfter e (frameOf i) flash; acked = ackedAfter e i }
     unfolding transferMade sent makes
     made-sent e beside flash =
         rw (shows-block, lays) (sym sent-is)
       where
-        sent-is : record { call = settleOf (callAt phase.Waiting i b t) (heardAs e); work = over (frameOf i) work; flash = flashAfter e (frameOf i) flash; acked = ackedAfter e i }
+        sent-is : record { call = settleOf (callAt phase.Waiting i b (tallied t)) (heardAs e); work = over (frameOf i) work; flash = flashAfter e (frameOf i) flash; acked = ackedAfter e i }
             ≡ sent payload e beside (over (frameOf i) work) (length (frameOf i)) (worldAt phase.Waiting i b t work flash)
         sent-is = rw (hands-out, laid-long, is-taken (heardAs e) (length (lentOf e [] beside)) (no-reply e beside))
 
     -- acknowledged: the next block is due, with a budget of its own, or the call is done
     pub step-acknowledged : (flash : List ℕ) → i < 4294967295
         → step payload (acknowledged) (worldAt phase.Waiting i b t work flash)
-        ≡ worldAt (phaseAfter (blocksOf (length payload)) (suc i)) (suc i) (record { left = config .«max_bus_retries» }) t (over (frameOf i) work) (flashAfter (acknowledged) (frameOf i) flash)
+        ≡ worldAt (phaseAfter (blocksOf (length payload)) (suc i)) (suc i) (record { left = config .«max_bus_retries» }) (tallied t) (over (frameOf i) work) (flashAfter (acknowledged) (frameOf i) flash)
     unfolding settleOf advanceOf frameCount case_acknowledged_error_timeout_ planOf writeDataflash
     step-acknowledged flash h =
         let more : min (i + 1) 4294967295 ≡ suc i = omega arith in
         made-sent (acknowledged) [] flash ∙ rw more
 
-    settled-failed : (c : Cause) → settleOf (callAt phase.Waiting i b t) (causeOf c) ≡ failOf (callAt phase.Waiting i b t) (whyOf c)
+    settled-failed : (c : Cause) → settleOf (callAt phase.Waiting i b (tallied t)) (causeOf c) ≡ failOf (callAt phase.Waiting i b (tallied t)) (whyOf c)
     unfolding settleOf case_acknowledged_error_timeout_
     settled-failed (busError code) = refl
     settled-failed timedOut = refl
@@ -140,12 +141,12 @@ module _ (config : Config) (address : ℕ) (payload : List ℕ) (n : ℕ) where
     -- failed, whether or not the block has landed
     pub step-failed : (c : Cause) (flash : List ℕ)
         → step payload (failed c) (worldAt phase.Waiting i b t work flash)
-        ≡ record { call = failOf (callAt phase.Waiting i b t) (whyOf c); work = over (frameOf i) work; flash = flash; acked = i }
+        ≡ record { call = failOf (callAt phase.Waiting i b (tallied t)) (whyOf c); work = over (frameOf i) work; flash = flash; acked = i }
     step-failed c flash = made-sent (failed c) [] flash ∙ rw settled-failed
 
     pub step-unheard : (c : Cause) (flash : List ℕ)
         → step payload (unheard c) (worldAt phase.Waiting i b t work flash)
-        ≡ record { call = failOf (callAt phase.Waiting i b t) (whyOf c); work = over (frameOf i) work; flash = flashAfter (unheard c) (frameOf i) flash; acked = i }
+        ≡ record { call = failOf (callAt phase.Waiting i b (tallied t)) (whyOf c); work = over (frameOf i) work; flash = flashAfter (unheard c) (frameOf i) flash; acked = i }
     step-unheard c flash = made-sent (unheard c) [] flash ∙ rw settled-failed
 
   -- an ended call shows its answer

@@ -16,7 +16,7 @@ use Rattle.protocol.specs.declared.error.Answer.the-variants as answer
 use Rattle.protocol.proofs.AnswerLaws.{done-only}
 use Rattle.protocol.proofs.WindowLaws.{within}
 use Rattle.engine.specs.Pick.{case_waiting_ended_, case_acknowledged_error_timeout_}
-use Rattle.engine.specs.Budget.{nothing}
+use Rattle.engine.specs.Budget.{nothing, tallied}
 use Rattle.engine.specs.declared.budget.Budget.{Budget}
 use Rattle.engine.specs.declared.budget.Tally.{Tally}
 use Rattle.engine.specs.declared.bus.Phase.{Phase}
@@ -106,7 +106,7 @@ module _ (config : Config) (address : ℕ) (payload : List ℕ) (work : List ℕ
 
     fed-on : (e : Event) (es : List Event) (done : List Made)
         → fed (callAt config address payload (length work) phase.Waiting i b t) done (e ∷ es)
-        ≡ fed (settleOf (callAt config address payload (length work) phase.Waiting i b t) (heardAs e)) (done ++ (frame ∷ [])) es
+        ≡ fed (settleOf (callAt config address payload (length work) phase.Waiting i b (tallied t)) (heardAs e)) (done ++ (frame ∷ [])) es
     unfolding fedWrite shows_sending_transfer_answer_ wrote_taken_refused_
     fed-on e es done =
         rw (shows-block config address payload (length work) i b t work refl room, lays config address payload (length work) i b t work refl room, hands-out config address payload (length work) i b t work refl room, laid-long config address payload (length work) i b t work refl room, told-outcome e, is-taken config address payload (length work) i b t work refl room (heardAs e) (length (reply frame [] (outcomeIn e))) (brings-none e _ []))

@@ -28,26 +28,29 @@ use Rattle.reading.specs.declared.call.ReadReported.the-variants as got
 use Rattle.calls.specs.Call.{startWith, startOf, nextOf, workAfter, partOf, gotOf, reportOf, bufferAfter, phaseOf, fitsOf}
 use Rattle.calls.specs.Kind.{planOf}
 use Rattle.calls.specs.declared.call.Call.the-variants as call
+use Rattle.calls.specs.declared.kind.Kind.the-variants as kind
 use Rattle.model_gauge.specs.Gauge.{movedOf, acts, taken}
 use Rattle.model_gauge.specs.declared.gauge.Fate.{Fate}
 use Rattle.model_gauge.specs.declared.gauge.Gauge.{Gauge}
 use Rattle.courses.specs.Pick.{case_sending_to_none_}
 use Rattle.courses.specs.Course.{fatesOf, soundOf, endOf}
-use Rattle.courses.specs.Run.{World, Left, left, takenOf, heardIn, stepOf, driveOf, endedOf, leavesOf, runOf, left-over}
+use Rattle.courses.specs.Run.{Left, left, takenOf, heardIn, stepOf, driveOf, endedOf, leavesOf, runOf, left-over}
 use Rattle.courses.specs.declared.course.End.{End}
 use Rattle.courses.proofs.Cases.{at-write, at-read}
 use Rattle.answers.specs.Runs.{callR}
 use Rattle.promises.specs.Events.{Event, each}
 use Rattle.promises.specs.Demand3.{endIn, Accepted}
 use Rattle.promises.specs.Courses.{eventsAt}
+use Rattle.promises.specs.Traffic.{begins}
+use Rattle.promises.proofs.RunLaws.{runs-both}
 use Rattle.promises.specs.Reads.{ReadWorld, readBegan, heard, readShows, readStep, readRun}
 use Rattle.promises.specs.Reading.{inModel, readRan, readRanIn, readStoppedAt}
-use Rattle.promises.proofs.Courses.{eventIn, eventsIn, events-at, effect-in, same-after, drive-both, fates-both, sound-both}
+use Rattle.promises.proofs.Courses.{eventIn, eventsIn, events-at, effect-in, same-after}
 use Rattle.promises.proofs.CourseRows.{is-admitted}
 use Rattle.promises.proofs.Frames.{address-acts, address-points, address-stores}
 use Rattle.promises.proofs.ReadSteps.{ask-small, read-acts, readWorld, headOf, shows-head, lays-head, made-head, shows-read, lays-none, countAt, broughtAt, made-read, made-over}
 use Rattle.promises.proofs.Reading.{Kept, Reading, buffer-long, reading-step}
-use Rattle.promises.proofs.ReadStopped.{start, read-empty, reading, stopped}
+use Rattle.promises.proofs.ReadStopped.{start, read-empty, reading}
 
 -- the call after a report, by either name
 got-taken : (r : ReadReported) → takenOf (gotOf r) ≡ call.Read (callR r)
@@ -193,12 +196,4 @@ module _ (payload : List ℕ) (config : Config) (address : ℕ) (buffer work fla
 
   pub runs-on : (course further : List ℕ) → soundOf course ≡ true → soundOf further ≡ true
       → readRan config address payload buffer work flash gauge (course ++ further) ≡ runOf payload further (left-over (readRan config address payload buffer work flash gauge course))
-  unfolding leavesOf endedOf
-  runs-on course further p q =
-      let w : World = inModel first in
-      let whole : length (driveOf payload (fatesOf course) w .flash) ≡ 8192 =
-      ap (λ (v : World). length (v .flash)) (drive-same (fatesOf course)) ∙ ap length (stopped config address buffer work flash a gauge (eventsIn (fatesOf course)) .kept) ∙ a .whole in
-      ran-is (course ++ further) ∙ is-admitted payload w (course ++ further) first-whole (sound-both course further p q)
-      ∙ ap (leavesOf (length payload)) (ap (λ (fs : List Fate). driveOf payload fs w) (fates-both course further) ∙ drive-both payload (fatesOf course) (fatesOf further) w)
-      ∙ sym (ap (λ (l : Left). runOf payload further (left-over l)) (ran-is course ∙ is-admitted payload w course first-whole p)
-      ∙ is-admitted payload (driveOf payload (fatesOf course) w) further whole q)
+  runs-on course further p q = sym (runs-both payload course further (begins (kind.ReadDataflash address) config payload buffer work flash gauge) p q)

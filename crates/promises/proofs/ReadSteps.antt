@@ -20,6 +20,7 @@ use Rattle.protocol.specs.declared.error.Answer.the-variants as answer
 use Rattle.protocol.specs.declared.reply.Heard.the-variants as reply
 use Rattle.protocol.proofs.Laws.{take-over, length-over, take-min, laid-more}
 use Rattle.engine.specs.Pick.{case_waiting_ended_, case_acknowledged_error_timeout_}
+use Rattle.engine.specs.Budget.{tallied}
 use Rattle.engine.specs.Bus.{writeOf, phaseAfter, fitsOf}
 use Rattle.engine.specs.Made.{write, read}
 use Rattle.engine.specs.declared.budget.Budget.{Budget}
@@ -31,7 +32,7 @@ use Rattle.engine.specs.declared.bus.Transfer.the-variants as transfer
 use Rattle.reading.specs.Pick.{case_refused_fault_headed_block_}
 use Rattle.reading.specs.Parts.{headBytes, blockAsk, askOf, mostOf}
 use Rattle.reading.specs.Parts as parts
-use Rattle.reading.specs.Reading.{dueAsk, shownHead, workHead, shownOf, workShown, nextOf, workAfter, headedOf, advanceOf, failOf, heardHead, verdictOf, heardBlock, acknowledgedOf, weighOf, judgeOf, storedOf, reportOf, bufferAfter}
+use Rattle.reading.specs.Reading.{dueAsk, shownHead, workHead, shownOf, workShown, nextOf, workAfter, headedOf, advanceOf, failOf, heardHead, verdictOf, heardBlock, acknowledgedOf, weighOf, judgeOf, storedOf, countedOf, reportOf, bufferAfter}
 use Rattle.reading.specs.declared.call.ReadCall.{ReadCall}
 use Rattle.reading.specs.declared.call.ReadTask.{ReadTask}
 use Rattle.r5.specs.Plans.{readDataflash}
@@ -141,8 +142,8 @@ module _ (config : Config) (address size n : ℕ) where
 
     -- ---- what the call hears
 
-    reported-failed : (c : Cause) (h : Bool) (bytes : List ℕ) → callR (reportOf (readAt phase.Waiting h i b t) (causeOf c) bytes size n) ≡ failOf (readAt phase.Waiting h i b t) (whyOf c)
-    unfolding reportOf judgeOf weighOf case_waiting_ended_ case_acknowledged_error_timeout_ case_refused_fault_headed_block_ fitsOf if_then_else_
+    reported-failed : (c : Cause) (h : Bool) (bytes : List ℕ) → callR (reportOf (readAt phase.Waiting h i b t) (causeOf c) bytes size n) ≡ failOf (readAt phase.Waiting h i b (tallied t)) (whyOf c)
+    unfolding reportOf countedOf judgeOf weighOf case_waiting_ended_ case_acknowledged_error_timeout_ case_refused_fault_headed_block_ fitsOf if_then_else_
     reported-failed (busError code) h bytes = rw (eq-eqb size size refl, eq-eqb n n refl)
     reported-failed timedOut h bytes = rw (eq-eqb size size refl, eq-eqb n n refl)
 
@@ -154,7 +155,7 @@ module _ (config : Config) (address size n : ℕ) where
     -- of a failure its cause alone, whatever lies beside it
     pub heard-failed : (e : Event) (c : Cause) → heardBy e ≡ causeOf c → (h : Bool) (brought beside laid : List ℕ) → length laid ≡ n → (g′ : Gauge) (flash′ : List ℕ) (k : ℕ)
         → heard e brought beside laid g′ flash′ k (readWorld phase.Waiting h i b t g buffer work flash)
-        ≡ record { call = failOf (readAt phase.Waiting h i b t) (whyOf c); gauge = g′; buffer = buffer; work = laid; flash = flash′; got = k }
+        ≡ record { call = failOf (readAt phase.Waiting h i b (tallied t)) (whyOf c); gauge = g′; buffer = buffer; work = laid; flash = flash′; got = k }
     unfolding heard
     heard-failed e c o h brought beside laid long′ g′ flash′ k =
         let bytes : List ℕ = lentOf e brought beside in
@@ -173,8 +174,8 @@ module _ (config : Config) (address size n : ℕ) where
         heard-failed (unheard c) c refl h brought beside laid′ l′ g′ flash′ k
         ∙ ap (lending laid′) (sym (heard-failed (unheard c) c refl h brought [] laid l g′ flash′ k))
 
-    pub head-heard : callR (reportOf (readAt phase.Waiting true i b t) outcome.Acknowledged [] size n) ≡ readAt (phaseAfter (blocksOf size) i) false i b t
-    unfolding reportOf judgeOf weighOf acknowledgedOf heardHead headedOf parts.readCount readDataflash case_waiting_ended_ case_acknowledged_error_timeout_ case_refused_fault_headed_block_ fitsOf if_then_else_
+    pub head-heard : callR (reportOf (readAt phase.Waiting true i b t) outcome.Acknowledged [] size n) ≡ readAt (phaseAfter (blocksOf size) i) false i b (tallied t)
+    unfolding reportOf countedOf judgeOf weighOf acknowledgedOf heardHead headedOf parts.readCount readDataflash case_waiting_ended_ case_acknowledged_error_timeout_ case_refused_fault_headed_block_ fitsOf if_then_else_
     head-heard = rw (eq-eqb size size refl, eq-eqb n n refl)
 
     pub head-heard-buffer : bufferAfter (readAt phase.Waiting true i b t) outcome.Acknowledged [] buffer n ≡ buffer
@@ -182,8 +183,8 @@ module _ (config : Config) (address size n : ℕ) where
     head-heard-buffer = rw (eq-eqb (length buffer) size fits, eq-eqb n n refl)
 
     module _ (bytes : List ℕ) (good : heardOf (blockAsk (size - i * 32) (config .«pec_read»)) bytes ≡ reply.Good) where
-      pub received : i < 4294967295 → callR (reportOf (readAt phase.Waiting false i b t) outcome.Acknowledged bytes size n) ≡ readAt (phaseAfter (blocksOf size) (suc i)) false (suc i) b t
-      unfolding reportOf judgeOf weighOf acknowledgedOf heardBlock verdictOf dueAsk askOf advanceOf parts.readCount readDataflash case_waiting_ended_ case_acknowledged_error_timeout_ case_refused_fault_headed_block_ fitsOf if_then_else_
+      pub received : i < 4294967295 → callR (reportOf (readAt phase.Waiting false i b t) outcome.Acknowledged bytes size n) ≡ readAt (phaseAfter (blocksOf size) (suc i)) false (suc i) b (tallied t)
+      unfolding reportOf countedOf judgeOf weighOf acknowledgedOf heardBlock verdictOf dueAsk askOf advanceOf parts.readCount readDataflash case_waiting_ended_ case_acknowledged_error_timeout_ case_refused_fault_headed_block_ fitsOf if_then_else_
       received h =
           let more : min (i + 1) 4294967295 ≡ suc i = omega arith in
           rw (eq-eqb size size refl, eq-eqb n n refl, good, more)
@@ -201,8 +202,8 @@ module _ (config : Config) (address size n : ℕ) where
     damaged-head front last = rw shows-head
 
     module _ (bytes : List ℕ) (wrong : heardOf (blockAsk (size - i * 32) (config .«pec_read»)) bytes ≡ reply.WrongPec) where
-      disbelieved : callR (reportOf (readAt phase.Waiting false i b t) outcome.Acknowledged bytes size n) ≡ failOf (readAt phase.Waiting false i b t) answer.Pec
-      unfolding reportOf judgeOf weighOf acknowledgedOf heardBlock verdictOf dueAsk askOf readDataflash case_waiting_ended_ case_acknowledged_error_timeout_ case_refused_fault_headed_block_ fitsOf if_then_else_
+      disbelieved : callR (reportOf (readAt phase.Waiting false i b t) outcome.Acknowledged bytes size n) ≡ failOf (readAt phase.Waiting false i b (tallied t)) answer.Pec
+      unfolding reportOf countedOf judgeOf weighOf acknowledgedOf heardBlock verdictOf dueAsk askOf readDataflash case_waiting_ended_ case_acknowledged_error_timeout_ case_refused_fault_headed_block_ fitsOf if_then_else_
       disbelieved = rw (eq-eqb size size refl, eq-eqb n n refl, wrong)
 
       disbelieved-buffer : bufferAfter (readAt phase.Waiting false i b t) outcome.Acknowledged bytes buffer n ≡ buffer
@@ -211,7 +212,7 @@ module _ (config : Config) (address size n : ℕ) where
 
     pub made-damaged : config .«pec_read» ≡ true → (front : List ℕ) (last : ℕ) → length front ≡ 35 → (pecOf 0 (0x16 ∷ 0x44 ∷ 0x17 ∷ front) ≡ last → ⊥)
         → readOver (damaged front last) (readWorld phase.Waiting false i b t g buffer work flash)
-        ≡ record { call = failOf (readAt phase.Waiting false i b t) answer.Pec; gauge = movedOf g; buffer = buffer; work = work; flash = flash; got = i }
+        ≡ record { call = failOf (readAt phase.Waiting false i b (tallied t)) answer.Pec; gauge = movedOf g; buffer = buffer; work = work; flash = flash; got = i }
     unfolding readOver makes heard if_then_else_
     made-damaged pec front last full other =
         let wrong : heardOf (blockAsk (size - i * 32) (config .«pec_read»)) (front ++ (last ∷ [])) ≡ reply.WrongPec = rw pec (reply-damaged (size - i * 32) front last full other) in

@@ -18,7 +18,7 @@ use Rattle.protocol.specs.declared.error.Answer.{Answer}
 use Rattle.protocol.specs.declared.error.Answer.the-variants as answer
 use Rattle.protocol.proofs.Laws.{length-over}
 use Rattle.engine.specs.Pick.{case_retry_spent_}
-use Rattle.engine.specs.Budget.{failed as failedOf, waited}
+use Rattle.engine.specs.Budget.{failed as failedOf, waited, tallied}
 use Rattle.engine.specs.Bus.{phaseAfter}
 use Rattle.engine.specs.declared.budget.Budget.{Budget}
 use Rattle.engine.specs.declared.budget.Tally.{Tally}
@@ -124,7 +124,7 @@ module _ (noisy : Bool) (config : Config) (address n : ℕ) (old flash : List �
 
     -- the head was heard: the gauge points at its block
     pub step-head-heard : readStep acknowledged (readWorld config address size n phase.Waiting true i b t g buffer work flash)
-        ≡ readWorld config address size n (phaseAfter (blocksOf size) i) false i b t (record { pointer = address + i * 32 }) buffer (over (headOf config address size n i) work) flash
+        ≡ readWorld config address size n (phaseAfter (blocksOf size) i) false i b (tallied t) (record { pointer = address + i * 32 }) buffer (over (headOf config address size n i) work) flash
     unfolding heard
     step-head-heard =
         let a : address + i * 32 < 0x6000 = omega arith in
@@ -138,7 +138,7 @@ module _ (noisy : Bool) (config : Config) (address n : ℕ) (old flash : List �
     head-failed e c o g′ p q =
         let laid : length (over (headOf config address size n i) work) ≡ n = head-long config address size n i b t g buffer work flash fits long room in
         rw (made-head config address size n i b t g buffer work flash fits long room e [], heard-failed config address size n i b t g buffer work flash fits long room e c o true [] [] (over (headOf config address size n i) work) laid (after e g (pointedBy (headOf config address size n i) g flash)) (flashAfter e (headOf config address size n i) flash) i, p, q)
-        (reading-failed (whyOf c) true i b t g′ buffer (over (headOf config address size n i) work) laid l (gave-up (why-number c) l) f)
+        (reading-failed (whyOf c) true i b (tallied t) g′ buffer (over (headOf config address size n i) work) laid l (gave-up (why-number c) l) f)
 
     head-event : (e : Event) → Reading (readStep e (readWorld config address size n phase.Waiting true i b t g buffer work flash))
     head-event acknowledged =
@@ -148,7 +148,7 @@ module _ (noisy : Bool) (config : Config) (address n : ℕ) (old flash : List �
           head = false;
           i = i;
           b = b;
-          t = t;
+          t = tallied t;
           gauge = record { pointer = address + i * 32 };
           buffer = buffer;
           work = over (headOf config address size n i) work;
@@ -168,7 +168,7 @@ module _ (noisy : Bool) (config : Config) (address n : ℕ) (old flash : List �
 
     -- the block has come: the pointer moves on
     pub step-read-heard : readStep acknowledged (readWorld config address size n phase.Waiting false i b t g buffer work flash)
-        ≡ readWorld config address size n (phaseAfter (blocksOf size) (suc i)) false (suc i) b t (record { pointer = min (g .pointer + 32) 0x6000 }) blockAfter work flash
+        ≡ readWorld config address size n (phaseAfter (blocksOf size) (suc i)) false (suc i) b (tallied t) (record { pointer = min (g .pointer + 32) 0x6000 }) blockAfter work flash
     unfolding heard movedOf
     step-read-heard =
         let good = reply-good g flash (config .«pec_read») (size - i * 32) in
@@ -188,7 +188,7 @@ module _ (noisy : Bool) (config : Config) (address n : ℕ) (old flash : List �
         → Reading (readStep e (readWorld config address size n phase.Waiting false i b t g buffer work flash))
     read-failed e c o k =
         rw (made-read config address size n i b t g buffer work flash fits long room e [], k, heard-failed config address size n i b t g buffer work flash fits long room e c o false (broughtAt config address size n i b t g buffer work flash fits long room) [] work long (after e g (movedOf g)) flash i)
-        (reading-failed (whyOf c) false i b t (after e g (movedOf g)) buffer work long l (gave-up (why-number c) l) f)
+        (reading-failed (whyOf c) false i b (tallied t) (after e g (movedOf g)) buffer work long l (gave-up (why-number c) l) f)
 
     read-event : (e : Event) → g .pointer ≡ address + i * 32 → Reading (readStep e (readWorld config address size n phase.Waiting false i b t g buffer work flash))
     read-event acknowledged q =
@@ -198,7 +198,7 @@ module _ (noisy : Bool) (config : Config) (address n : ℕ) (old flash : List �
           head = false;
           i = suc i;
           b = b;
-          t = t;
+          t = tallied t;
           gauge = record { pointer = min (g .pointer + 32) 0x6000 };
           buffer = blockAfter;
           work = work;
@@ -215,7 +215,7 @@ module _ (noisy : Bool) (config : Config) (address n : ℕ) (old flash : List �
         → Reading (readOver (damaged front last) (readWorld config address size n phase.Waiting false i b t g buffer work flash))
     read-damaged noise pec front last full other =
         rw (made-damaged config address size n i b t g buffer work flash fits long room pec front last full other)
-        (reading-failed answer.Pec false i b t (movedOf g) buffer work long l (disbelieved noise refl l) f)
+        (reading-failed answer.Pec false i b (tallied t) (movedOf g) buffer work long l (disbelieved noise refl l) f)
 
   -- ---- every event
 

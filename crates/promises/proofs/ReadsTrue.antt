@@ -18,7 +18,7 @@ use Rattle.protocol.specs.declared.error.Answer.{Answer}
 use Rattle.protocol.specs.declared.error.Answer.the-variants as answer
 use Rattle.protocol.proofs.WindowLaws.{within}
 use Rattle.engine.specs.Pick.{case_waiting_ended_}
-use Rattle.engine.specs.Budget.{nothing}
+use Rattle.engine.specs.Budget.{nothing, tallied}
 use Rattle.engine.specs.Bus.{phaseAfter}
 use Rattle.engine.specs.declared.budget.Budget.{Budget}
 use Rattle.engine.specs.declared.budget.Tally.{Tally}
@@ -109,15 +109,15 @@ module _ (config : Config) (address n : ℕ) (old flash : List ℕ) (room : 39 �
   reads-on (suc m) i b t g buffer work long l k q f =
       ap (λ (w : ReadWorld). readRun (replicate m acknowledged) w .call .phase) (step-read-heard false config address n old flash room whole low high i b t g buffer work long l f)
       ∙ by (leb (blocksOf (length old)) (suc i)) refl
-      (λ z. reads-on m (suc i) b t (record { pointer = min (g .pointer + 32) 0x6000 }) (blockAfter false config address n old flash room whole low high i b t g buffer work long l f) work long (omega arith) (omega arith) (omega arith) (block-after false config address n old flash room whole low high i b t g buffer work long l f q))
+      (λ z. reads-on m (suc i) b (tallied t) (record { pointer = min (g .pointer + 32) 0x6000 }) (blockAfter false config address n old flash room whole low high i b t g buffer work long l f) work long (omega arith) (omega arith) (omega arith) (block-after false config address n old flash room whole low high i b t g buffer work long l f q))
     where
       next : Phase → ReadWorld
-      next p = readWorld config address (length old) n p false (suc i) b t (record { pointer = min (g .pointer + 32) 0x6000 }) (blockAfter false config address n old flash room whole low high i b t g buffer work long l f) work flash
+      next p = readWorld config address (length old) n p false (suc i) b (tallied t) (record { pointer = min (g .pointer + 32) 0x6000 }) (blockAfter false config address n old flash room whole low high i b t g buffer work long l f) work flash
 
       by : (z : Bool) → leb (blocksOf (length old)) (suc i) ≡ z
           → (suc i < blocksOf (length old) → readRun (replicate m acknowledged) (next phase.Waiting) .call .phase ≡ phase.Ended answer.Done)
           → readRun (replicate m acknowledged) (next (if z then phase.Ended answer.Done else phase.Waiting)) .call .phase ≡ phase.Ended answer.Done
-      by true z more = ap (λ (w : ReadWorld). w .call .phase) (read-ended config address (length old) n (replicate m acknowledged) answer.Done false (suc i) b t _ _ work flash)
+      by true z more = ap (λ (w : ReadWorld). w .call .phase) (read-ended config address (length old) n (replicate m acknowledged) answer.Done false (suc i) b (tallied t) _ _ work flash)
       by false z more = more (leb-false _ _ z)
 
   -- the head first
@@ -129,7 +129,7 @@ module _ (config : Config) (address n : ℕ) (old flash : List ℕ) (room : 39 �
       let more : leb (blocksOf (length old)) 0 ≡ false = lt-leb (blocksOf (length old)) 0 (omega arith) in
       ap (λ (w : ReadWorld). readRun (replicate m acknowledged) w .call .phase)
       (step-head-heard false config address n old flash room whole low high 0 b t g old work long (omega arith) refl ∙ rw more)
-      ∙ reads-on m 0 b t (record { pointer = address + 0 * 32 }) old (over (headOf config address (length old) n 0) work)
+      ∙ reads-on m 0 b (tallied t) (record { pointer = address + 0 * 32 }) old (over (headOf config address (length old) n 0) work)
       (head-long config address (length old) n 0 b t g old work flash refl long room) (omega arith) (omega arith) refl refl
 
 shows-done : (call : ReadCall) (n w : ℕ) → call .phase ≡ phase.Ended answer.Done → nextOf call n w ≡ transfer.Ended answer.Done

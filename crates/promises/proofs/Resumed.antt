@@ -20,7 +20,7 @@ use Rattle.protocol.specs.declared.error.Answer.the-variants as answer
 use Rattle.protocol.proofs.WindowLaws.{within, window-rest}
 use Rattle.engine.specs.Pick.{case_waiting_ended_}
 use Rattle.engine.specs.Bus.{phaseAfter}
-use Rattle.engine.specs.Budget.{nothing}
+use Rattle.engine.specs.Budget.{nothing, tallied}
 use Rattle.engine.specs.declared.budget.Budget.{Budget}
 use Rattle.engine.specs.declared.budget.Tally.{Tally}
 use Rattle.engine.specs.declared.bus.Phase.{Phase}
@@ -152,17 +152,17 @@ module _ (config : Config) (address : ℕ) (payload : List ℕ) (n : ℕ) (room 
   all-heard (suc m) i b t work flash long h l =
       ap (λ (w : WriteWorld). run payload (replicate m acknowledged) w .call .phase) (step-acknowledged config address payload n i b t work long room flash (omega arith))
       ∙ (by (leb (blocksOf (length payload)) (suc i)) refl
-      (λ k. all-heard m (suc i) (record { left = config .«max_bus_retries» }) t (over (frameOf config address payload n i) work) (stored (frameOf config address payload n i) flash)
+      (λ k. all-heard m (suc i) (record { left = config .«max_bus_retries» }) (tallied t) (over (frameOf config address payload n i) work) (stored (frameOf config address payload n i) flash)
       (laid-long config address payload n i b t work long room) (omega arith) (omega arith)))
     where
       next : Phase → WriteWorld
-      next p = worldAt config address payload n p (suc i) (record { left = config .«max_bus_retries» }) t (over (frameOf config address payload n i) work) (stored (frameOf config address payload n i) flash)
+      next p = worldAt config address payload n p (suc i) (record { left = config .«max_bus_retries» }) (tallied t) (over (frameOf config address payload n i) work) (stored (frameOf config address payload n i) flash)
 
       by : (z : Bool) → leb (blocksOf (length payload)) (suc i) ≡ z
           → (suc i < blocksOf (length payload) → run payload (replicate m acknowledged) (next phase.Waiting) .call .phase ≡ phase.Ended answer.Done)
           → run payload (replicate m acknowledged) (next (if z then phase.Ended answer.Done else phase.Waiting)) .call .phase ≡ phase.Ended answer.Done
       by true z more =
-          ap (λ (w : WriteWorld). w .call .phase) (run-ended config address payload n (replicate m acknowledged) answer.Done (suc i) _ t _ _)
+          ap (λ (w : WriteWorld). w .call .phase) (run-ended config address payload n (replicate m acknowledged) answer.Done (suc i) _ (tallied t) _ _)
       by false z more = more (leb-false _ _ z)
 
 shows-done : (call : WriteCall) (payload : List ℕ) (w : ℕ) → call .phase ≡ phase.Ended answer.Done → nextOf call payload w ≡ transfer.Ended answer.Done

@@ -17,7 +17,7 @@ use Rattle.protocol.specs.declared.error.Answer.the-variants as answer
 use Rattle.protocol.proofs.WindowLaws.{within}
 use Rattle.engine.specs.Pick.{case_retry_spent_}
 use Rattle.engine.specs.Bus.{phaseAfter}
-use Rattle.engine.specs.Budget.{failed as failedOf, nothing, waited}
+use Rattle.engine.specs.Budget.{failed as failedOf, nothing, waited, tallied}
 use Rattle.engine.specs.Limit.{windowed, measured, admitted}
 use Rattle.engine.specs.declared.budget.Budget.{Budget}
 use Rattle.engine.specs.declared.budget.Tally.{Tally}
@@ -119,7 +119,7 @@ module _ (config : Config) (address : ℕ) (payload old : List ℕ) (n : ℕ) (r
         at = phaseAfter (blocksOf (length payload)) (suc i);
         i = suc i;
         b = record { left = config .«max_bus_retries» };
-        t = t;
+        t = tallied t;
         work = over (frameOf config address payload n i) work;
         flash = stored (frameOf config address payload n i) flash;
         is = refl;
@@ -129,10 +129,10 @@ module _ (config : Config) (address : ℕ) (payload old : List ℕ) (n : ℕ) (r
       })
   going-at (failed c) phase.Waiting i b t work flash long v s =
       rw (step-failed config address payload n i b t work long room c flash)
-      (going-failed c i b t (over (frameOf config address payload n i) work) flash (laid-long config address payload n i b t work long room) s v)
+      (going-failed c i b (tallied t) (over (frameOf config address payload n i) work) flash (laid-long config address payload n i b t work long room) s v)
   going-at (unheard c) phase.Waiting i b t work flash long v s =
       rw (step-unheard config address payload n i b t work long room c flash)
-      (going-failed c i b t (over (frameOf config address payload n i) work) (stored (frameOf config address payload n i) flash) (laid-long config address payload n i b t work long room) s (inr (lands i flash s v)))
+      (going-failed c i b (tallied t) (over (frameOf config address payload n i) work) (stored (frameOf config address payload n i) flash) (laid-long config address payload n i b t work long room) s (inr (lands i flash s v)))
 
   pub going-step : (e : Event) (w : WriteWorld) → Going w → Going (step payload e w)
   going-step e w g = rw (g .is) (going-at e (g .at) (g .i) (g .b) (g .t) (g .work) (g .flash) (g .long) (g .holds) (g .told))

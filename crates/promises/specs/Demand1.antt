@@ -1,6 +1,6 @@
 -- Demand 1: every request, setting and bus outcome gets an answer; each is given exactly when its row of document 01's table says so; a refusal changes nothing.
--- The rows are those of `answers` (Starts, Writes, Reads), by the paper's number and detail. That there is an answer at all is that the calls are functions
--- with no `requires`.
+-- The rows are those of `answers` (Starts, Writes, Reads), by the paper's number and detail. That each step has an answer at all is that the calls are functions
+-- with no `requires`; that each call has one in the end, fed by any host that lends the lengths of the start, is `ceilings` and `ends` below.
 -- Assumes nothing.
 use Prim.Native.Nat.{ℕ, _≤_}
 use mathlib.Core.Path.{_≡_}
@@ -25,8 +25,10 @@ use Rattle.answers.specs.Calls.{Admitted, Limits}
 use Rattle.answers.specs.Runs.{Stays}
 use Rattle.answers.specs.Unique.{Unique}
 use Rattle.answers.specs.Within.{Within}
+use Rattle.ceilings.specs.Ceilings.{Ceilings}
 use Rattle.promises.specs.CourseRows.{CourseRows}
 use Rattle.promises.specs.RunLaws.{RunLaws}
+use Rattle.promises.specs.Traffic.{Ends, CourseTraffic}
 
 pub record Demand1 : Type 1 where
   -- the answers' numbers and details
@@ -47,7 +49,7 @@ pub record Demand1 : Type 1 where
   pub refused-w : (call : WriteCall) (o : Outcome) (r n w : ℕ) → SortW call (writing.reportOf call o r n w)
   pub refused-r : (call : ReadCall) (o : Outcome) (bytes buffer : List ℕ) (w : ℕ)
       → SortR call buffer (reading.bufferAfter call o bytes buffer w) (reading.reportOf call o bytes (length buffer) w)
-  -- what a report costs: retries and waits, and what is due after it
+  -- what a report costs: a transfer, retries and waits, and what is due after it
   pub costs-w : (call : WriteCall) (o : Outcome) (r n w : ℕ) → CostW call o (writing.reportOf call o r n w)
   pub costs-r : (call : ReadCall) (o : Outcome) (bytes : List ℕ) (n w : ℕ) → CostR call o bytes (reading.reportOf call o bytes n w)
   -- what a report leaves in the caller's buffer
@@ -66,11 +68,17 @@ pub record Demand1 : Type 1 where
   pub stays : Stays
   -- each call by name, however it is fed: what it hands out to be sent, and when it shows 8
   pub hands-out : HandsOut
-  -- each call by name, however it is fed: it has a next transfer until it ends, no counter saturates, and an ending other than 0 leaves the buffer past whole blocks as it was
+  -- each call by name, however it is fed: it has a next transfer until it ends, no counter saturates (of the transfers: `ceilings`), and an ending other than 0 leaves the buffer past whole blocks as it was
   pub within : Within
+  -- EVERY CALL ENDS: each call by name, for any list of reports, accepts and counts at most so many outcomes, and then no longer waits
+  pub ceilings : Ceilings
+  -- and so does each call of a host that makes the transfers which are shown and reports what the bus did
+  pub ends : Ends
   -- rows 8 and 11 of a run over a course, by a call that waits
   pub courses : CourseRows
   -- what a run over a course does for any call that waits, byte by byte
   pub runs : RunLaws
+  -- a run over a course makes at most so many transfers, and uses up a byte for each
+  pub traffic : CourseTraffic
   -- each contract has one answer
   pub unique : Unique

@@ -11,5 +11,7 @@ pub mod Courses
 pub mod Reads
 pub mod CourseRows
 pub mod RunLaws
+pub mod Traffic
+pub mod CountByKind
 pub mod Reading
 pub mod WorkedReads

@@ -5,7 +5,7 @@
 use Prim.Native.Nat.{ℕ}
 use mathlib.Core.Path.{_≡_}
 use mathlib.Core.Bool.{true}
-use mathlib.Core.List.{List, [], _∷_}
+use mathlib.Core.List.{List, [], _∷_, _++_}
 use lib.ListN.{length}
 use Rattle.protocol.specs.declared.error.Answer.{Answer}
 use Rattle.engine.specs.Made.{Made, write, read}
@@ -13,15 +13,14 @@ use Rattle.engine.specs.declared.bus.Phase.the-variants as phase
 use Rattle.engine.specs.declared.bus.Transfer.the-variants as transfer
 use Rattle.calls.specs.Call.{nextOf, workAfter, partOf, reportOf, bufferAfter, phaseOf}
 use Rattle.calls.specs.declared.call.Call.{Call}
-use Rattle.calls.specs.declared.call.Reported.{Reported}
-use Rattle.calls.specs.declared.call.Reported.the-variants as reported
+use Rattle.ceilings.specs.Reports.{callAfter}
 use Rattle.model_gauge.specs.Gauge.{Effect, effectOf}
 use Rattle.model_gauge.specs.declared.gauge.Fate.{Fate}
 use Rattle.model_gauge.specs.declared.gauge.Fate.the-variants as fate
 use Rattle.model_gauge.specs.declared.gauge.Gauge.{Gauge}
 use Rattle.courses.specs.Course.{soundOf}
 use Rattle.courses.specs.Figures.{LentAgain}
-use Rattle.courses.specs.Run.{World, world, left, runOf}
+use Rattle.courses.specs.Run.{World, world, left, left-over, runOf}
 use Rattle.courses.specs.declared.course.End.the-variants as end
 use Rattle.courses.specs.declared.run.Link.{Link}
 use Rattle.courses.specs.declared.run.Run.{Run}
@@ -31,11 +30,6 @@ pub data Means : ℕ → Fate → Type 0 where
   heard : Means 0 fate.Heard
   lost-before : Means 1 fate.LostBefore
   lost-after : Means 2 fate.LostAfter
-
--- the call after a report: the new one, or as it was where the report is refused
-abbrev pub callAfter : Reported → Call
-callAfter (reported.Refused a call) = call
-callAfter (reported.Taken call) = call
 
 -- what a transfer came to is reported: the call, the gauge, the buffer, the work buffer and the flash
 abbrev pub reportedTo : (payload : List ℕ) → Effect → Call → (buffer shown : List ℕ) → World
@@ -68,3 +62,6 @@ pub record RunLaws : Type 0 where
       → length flash ≡ 8192 → soundOf rest ≡ true → nextOf (link .call) payload (length buffer) (length work) ≡ transfer.Refused a
       → runOf payload (byte ∷ rest) (world link buffer work flash)
       ≡ runOf payload rest (world link buffer (workAfter (link .call) payload (length buffer) work) flash)
+  -- a call that was left somewhere and is run on over a further course is the call run over both
+  pub runs-on : (payload course further : List ℕ) (from : World) → soundOf course ≡ true → soundOf further ≡ true
+      → runOf payload further (left-over (runOf payload course from)) ≡ runOf payload (course ++ further) from

@@ -10,13 +10,13 @@ use Rattle.protocol.specs.Frame.{sealed, pairOf, macBytes, laidOf, workLaid}
 use Rattle.protocol.specs.Window.{inWindow}
 use Rattle.protocol.specs.declared.error.Answer.the-variants as answer
 use Rattle.engine.specs.Pick.{case_waiting_ended_, case_acknowledged_error_timeout_, case_retry_spent_}
-use Rattle.engine.specs.Budget.{failed as failedOf, nothing}
+use Rattle.engine.specs.Budget.{failed as failedOf, nothing, tallied}
 use Rattle.engine.specs.Bus.{writeOf, phaseAfter, fitsOf}
 use Rattle.engine.specs.Limit.{windowed, measured, admitted}
 use Rattle.engine.specs.declared.bus.Transfer.{Transfer}
 use Rattle.engine.specs.declared.bus.Transfer.the-variants as transfer
 use Rattle.writing.specs.Frames.{isPlain, isFlash, frameCount, firstAddress, blockBytes, bytesAt}
-use Rattle.writing.specs.Writing.{planOf, startOf, ownBytes, dueBytes, shownOf, workShown, nextOf, workAfter, partOf, advanceOf, gaveUp, retryOf, endOf, failOf, settleOf, repliedOf, reportOf}
+use Rattle.writing.specs.Writing.{planOf, startOf, ownBytes, dueBytes, shownOf, workShown, nextOf, workAfter, partOf, advanceOf, gaveUp, retryOf, endOf, failOf, settleOf, repliedOf, countedOf, reportOf}
 use Rattle.r5.specs.Plans.{writeDataflash}
 use Rattle.promises.specs.Events.{busError, timedOut, Event, acknowledged, failed, unheard, each}
 use Rattle.promises.specs.Host.{makes}
@@ -36,5 +36,5 @@ pub worked-runs :
     × (worked (failed (busError 5) ∷ []) ≡ transfer.Ended (answer.I2c 5))
     × (worked (unheard timedOut ∷ (acknowledged) ∷ []) ≡ transfer.Ended answer.Timeout)
     × (worked ((acknowledged) ∷ unheard timedOut ∷ []) ≡ transfer.Ended (answer.PartialDataFlashWrite 32))
-unfolding began startOf firstAddress admitted measured windowed inWindow planOf writeDataflash each transferMade sent nextOf workAfter shownOf workShown dueBytes bytesAt blockBytes macBytes pairOf laidOf workLaid writeOf sealed over ownBytes isPlain isFlash frameCount fitsOf partOf reportOf repliedOf settleOf advanceOf failOf failedOf retryOf endOf gaveUp phaseAfter case_waiting_ended_ case_acknowledged_error_timeout_ case_retry_spent_ makes if_then_else_ nothing
+unfolding began startOf firstAddress admitted measured windowed inWindow planOf writeDataflash each transferMade sent nextOf workAfter shownOf workShown dueBytes bytesAt blockBytes macBytes pairOf laidOf workLaid writeOf sealed over ownBytes isPlain isFlash frameCount fitsOf partOf reportOf countedOf tallied repliedOf settleOf advanceOf failOf failedOf retryOf endOf gaveUp phaseAfter case_waiting_ended_ case_acknowledged_error_timeout_ case_retry_spent_ makes if_then_else_ nothing
 worked-runs = (refl, refl, refl, refl, refl, refl)

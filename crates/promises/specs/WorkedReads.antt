@@ -12,14 +12,14 @@ use Rattle.protocol.specs.Reply.{macAsk, leadOf, aroundOf, bytesAsked, checkedO
 use Rattle.protocol.specs.Window.{inWindow}
 use Rattle.protocol.specs.declared.error.Answer.the-variants as answer
 use Rattle.engine.specs.Pick.{case_waiting_ended_, case_acknowledged_error_timeout_, case_retry_spent_}
-use Rattle.engine.specs.Budget.{failed as failedOf, nothing, waited}
+use Rattle.engine.specs.Budget.{failed as failedOf, nothing, waited, tallied}
 use Rattle.engine.specs.Bus.{writeOf, phaseAfter, fitsOf}
 use Rattle.engine.specs.Limit.{windowed, measured, admitted}
 use Rattle.engine.specs.declared.bus.Transfer.the-variants as transfer
 use Rattle.reading.specs.Pick.{case_refused_fault_headed_block_}
 use Rattle.reading.specs.Parts.{hasHead, firstAddress, headBytes, blockAsk, askOf, mostOf}
 use Rattle.reading.specs.Parts as parts
-use Rattle.reading.specs.Reading.{startOf, dueAsk, shownHead, workHead, shownOf, workShown, nextOf, workAfter, headedOf, advanceOf, retryOf, endOf, failOf, heardHead, verdictOf, heardBlock, acknowledgedOf, weighOf, judgeOf, storedOf, reportOf, bufferAfter}
+use Rattle.reading.specs.Reading.{startOf, dueAsk, shownHead, workHead, shownOf, workShown, nextOf, workAfter, headedOf, advanceOf, retryOf, endOf, failOf, heardHead, verdictOf, heardBlock, acknowledgedOf, weighOf, judgeOf, storedOf, countedOf, reportOf, bufferAfter}
 use Rattle.r5.specs.Plans.{readDataflash}
 use Rattle.model_gauge.specs.Frame.{wholeOf, formOf, readFrame}
 use Rattle.model_gauge.specs.Gauge.{newGauge, blockAt, replyFront, replyOf, movedOf, repliesTo, heardFrame, heardRead, acts, stored}
@@ -62,5 +62,5 @@ pub worked-reads :
     × (workedNoise (comes (acknowledged) ∷ damaged (replicate 35 0) 0 ∷ comes (acknowledged) ∷ damaged (replicate 35 0) 0 ∷ []) .buffer ≡ replicate 33 0xA5)
     × (readShows (workedNoise damagedLater) ≡ transfer.Ended answer.Done)
     × (workedNoise damagedLater .buffer ≡ replicate 32 1 ++ (2 ∷ []))
-unfolding bitStep bitSteps byteStep pecOf readOver checkedOf readBegan startOf firstAddress admitted measured windowed inWindow readDataflash hasHead each readMade headSent asked heard nextOf workAfter shownOf workShown shownHead workHead headBytes macBytes pairOf laidOf workLaid writeOf sealed over fitsOf dueAsk askOf blockAsk macAsk bytesAsked aroundOf leadOf heardOf dataOf reportOf bufferAfter judgeOf weighOf acknowledgedOf heardHead heardBlock verdictOf headedOf advanceOf storedOf storedAt blockIn mostOf parts.readCount failOf failedOf retryOf endOf phaseAfter waited nothing newGauge stored acts heardFrame heardRead readFrame formOf wholeOf repliesTo movedOf replyOf replyFront blockAt case_waiting_ended_ case_acknowledged_error_timeout_ case_retry_spent_ case_refused_fault_headed_block_ makes if_then_else_
+unfolding bitStep bitSteps byteStep pecOf readOver checkedOf readBegan startOf firstAddress admitted measured windowed inWindow readDataflash hasHead each readMade headSent asked heard nextOf workAfter shownOf workShown shownHead workHead headBytes macBytes pairOf laidOf workLaid writeOf sealed over fitsOf dueAsk askOf blockAsk macAsk bytesAsked aroundOf leadOf heardOf dataOf reportOf countedOf bufferAfter judgeOf weighOf acknowledgedOf heardHead heardBlock verdictOf headedOf advanceOf storedOf storedAt blockIn mostOf parts.readCount failOf failedOf retryOf endOf phaseAfter waited tallied nothing newGauge stored acts heardFrame heardRead readFrame formOf wholeOf repliesTo movedOf replyOf replyFront blockAt case_waiting_ended_ case_acknowledged_error_timeout_ case_retry_spent_ case_refused_fault_headed_block_ makes if_then_else_
 worked-reads = (refl, refl, refl, refl, refl, refl, refl, refl, refl, refl, refl, refl, refl, refl)

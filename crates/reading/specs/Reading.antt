@@ -17,7 +17,7 @@ use Rattle.protocol.specs.declared.reply.Ask.{Ask}
 use Rattle.protocol.specs.declared.reply.Heard.{Heard}
 use Rattle.protocol.specs.declared.reply.Heard.the-variants as heard
 use Rattle.engine.specs.Pick.{case_waiting_ended_, case_acknowledged_error_timeout_, case_retry_spent_}
-use Rattle.engine.specs.Budget.{failed, moreOf, nothing, waited}
+use Rattle.engine.specs.Budget.{failed, moreOf, nothing, waited, tallied}
 use Rattle.engine.specs.Bus.{writeOf, phaseAfter, fitsOf}
 use Rattle.engine.specs.Limit.{admitted}
 use Rattle.engine.specs.declared.budget.Budget.{Budget}
@@ -180,13 +180,25 @@ unfoldable pub storedOf : ReadCall → List ℕ → List ℕ → List ℕ
 storedOf call reply buffer =
     storedAt (blockStart (call .received)) (parts.mostOf (call .task .plan .reads) (call .task .lent .length)) (dataOf (dueAsk call) reply) buffer
 
+-- one transfer more is counted
+unfoldable pub countedOf : ReadCall → ReadCall
+countedOf call = record {
+  task = call .task;
+  phase = call .phase;
+  heading = call .heading;
+  received = call .received;
+  budget = call .budget;
+  tally = tallied (call .tally);
+}
+
+-- refused, or taken and counted
 unfoldable pub reportOf : ReadCall → Outcome → List ℕ → ℕ → ℕ → ReadReported
 reportOf call o reply n w =
     case judgeOf call o reply n w
     refused (λ why. reported.Refused why call)
-    fault (λ why. reported.Taken (failOf call why))
-    headed reported.Taken (headedOf call)
-    block reported.Taken (advanceOf call)
+    fault (λ why. reported.Taken (failOf (countedOf call) why))
+    headed reported.Taken (headedOf (countedOf call))
+    block reported.Taken (advanceOf (countedOf call))
 
 -- only a block that is believed changes the buffer
 unfoldable pub bufferAfter : ReadCall → Outcome → List ℕ → List ℕ → ℕ → List ℕ

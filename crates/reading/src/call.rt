@@ -19,7 +19,7 @@ use protocol::reply::Ask;
 use protocol::reply::Heard;
 ghost use mathlib.Core.Path.{_≡_};
 ghost use lib.ListN.{length, take};
-ghost use Rattle.reading.specs.Reading.{planOf, plainPlan, macPlan, startOf, dueAsk, shownHead, workHead, shownOf, workShown, nextOf, workAfter, headedOf, advanceOf, retryOf, endOf, failOf, heardHead, heardBlock, acknowledgedOf, weighOf, judgeOf, storedOf, reportOf, bufferAfter};
+ghost use Rattle.reading.specs.Reading.{planOf, plainPlan, macPlan, startOf, dueAsk, shownHead, workHead, shownOf, workShown, nextOf, workAfter, headedOf, advanceOf, retryOf, endOf, failOf, heardHead, heardBlock, acknowledgedOf, weighOf, judgeOf, storedOf, countedOf, reportOf, bufferAfter};
 
 // What a reading call is: its retries, what it asks of the buffer's length, its head and whether that carries a PEC, and its reads.
 pub struct ReadPlan {
@@ -348,7 +348,25 @@ impl ReadCall {
         bytes::store_block(buffer, at, ask.data_of(reply), reads.most(lent.length));
     }
 
-    // An outcome is reported: refused with 10, 8 or 9 and call and buffer as they were, or taken.
+    // The same call with one transfer more.
+    fn counted(self) -> ReadCall
+        ensures { λ r. ⌜ r ≡ countedOf self ⌝ }
+    {
+        let task = self.task;
+        let phase = self.phase;
+        let budget = self.budget;
+        let tally = self.tally;
+        ReadCall {
+            task,
+            phase,
+            heading: self.heading,
+            received: self.received,
+            budget,
+            tally: tally.transfer(),
+        }
+    }
+
+    // An outcome is reported: refused with 10, 8 or 9 and call and buffer as they were, or taken and counted.
     pub fn report(
         self,
         outcome: Outcome,
@@ -359,13 +377,14 @@ impl ReadCall {
         ensures { λ r. ⌜ (r ≡ reportOf self outcome (now (reply .entry)) (length (now (buffer .entry))) (length (now (work .entry)))) × (now (buffer .exit) ≡ bufferAfter self outcome (now (reply .entry)) (now (buffer .entry)) (length (now (work .entry)))) ⌝ }
     {
         let verdict = self.judge(outcome, reply, buffer.len(), work.len());
+        let counted = self.counted();
         match verdict {
             Verdict::Refused(why) => ReadReported::Refused(why, self),
-            Verdict::Failed(why) => ReadReported::Taken(self.fail(why)),
-            Verdict::Head => ReadReported::Taken(self.headed()),
+            Verdict::Failed(why) => ReadReported::Taken(counted.fail(why)),
+            Verdict::Head => ReadReported::Taken(counted.headed()),
             Verdict::Block => {
                 self.store(reply, buffer);
-                ReadReported::Taken(self.advance())
+                ReadReported::Taken(counted.advance())
             }
         }
     }

@@ -172,11 +172,11 @@ Hold (run lines rest out ∷ more) = (printed (feeds lines ++ rest) ≡ feeds ou
 
 pub runs-hold : Hold runs
 unfolding ascii bitStep bitSteps byteStep pecOf if_then_else_ bytes.over bytes.blockIn bytes.storedAt bytes.sendOf frame.sealed frame.pairOf frame.macBytes frame.commandBytes frame.registerBytes frame.infoBytes frame.laidOf frame.workLaid
-    reply.plainAsk reply.macAsk reply.leadOf reply.aroundOf reply.bytesAsked reply.checkedOf reply.heardOf reply.dataOf inWindow case_waiting_ended_ case_acknowledged_error_timeout_ case_retry_spent_ budget.failed budget.nothing budget.waited
+    reply.plainAsk reply.macAsk reply.leadOf reply.aroundOf reply.bytesAsked reply.checkedOf reply.heardOf reply.dataOf inWindow case_waiting_ended_ case_acknowledged_error_timeout_ case_retry_spent_ budget.failed budget.nothing budget.waited budget.tallied
     bus.writeOf bus.phaseAfter bus.fitsOf limit.windowed limit.commanded limit.measured limit.admitted frames.isPlain frames.isFlash frames.firstAddress frames.frameCount frames.halfBytes frames.blockBytes frames.infoCBytes frames.bytesAt
-    writing.planOf writing.startOf writing.ownBytes writing.dueBytes writing.shownOf writing.workShown writing.nextOf writing.workAfter writing.partOf writing.advanceOf writing.gaveUp writing.retryOf writing.endOf writing.failOf writing.settleOf writing.repliedOf writing.reportOf
+    writing.planOf writing.startOf writing.ownBytes writing.dueBytes writing.shownOf writing.workShown writing.nextOf writing.workAfter writing.partOf writing.advanceOf writing.gaveUp writing.retryOf writing.endOf writing.failOf writing.settleOf writing.repliedOf writing.countedOf writing.reportOf
     case_refused_fault_headed_block_ parts.hasHead parts.headBytes parts.firstAddress parts.readCount parts.blockAsk parts.askOf parts.mostOf
-    reading.plainPlan reading.macPlan reading.startOf reading.dueAsk reading.shownHead reading.workHead reading.shownOf reading.workShown reading.nextOf reading.workAfter reading.headedOf reading.advanceOf reading.retryOf reading.endOf reading.failOf reading.heardHead reading.verdictOf reading.heardBlock reading.acknowledgedOf reading.weighOf reading.judgeOf reading.storedOf reading.reportOf reading.bufferAfter
+    reading.plainPlan reading.macPlan reading.startOf reading.dueAsk reading.shownHead reading.workHead reading.shownOf reading.workShown reading.nextOf reading.workAfter reading.headedOf reading.advanceOf reading.retryOf reading.endOf reading.failOf reading.heardHead reading.verdictOf reading.heardBlock reading.acknowledgedOf reading.weighOf reading.judgeOf reading.storedOf reading.countedOf reading.reportOf reading.bufferAfter
     interface.plainLimit interface.writeWithRetries interface.writeRegister interface.readRegister interface.commandPec interface.commandReads interface.dispatchCommand interface.readBuffer interface.writeBuffer
     r5.macRead r5.macWrite r5.sendAccessKey r5.writeMfgInfoC r5.wholeAsk r5.readMfgInfoC r5.writeMfgInfo r5.readMfgInfo r5.readDataflash r5.writeDataflash hex.valueOf hex.byteOf hex.bytesOf hex.digitOf hex.hexOf input.linesFrom input.restFrom
     fields.pairAt fields.quadAt request.configOf request.calledOf request.exactOf request.askedOf request.requestLine retiredKind outcome.acknowledgedLine outcome.errorLine outcome.timeoutLine outcome.outcomeLine

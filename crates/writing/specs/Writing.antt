@@ -12,7 +12,7 @@ use Rattle.protocol.specs.declared.common.Config.{Config}
 use Rattle.protocol.specs.declared.error.Answer.{Answer}
 use Rattle.protocol.specs.declared.error.Answer.the-variants as answer
 use Rattle.engine.specs.Pick.{case_waiting_ended_, case_acknowledged_error_timeout_, case_retry_spent_}
-use Rattle.engine.specs.Budget.{failed, moreOf, nothing, waited}
+use Rattle.engine.specs.Budget.{failed, moreOf, nothing, waited, tallied}
 use Rattle.engine.specs.Bus.{writeOf, phaseAfter, fitsOf}
 use Rattle.engine.specs.Limit.{admitted}
 use Rattle.engine.specs.declared.budget.Budget.{Budget}
@@ -138,11 +138,21 @@ repliedOf o r =
     error (λ code. false)
     timeout false
 
--- an outcome with a reply of r bytes, a payload of n and a work buffer of w: 10, 8, 9, or taken
+-- one transfer more is counted
+unfoldable pub countedOf : WriteCall → WriteCall
+countedOf call = record {
+  task = call .task;
+  phase = call .phase;
+  sent = call .sent;
+  budget = call .budget;
+  tally = tallied (call .tally);
+}
+
+-- an outcome with a reply of r bytes, a payload of n and a work buffer of w: 10, 8, 9, or taken and counted
 unfoldable pub reportOf : WriteCall → Outcome → ℕ → ℕ → ℕ → WriteReported
 reportOf call o r n w =
     case call .phase
     waiting (if fitsOf (call .task .lent) n w then
-    (if repliedOf o r then reported.Refused answer.WrongReply call else reported.Taken (settleOf call o))
+    (if repliedOf o r then reported.Refused answer.WrongReply call else reported.Taken (settleOf (countedOf call) o))
     else reported.Refused answer.WrongBuffer call)
     ended (λ a. reported.Refused answer.NothingOutstanding call)

@@ -14,7 +14,7 @@ use protocol::common::Config;
 use protocol::error::Answer;
 ghost use mathlib.Core.Path.{_≡_};
 ghost use lib.ListN.{length};
-ghost use Rattle.writing.specs.Writing.{planOf, startOf, ownBytes, shownOf, workShown, nextOf, workAfter, partOf, advanceOf, gaveUp, retryOf, endOf, failOf, settleOf, repliedOf, reportOf};
+ghost use Rattle.writing.specs.Writing.{planOf, startOf, ownBytes, shownOf, workShown, nextOf, workAfter, partOf, advanceOf, gaveUp, retryOf, endOf, failOf, settleOf, repliedOf, countedOf, reportOf};
 
 // What a writing call is: its retries, whether its frames carry a PEC, what it asks of the payload's length, and its frames.
 pub struct WritePlan {
@@ -245,7 +245,24 @@ impl WriteCall {
         }
     }
 
-    // An outcome is reported: refused with 10, 8 or 9 and the call as it was, or taken.
+    // The same call with one transfer more.
+    fn counted(self) -> WriteCall
+        ensures { λ r. ⌜ r ≡ countedOf self ⌝ }
+    {
+        let task = self.task;
+        let phase = self.phase;
+        let budget = self.budget;
+        let tally = self.tally;
+        WriteCall {
+            task,
+            phase,
+            sent: self.sent,
+            budget,
+            tally: tally.transfer(),
+        }
+    }
+
+    // An outcome is reported: refused with 10, 8 or 9 and the call as it was, or taken and counted.
     pub fn report(
         self,
         outcome: Outcome,
@@ -265,7 +282,7 @@ impl WriteCall {
                     if WriteCall::replied(outcome, reply.len()) {
                         WriteReported::Refused(Answer::WrongReply, self)
                     } else {
-                        WriteReported::Taken(self.settle(outcome))
+                        WriteReported::Taken(self.counted().settle(outcome))
                     }
                 } else {
                     WriteReported::Refused(Answer::WrongBuffer, self)

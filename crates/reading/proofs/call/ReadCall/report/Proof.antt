@@ -10,6 +10,9 @@ use Rattle.reading.proofs.call.ReadCall.report.Tie as tie
 judge-requires : tie.Need-judge-requires
 judge-requires c κs = search needs
 
+counted-requires : tie.Need-counted-requires
+counted-requires c κs = search needs
+
 enum-known-verdict : tie.Need-enum-known-verdict
 enum-known-verdict c = search needs
 
@@ -40,24 +43,25 @@ returns c = search verdicts
 
 returns-2 : tie.Need-returns-2
 unfolding reportOf bufferAfter
-returns-2 c = search verdicts
+returns-2 c = rw (← c .before .before .before .before .counted .ensures) (search verdicts)
 
 returns-3 : tie.Need-returns-3
 unfolding reportOf bufferAfter
-returns-3 c = search verdicts
+returns-3 c = rw (← c .before .before .before .counted .ensures) (search verdicts)
 
 same-length : tie.Need-same-length
 same-length c = search needs
 
 returns-4 : tie.Need-returns-4
 unfolding reportOf bufferAfter
-returns-4 c = search verdicts
+returns-4 c = rw (← c .before .before .before .before .before .before .before .counted .ensures) (search verdicts)
 
 pub report-spec : {M : Type 1} → statement M
 report-spec =
     tie.close
     (tie.spec
     judge-requires
+    counted-requires
     enum-known-verdict
     enum-known-verdict-2
     fail-requires

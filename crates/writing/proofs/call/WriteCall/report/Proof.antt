@@ -19,6 +19,9 @@ fits-requires c κs = search needs
 replied-requires : tie.Need-replied-requires
 replied-requires c κs = search needs
 
+counted-requires : tie.Need-counted-requires
+counted-requires c κs = search needs
+
 settle-requires : tie.Need-settle-requires
 settle-requires c κs = search needs
 
@@ -32,7 +35,7 @@ returns-2 c = search cases
 
 returns-3 : tie.Need-returns-3
 unfolding reportOf
-returns-3 c = search cases
+returns-3 c = rw (← c .before .counted .ensures) (search cases)
 
 returns-4 : tie.Need-returns-4
 unfolding reportOf
@@ -46,6 +49,7 @@ report-spec =
     enum-told-2
     fits-requires
     replied-requires
+    counted-requires
     settle-requires
     returns
     returns-2

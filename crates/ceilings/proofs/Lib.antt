@@ -1,0 +1,13 @@
+pub mod Numbers
+pub mod Writing
+pub mod Reading
+pub mod Calls
+pub mod Starts
+pub mod Names
+pub mod Each
+pub mod Good
+pub mod ReachedBy
+pub mod ReachedWriting
+pub mod ReachedReading
+pub mod Reached
+pub mod Ceilings

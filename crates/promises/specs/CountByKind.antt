@@ -1,0 +1,24 @@
+-- The count is the original's: the transfers that a call counts are those that the Rust makes and the bus has answered for. (02, W-208)
+-- Assumes nothing.
+use Prim.Native.Nat.{ℕ}
+use mathlib.Core.Path.{_≡_}
+use mathlib.Core.List.{List}
+use lib.ListN.{length}
+use Rattle.protocol.specs.declared.common.Config.{Config}
+use Rattle.protocol.specs.declared.error.Answer.{Answer}
+use Rattle.calls.specs.Call.{startOf, tallyOf}
+use Rattle.calls.specs.declared.kind.Kind.{Kind}
+use Rattle.original.specs.Bus.{BusOutcome, answeredIn, waitsIn}
+use Rattle.original.specs.Fed.{Lending, fedCall}
+use Rattle.original.specs.ByKind.{rustOf, Defined, Added}
+
+-- every kind, for these settings, a work buffer of w bytes at each step, what is lent and these outcomes
+pub record CountByKind (config : Config) (w : ℕ) (lent : ℕ → Lending) (outcomes : List BusOutcome) : Type 0 where
+  -- the call has counted the transfers that the Rust's function lists and has had an outcome for, and its waits
+  pub same : (kind : Kind) (payload buffer : List ℕ) → Defined kind config payload buffer
+      → (tallyOf (fedCall (startOf kind config (length payload) (length buffer) w) payload buffer lent 0 outcomes) .transfers
+      ≡ answeredIn (rustOf kind config payload buffer outcomes))
+      × (tallyOf (fedCall (startOf kind config (length payload) (length buffer) w) payload buffer lent 0 outcomes) .waits ≡ waitsIn (rustOf kind config payload buffer outcomes))
+  -- where the added refusal stands, none
+  pub added : (kind : Kind) (payload buffer : List ℕ) (a : Answer) → Added config payload buffer kind a
+      → tallyOf (fedCall (startOf kind config (length payload) (length buffer) w) payload buffer lent 0 outcomes) .transfers ≡ 0
