@@ -1,4 +1,4 @@
--- Every line of the bench has room in 16,401 bytes, so that it is printed whole.
+-- Every line of the bench has room where the longest has, so that it is printed whole.
 -- Assumes nothing.
 use Prim.Native.Nat.{ℕ, _+_, _*_, _≤_}
 use mathlib.Core.Path.{_≡_, refl, sym, subst}
@@ -31,7 +31,7 @@ use Rattle.requests.specs.Retired.{retiredKind}
 use Rattle.requests.specs.declared.request.Request.{Request}
 use Rattle.requests.specs.declared.request.Request.the-variants as request
 use Rattle.requests.proofs.Small.{Small, small-request}
-use Rattle.printing.specs.Printing.{printedOf, outPrinted, quadOf, writeSaid, readSaid, endSaid, cutSaid}
+use Rattle.printing.specs.Printing.{printedOf, outPrinted, quadOf, writeSaid, readSaid, endSaid, cutSaid, longestSaid}
 use Rattle.dialogue.specs.Dialogue.{bytesSaid, sizeOf, tellOf, zeros, lineShown, lastOf, unfinishedOf, closeOf}
 use Rattle.dialogue.specs.declared.Run.{Run}
 use Rattle.dialogue.specs.declared.Run.the-variants as run
@@ -40,15 +40,15 @@ use Rattle.dialogue.specs.Bench.{callRun, requestThen, requestOf, benchO
 use Rattle.dialogue.proofs.Kept.{length-after}
 use Rattle.dialogue.proofs.EachLine.{All, GoodAfter, each-run}
 
--- at most 8,200 bytes, which are 16,401 with their digits and the line feed
+-- no longer than the longest
 abbrev pub Short : List ℕ → Type 0
-Short s = length s ≤ 8200
+Short s = length s ≤ longestSaid
 
 abbrev pub AllShort : List (List ℕ) → Type 0
 AllShort lines = All Short lines
 
--- a short line is printed whole
-pub printed-whole : (s out : List ℕ) → Short s → 16401 ≤ length out → (printedOf s (length out) ≡ length (feedBytes s)) × (take (length (feedBytes s)) (outPrinted s out) ≡ feedBytes s)
+-- where the longest has room as digits and a line feed, a short line is printed whole
+pub printed-whole : (s out : List ℕ) → Short s → longestSaid * 2 + 1 ≤ length out → (printedOf s (length out) ≡ length (feedBytes s)) × (take (length (feedBytes s)) (outPrinted s out) ≡ feedBytes s)
 unfolding printedOf outPrinted if_then_else_
 printed-whole s out h e =
     let fits : length s * 2 + 1 ≤ length out = omega arith in

@@ -39,3 +39,7 @@ endSaid answer tally buffer = 0xFF ∷ numberOf answer ∷ pairOf (detailOf answ
 -- no outcomes left: FE, the waits and a reading call's buffer
 unfoldable pub cutSaid : Tally → List ℕ → List ℕ
 cutSaid tally buffer = 0xFE ∷ quadOf (tally .waits) ++ buffer
+
+-- the longest of them: an end with the longest buffer
+abbrev pub longestSaid : ℕ
+longestSaid = 8 + 8192

@@ -1,9 +1,10 @@
 -- What the program has before it: a session, and the arrays that are lent to it. (01, The bench program)
 -- Assumes nothing.
-use Prim.Native.Nat.{ℕ}
+use Prim.Native.Nat.{ℕ, _+_, _*_}
 use mathlib.Core.Path.{_≡_}
 use mathlib.Core.List.{List}
 use lib.ListN.{length}
+use Rattle.printing.specs.Printing.{longestSaid}
 use Rattle.session.specs.declared.Session.{Session}
 
 -- a session and the bytes that are lent to it
@@ -22,9 +23,9 @@ desk s held request outcome buffer out = record { session = s; held = held; requ
 abbrev pub heldBytes : ℕ
 heldBytes = 16404
 
--- the longest line that is printed, an end of 8,200 bytes with its line feed
+-- the longest line that is printed, as digits, and its line feed
 abbrev pub longestLine : ℕ
-longestLine = 16401
+longestLine = longestSaid * 2 + 1
 
 -- where lines are gathered
 abbrev pub outBytes : ℕ
