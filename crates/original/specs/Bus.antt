@@ -6,12 +6,20 @@ use lib.ListN.{length, take, replicate}
 use Rattle.protocol.specs.declared.error.Answer.{Answer}
 use Rattle.protocol.specs.declared.error.Answer.the-variants as answer
 pub use Rattle.engine.specs.Made.{Made, write, read}
+use Rattle.engine.specs.declared.bus.Outcome.{Outcome}
+use Rattle.engine.specs.declared.bus.Outcome.the-variants as outcome
 
 -- what the bus does with one transfer: acknowledges it, with the bytes that a read brings; a bus error with its code; no answer in time
 pub data BusOutcome : Type 0 where
   Acknowledged : List ℕ → BusOutcome
   BusError : ℕ → BusOutcome
   Timeout : BusOutcome
+
+-- an outcome in the machine's words
+unfoldable pub told : BusOutcome → Outcome
+told (Acknowledged bytes) = outcome.Acknowledged
+told (BusError code) = outcome.BusError code
+told Timeout = outcome.Timeout
 
 -- how many bytes a transfer brings
 unfoldable pub brings : Made → ℕ

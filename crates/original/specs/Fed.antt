@@ -8,8 +8,6 @@ use lib.Dec.{eqb}
 use Rattle.protocol.specs.Pick.{if_then_else_}
 use Rattle.protocol.specs.Answer.{numberOf}
 use Rattle.protocol.specs.declared.error.Answer.{Answer}
-use Rattle.engine.specs.declared.bus.Outcome.{Outcome}
-use Rattle.engine.specs.declared.bus.Outcome.the-variants as outcome
 use Rattle.engine.specs.declared.bus.Transfer.{Transfer}
 use Rattle.engine.specs.declared.bus.Transfer.the-variants as transfer
 use Rattle.calls.specs.Call.{nextOf, workAfter, partOf, reportOf, bufferAfter, tallyOf}
@@ -26,13 +24,8 @@ use Rattle.reading.specs.declared.call.ReadPlan.{ReadPlan}
 use Rattle.reading.specs.declared.call.ReadCall.{ReadCall}
 use Rattle.reading.specs.declared.call.ReadReported.{ReadReported}
 use Rattle.reading.specs.declared.call.ReadReported.the-variants as reported
+unfoldable pub use Rattle.original.specs.Bus.{told}
 use Rattle.original.specs.Bus.{BusOutcome, Acknowledged, BusError, Timeout, delivered, Made, write, read, brings, Log, Came, Ok, Err, Waiting, Read, _leaving_}
-
--- an outcome in the machine's words
-unfoldable pub told : BusOutcome → Outcome
-told (Acknowledged bytes) = outcome.Acknowledged
-told (BusError code) = outcome.BusError code
-told Timeout = outcome.Timeout
 
 -- what a host lends at one step: a work buffer, and the bytes that lie in the reply beside a failure, which are not looked at
 pub record Lending : Type 0 where
