@@ -6,6 +6,7 @@ use mathlib.Core.List.{List, [], _∷_}
 use native.Mathlib.Omega.{arith}
 use native.Mathlib.Nat.{mul-zero, mul-suc}
 use Rattle.engine.specs.Budget.{moreOf}
+use Rattle.engine.specs.declared.budget.Tally.{Tally}
 use Rattle.engine.specs.declared.bus.Outcome.{Outcome}
 use Rattle.calls.specs.Call.{reportOf, tallyOf}
 use Rattle.calls.specs.declared.call.Call.{Call}
@@ -31,9 +32,10 @@ one-more c next o reply p n w m v taken r = record {
 pub same-reach : (c : Call) (m m′ v v′ : ℕ) → m ≡ m′ → v ≡ v′ → Reached m v c → Reached m′ v′ c
 same-reach c m m′ v v′ e f r = record { reports = r .reports; takes = r .takes ∙ e; waits-all = r .waits-all ∙ f }
 
--- a budget is spent retry by retry, each at the same cost: `at` is the call with so many retries left, so many waits and so many transfers made
-pub spends : (at : (left v t : ℕ) → Call) (cost : ℕ) → ((left v t m u : ℕ) → ((t′ : ℕ) → Reached m u (at left (moreOf v) t′)) → Reached (cost + m) u (at (suc left) v t))
-    → (left v t m u : ℕ) → v + left ≤ 4294967295 → ((t′ : ℕ) → Reached m u (at 0 (v + left) t′)) → Reached (cost * left + m) u (at left v t)
+-- a budget is spent retry by retry, each at the same cost: `at` is the call with so many retries left, so many waits made and whatever else it counts
+pub spends : (at : (left v : ℕ) → Tally → Call) (cost : ℕ)
+    → ((left v : ℕ) (t : Tally) (m u : ℕ) → ((t′ : Tally) → Reached m u (at left (moreOf v) t′)) → Reached (cost + m) u (at (suc left) v t))
+    → (left v : ℕ) (t : Tally) (m u : ℕ) → v + left ≤ 4294967295 → ((t′ : Tally) → Reached m u (at 0 (v + left) t′)) → Reached (cost * left + m) u (at left v t)
 spends at cost retry zero v t m u room rest =
     let all : v + 0 ≡ v = omega arith in
     same-reach (at 0 v t) m (cost * 0 + m) u u (omega (arith, mul-zero cost)) refl (subst (λ (x : ℕ). Reached m u (at 0 x t)) all (rest t))

@@ -19,6 +19,7 @@ use Rattle.protocol.proofs.Shared as shared
 use Rattle.engine.specs.Pick.{case_waiting_ended_, case_acknowledged_error_timeout_, case_retry_spent_}
 use Rattle.engine.specs.Budget.{moreOf, nothing, waited, tallied}
 use Rattle.engine.specs.Bus.{phaseAfter, fitsOf}
+use Rattle.engine.specs.declared.budget.Tally.{Tally}
 use Rattle.engine.specs.declared.bus.Outcome.the-variants as outcome
 use Rattle.engine.specs.declared.bus.Phase.the-variants as phase
 use Rattle.engine.proofs.Laws.{laws}
@@ -70,52 +71,56 @@ believed ask = by (ask .pec) refl
 -- ---- a call at a step, and what reports make of it
 
 module _ (its : ReadPlan) (p n w : ℕ) where
-  -- the call that waits for its head or for read i, with so many retries left, so many waits and transfers made
-  abbrev at : (heading : Bool) (i left waits transfers : ℕ) → ReadCall
-  at heading i left waits transfers = record {
+  -- the call that waits for its head or for read i, with so many retries left, so many waits made and whatever else it counts
+  abbrev at : (heading : Bool) (i left waits : ℕ) → Tally → ReadCall
+  at heading i left waits t = record {
     task = record { plan = its; lent = record { length = n; work = w } };
     phase = phase.Waiting;
     heading = heading;
     received = i;
     budget = record { left = left };
-    tally = record { waits = waits; transfers = transfers };
+    tally = record { waits = waits; transfers = t .transfers };
   }
 
+  -- what else it counts after a failed attempt that is retried
+  abbrev missed : Tally → Tally
+  missed t = waited (tallied t)
+
   -- a timeout with a retry left
-  retried : (h : Bool) (i left v t : ℕ) → reportOf (call.Read (at h i (suc left) v t)) outcome.Timeout [] p n w ≡ reported.Taken (call.Read (at (hasHead (its .head)) i left (moreOf v) (moreOf t)))
+  retried : (h : Bool) (i left v : ℕ) (t : Tally) → reportOf (call.Read (at h i (suc left) v t)) outcome.Timeout [] p n w ≡ reported.Taken (call.Read (at (hasHead (its .head)) i left (moreOf v) (missed t)))
   unfolding reportOf gotOf reading.reportOf reading.judgeOf reading.weighOf reading.failOf reading.countedOf reading.retryOf
       case_waiting_ended_ case_acknowledged_error_timeout_ case_retry_spent_ case_refused_fault_headed_block_ waited tallied fitsOf if_then_else_
   retried h i left v t = rw (eq-eqb n n refl, eq-eqb w w refl, laws .retries left)
 
   -- and with none
-  gives-up : (h : Bool) (i v t : ℕ) → reportOf (call.Read (at h i 0 v t)) outcome.Timeout [] p n w ≡ reported.Taken (call.Read (reading.endOf (at h i 0 v (moreOf t)) answer.Timeout))
+  gives-up : (h : Bool) (i v : ℕ) (t : Tally) → reportOf (call.Read (at h i 0 v t)) outcome.Timeout [] p n w ≡ reported.Taken (call.Read (reading.endOf (at h i 0 v (tallied t)) answer.Timeout))
   unfolding reportOf gotOf reading.reportOf reading.judgeOf reading.weighOf reading.failOf reading.countedOf
       case_waiting_ended_ case_acknowledged_error_timeout_ case_retry_spent_ case_refused_fault_headed_block_ tallied fitsOf if_then_else_
   gives-up h i v t = rw (eq-eqb n n refl, eq-eqb w w refl, laws .spent)
 
   -- a head that goes through, before a read
-  opened : (i left v t : ℕ) → i < readCount (its .reads) n → reportOf (call.Read (at true i left v t)) outcome.Acknowledged [] p n w ≡ reported.Taken (call.Read (at false i left v (moreOf t)))
+  opened : (i left v : ℕ) (t : Tally) → i < readCount (its .reads) n → reportOf (call.Read (at true i left v t)) outcome.Acknowledged [] p n w ≡ reported.Taken (call.Read (at false i left v (tallied t)))
   unfolding reportOf gotOf reading.reportOf reading.judgeOf reading.weighOf reading.acknowledgedOf reading.heardHead reading.countedOf reading.headedOf
       case_waiting_ended_ case_acknowledged_error_timeout_ case_refused_fault_headed_block_ phaseAfter tallied fitsOf if_then_else_
   opened i left v t more = rw (eq-eqb n n refl, eq-eqb w w refl, lt-leb (readCount (its .reads) n) i more)
 
   -- a reply that is believed, before another
-  advanced : (i left v t : ℕ) (reply : List ℕ) → heardOf (askOf (its .reads) n i) reply ≡ heard.Good → moreOf i < readCount (its .reads) n
-      → reportOf (call.Read (at false i left v t)) outcome.Acknowledged reply p n w ≡ reported.Taken (call.Read (at false (moreOf i) left v (moreOf t)))
+  advanced : (i left v : ℕ) (t : Tally) (reply : List ℕ) → heardOf (askOf (its .reads) n i) reply ≡ heard.Good → moreOf i < readCount (its .reads) n
+      → reportOf (call.Read (at false i left v t)) outcome.Acknowledged reply p n w ≡ reported.Taken (call.Read (at false (moreOf i) left v (tallied t)))
   unfolding reportOf gotOf reading.reportOf reading.judgeOf reading.weighOf reading.acknowledgedOf reading.heardBlock reading.verdictOf reading.dueAsk reading.countedOf reading.advanceOf
       case_waiting_ended_ case_acknowledged_error_timeout_ case_refused_fault_headed_block_ phaseAfter tallied fitsOf if_then_else_
   advanced i left v t reply good more = rw (eq-eqb n n refl, eq-eqb w w refl, good, lt-leb (readCount (its .reads) n) (moreOf i) more)
 
   -- the failure that ends the call is one transfer
-  last : (h : Bool) (i v t : ℕ) → Reached 1 v (call.Read (at h i 0 v t))
+  last : (h : Bool) (i v : ℕ) (t : Tally) → Reached 1 v (call.Read (at h i 0 v t))
   unfolding tallyOf reading.endOf
   last h i v t = one-more _ _ outcome.Timeout [] p n w 0 v (gives-up h i v t) (no-more _)
 
   -- a plain read, or a head that no read follows: a retry is one transfer
-  alone : (left v t : ℕ) → v + left ≤ 4294967295 → Reached (1 * left + 1) (v + left) (call.Read (at (hasHead (its .head)) 0 left v t))
+  alone : (left v : ℕ) (t : Tally) → v + left ≤ 4294967295 → Reached (1 * left + 1) (v + left) (call.Read (at (hasHead (its .head)) 0 left v t))
   alone left v t room =
-      spends (λ (l x y : ℕ). call.Read (at (hasHead (its .head)) 0 l x y)) 1
-      (λ l x y m u rest. one-more _ _ outcome.Timeout [] p n w m u (retried (hasHead (its .head)) 0 l x y) (rest (moreOf y)))
+      spends (λ (l x : ℕ) (y : Tally). call.Read (at (hasHead (its .head)) 0 l x y)) 1
+      (λ l x y m u rest. one-more _ _ outcome.Timeout [] p n w m u (retried (hasHead (its .head)) 0 l x y) (rest (missed y)))
       left v t 1 (v + left) room (last (hasHead (its .head)) 0 (v + left))
 
   -- so they reach their ceiling
@@ -124,28 +129,28 @@ module _ (its : ReadPlan) (p n w : ℕ) where
   reach-alone room e =
       let times : 1 * its .retries + 1 ≡ its .retries + 1 = omega arith in
       let waits : 0 + its .retries ≡ its .retries = omega arith in
-      rw e (same-reach _ _ _ _ _ times waits (alone (its .retries) 0 0 (omega (arith, room))))
+      rw e (same-reach _ _ _ _ _ times waits (alone (its .retries) 0 nothing (omega (arith, room))))
 
   module _ (first : hasHead (its .head) ≡ true) where
     -- behind a head it is two: the head goes out again
-    again : (i : ℕ) → i < readCount (its .reads) n → (left v t m u : ℕ) → ((t′ : ℕ) → Reached m u (call.Read (at false i left (moreOf v) t′)))
+    again : (i : ℕ) → i < readCount (its .reads) n → (left v : ℕ) (t : Tally) (m u : ℕ) → ((t′ : Tally) → Reached m u (call.Read (at false i left (moreOf v) t′)))
         → Reached (2 + m) u (call.Read (at false i (suc left) v t))
     again i more left v t m u rest =
         same-reach _ (1 + (1 + m)) (2 + m) u u (omega arith) refl
         (one-more _ _ outcome.Timeout [] p n w (1 + m) u (retried false i left v t)
-        (rw first (one-more _ _ outcome.Acknowledged [] p n w m u (opened i left (moreOf v) (moreOf t) more) (rest (moreOf (moreOf t))))))
+        (rw first (one-more _ _ outcome.Acknowledged [] p n w m u (opened i left (moreOf v) (missed t) more) (rest (tallied (missed t))))))
 
     -- read i and so many later ones
-    reads : (later i left v t : ℕ) → readCount (its .reads) n ≡ i + suc later → i + suc later ≤ 4294967295 → v + left ≤ 4294967295
+    reads : (later i left v : ℕ) (t : Tally) → readCount (its .reads) n ≡ i + suc later → i + suc later ≤ 4294967295 → v + left ≤ 4294967295
         → Reached (later + (2 * left + 1)) (v + left) (call.Read (at false i left v t))
     reads zero i left v t whole few room =
-        same-reach _ (2 * left + 1) _ _ _ (omega arith) refl (spends (λ (l x y : ℕ). call.Read (at false i l x y)) 2 (again i (omega (arith, whole))) left v t 1 (v + left) room (last false i (v + left)))
+        same-reach _ (2 * left + 1) _ _ _ (omega arith) refl (spends (λ (l x : ℕ) (y : Tally). call.Read (at false i l x y)) 2 (again i (omega (arith, whole))) left v t 1 (v + left) room (last false i (v + left)))
     reads (suc later) i left v t whole few room =
         let next : moreOf i ≡ i + 1 = omega (arith, few) in
         let reply = believed (askOf (its .reads) n i) in
         same-reach _ (1 + (later + (2 * left + 1))) _ _ _ (omega arith) refl
         (one-more _ _ outcome.Acknowledged (reply .0) p n w (later + (2 * left + 1)) (v + left) (advanced i left v t (reply .0) (reply .1) (omega (arith, whole, next)))
-        (reads later (moreOf i) left v (moreOf t) (omega (arith, whole, next)) (omega (arith, few, next)) room))
+        (reads later (moreOf i) left v (tallied t) (omega (arith, whole, next)) (omega (arith, few, next)) room))
 
     -- so a head and b reads reach theirs
     pub reach-head : (b : ℕ) → readCount (its .reads) n ≡ b → 0 < b → b + 1 + 2 * its .retries ≤ 4294967295 → phaseOf (startWith (plan.Read its) p n w) ≡ phase.Waiting
@@ -156,4 +161,4 @@ module _ (its : ReadPlan) (p n w : ℕ) where
         let times : 1 + (later + (2 * its .retries + 1)) ≡ suc later + 1 + 2 * its .retries = omega arith in
         let waits : 0 + its .retries ≡ its .retries = omega arith in
         rw (e, first) (same-reach _ _ _ _ _ times waits
-        (one-more _ _ outcome.Acknowledged [] p n w _ _ (opened 0 (its .retries) 0 0 (omega (arith, whole))) (reads later 0 (its .retries) 0 _ (omega (arith, whole)) (omega (arith, room)) (omega (arith, room)))))
+        (one-more _ _ outcome.Acknowledged [] p n w _ _ (opened 0 (its .retries) 0 nothing (omega (arith, whole))) (reads later 0 (its .retries) 0 (tallied nothing) (omega (arith, whole)) (omega (arith, room)) (omega (arith, room)))))

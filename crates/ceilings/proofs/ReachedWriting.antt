@@ -13,6 +13,7 @@ use Rattle.engine.specs.Pick.{case_waiting_ended_, case_acknowledged_error_time
 use Rattle.engine.specs.Budget.{moreOf, nothing, waited, tallied}
 use Rattle.engine.specs.Bus.{phaseAfter, fitsOf}
 use Rattle.engine.proofs.Laws.{laws}
+use Rattle.engine.specs.declared.budget.Tally.{Tally}
 use Rattle.engine.specs.declared.bus.Outcome.the-variants as outcome
 use Rattle.engine.specs.declared.bus.Phase.the-variants as phase
 use Rattle.writing.specs.Frames.{frameCount}
@@ -27,47 +28,51 @@ use Rattle.ceilings.specs.Ceilings.{Reached}
 use Rattle.ceilings.proofs.ReachedBy.{no-more, one-more, same-reach, spends}
 
 module _ (its : WritePlan) (p n w : ℕ) where
-  -- the call that waits for frame i, with so many retries left, so many waits and transfers made
-  abbrev at : (i left waits transfers : ℕ) → WriteCall
-  at i left waits transfers = record {
+  -- the call that waits for frame i, with so many retries left, so many waits made and whatever else it counts
+  abbrev at : (i left waits : ℕ) → Tally → WriteCall
+  at i left waits t = record {
     task = record { plan = its; lent = record { length = p; work = w } };
     phase = phase.Waiting;
     sent = i;
     budget = record { left = left };
-    tally = record { waits = waits; transfers = transfers };
+    tally = record { waits = waits; transfers = t .transfers };
   }
 
+  -- what else it counts after a failed attempt that is retried
+  abbrev missed : Tally → Tally
+  missed t = waited (tallied t)
+
   -- a timeout with a retry left
-  retried : (i left v t : ℕ) → reportOf (call.Write (at i (suc left) v t)) outcome.Timeout [] p n w ≡ reported.Taken (call.Write (at i left (moreOf v) (moreOf t)))
+  retried : (i left v : ℕ) (t : Tally) → reportOf (call.Write (at i (suc left) v t)) outcome.Timeout [] p n w ≡ reported.Taken (call.Write (at i left (moreOf v) (missed t)))
   unfolding reportOf wroteOf writing.reportOf writing.repliedOf writing.settleOf writing.failOf writing.countedOf writing.retryOf
       case_waiting_ended_ case_acknowledged_error_timeout_ case_retry_spent_ waited tallied fitsOf if_then_else_
   retried i left v t = rw (eq-eqb p p refl, eq-eqb w w refl, laws .retries left)
 
   -- and with none
-  gives-up : (i v t : ℕ) → reportOf (call.Write (at i 0 v t)) outcome.Timeout [] p n w ≡ reported.Taken (call.Write (writing.endOf (at i 0 v (moreOf t)) answer.Timeout))
+  gives-up : (i v : ℕ) (t : Tally) → reportOf (call.Write (at i 0 v t)) outcome.Timeout [] p n w ≡ reported.Taken (call.Write (writing.endOf (at i 0 v (tallied t)) answer.Timeout))
   unfolding reportOf wroteOf writing.reportOf writing.repliedOf writing.settleOf writing.failOf writing.countedOf
       case_waiting_ended_ case_acknowledged_error_timeout_ case_retry_spent_ tallied fitsOf if_then_else_
   gives-up i v t = rw (eq-eqb p p refl, eq-eqb w w refl, laws .spent)
 
   -- a frame that goes through, before others
-  advanced : (i left v t : ℕ) → moreOf i < frameCount (its .frames) p
-      → reportOf (call.Write (at i left v t)) outcome.Acknowledged [] p n w ≡ reported.Taken (call.Write (at (moreOf i) (its .retries) v (moreOf t)))
+  advanced : (i left v : ℕ) (t : Tally) → moreOf i < frameCount (its .frames) p
+      → reportOf (call.Write (at i left v t)) outcome.Acknowledged [] p n w ≡ reported.Taken (call.Write (at (moreOf i) (its .retries) v (tallied t)))
   unfolding reportOf wroteOf writing.reportOf writing.repliedOf writing.settleOf writing.countedOf writing.advanceOf
       case_waiting_ended_ case_acknowledged_error_timeout_ phaseAfter tallied fitsOf if_then_else_
   advanced i left v t more = rw (eq-eqb p p refl, eq-eqb w w refl, lt-leb (frameCount (its .frames) p) (moreOf i) more)
 
   -- frame i fails until its budget is spent: a retry is one transfer
-  fails : (i v t m u : ℕ) → v + its .retries ≤ 4294967295 → ((t′ : ℕ) → Reached m u (call.Write (at i 0 (v + its .retries) t′)))
+  fails : (i v : ℕ) (t : Tally) (m u : ℕ) → v + its .retries ≤ 4294967295 → ((t′ : Tally) → Reached m u (call.Write (at i 0 (v + its .retries) t′)))
       → Reached (1 * its .retries + m) u (call.Write (at i (its .retries) v t))
-  fails i v t = spends (λ (l x y : ℕ). call.Write (at i l x y)) 1 (λ l x y m u rest. one-more _ _ outcome.Timeout [] p n w m u (retried i l x y) (rest (moreOf y))) (its .retries) v t
+  fails i v t = spends (λ (l x : ℕ) (y : Tally). call.Write (at i l x y)) 1 (λ l x y m u rest. one-more _ _ outcome.Timeout [] p n w m u (retried i l x y) (rest (missed y))) (its .retries) v t
 
   -- the failure that ends the call is one transfer
-  last : (i v t : ℕ) → Reached 1 v (call.Write (at i 0 v t))
+  last : (i v : ℕ) (t : Tally) → Reached 1 v (call.Write (at i 0 v t))
   unfolding tallyOf writing.endOf
   last i v t = one-more _ _ outcome.Timeout [] p n w 0 v (gives-up i v t) (no-more _)
 
   -- frame i and so many later ones, each with a budget of its own
-  frames : (later i v t : ℕ) → frameCount (its .frames) p ≡ i + suc later → i + suc later ≤ 4294967295 → v + suc later * its .retries ≤ 4294967295
+  frames : (later i v : ℕ) (t : Tally) → frameCount (its .frames) p ≡ i + suc later → i + suc later ≤ 4294967295 → v + suc later * its .retries ≤ 4294967295
       → Reached (suc later * (its .retries + 1)) (v + suc later * its .retries) (call.Write (at i (its .retries) v t))
   frames zero i v t whole few room =
       same-reach _ (1 * its .retries + 1) _ (v + its .retries) _ (omega arith) (omega arith)
@@ -79,7 +84,7 @@ module _ (its : WritePlan) (p n w : ℕ) where
       same-reach _ (1 * its .retries + (1 + suc later * (its .retries + 1))) _ (v + its .retries + suc later * its .retries) _ (omega (arith, times)) (omega (arith, waits))
       (fails i v t (1 + suc later * (its .retries + 1)) (v + its .retries + suc later * its .retries) (omega (arith, room, waits)) (λ t′.
       one-more _ _ outcome.Acknowledged [] p n w (suc later * (its .retries + 1)) (v + its .retries + suc later * its .retries) (advanced i 0 (v + its .retries) t′ (omega (arith, whole, next)))
-      (frames later (moreOf i) (v + its .retries) (moreOf t′) (omega (arith, whole, next)) (omega (arith, few, next)) (omega (arith, room, waits)))))
+      (frames later (moreOf i) (v + its .retries) (tallied t′) (omega (arith, whole, next)) (omega (arith, few, next)) (omega (arith, room, waits)))))
 
   -- so a call of f frames reaches its ceiling
   pub reach-frames : (f : ℕ) → frameCount (its .frames) p ≡ f → 0 < f → f * (its .retries + 1) ≤ 4294967295 → phaseOf (startWith (plan.Write its) p n w) ≡ phase.Waiting
@@ -89,4 +94,4 @@ module _ (its : WritePlan) (p n w : ℕ) where
   reach-frames (suc later) whole some room e =
       let each : suc later * (its .retries + 1) ≡ suc later * its .retries + suc later = rw add-one (mul-suc (suc later) (its .retries)) in
       let none : 0 + suc later * its .retries ≡ suc later * its .retries = omega arith in
-      rw e (same-reach _ _ _ _ _ refl none (frames later 0 0 0 (omega (arith, whole)) (omega (arith, room, each)) (omega (arith, room, each))))
+      rw e (same-reach _ _ _ _ _ refl none (frames later 0 0 nothing (omega (arith, whole)) (omega (arith, room, each)) (omega (arith, room, each))))
