@@ -1,7 +1,9 @@
 #!/usr/bin/env python3
 """The calls a second time, from document 01 alone and as plain loops: what `drive` must print. tests/run holds it against crates/drive/stdout.
 
-A call is a generator: it yields a transfer, (frame,) or (command, count), takes an outcome, and returns its answer with the detail."""
+A call is a generator: it yields a transfer, (frame,) or (command, count), takes an outcome, and returns its answer with the detail. tests/bench runs some of them
+with waits that grow (document 02, W-203)."""
+from itertools import chain, repeat
 
 
 def pec(data):
@@ -13,24 +15,30 @@ def pec(data):
     return crc
 
 
+def lengths(growing):
+    """The milliseconds of a budget's waits, one after the other."""
+    return chain([10, 20, 40], repeat(80)) if growing else repeat(10)
+
+
 class Budget:
     """A number of retries; each is a wait that the call counts."""
 
     def __init__(self, call):
-        self.call, self.left = call, call.retries
+        self.call, self.left, self.lengths = call, call.retries, lengths(call.growing)
 
     def fails(self):
         if self.left == 0:
             return True
         self.left -= 1
         self.call.waits += 1
+        self.call.waited_ms += next(self.lengths)
         return False
 
 
 class Call:
-    def __init__(self, retries, pec_write, pec_read, buffer=0):
-        self.retries, self.pec_write, self.pec_read = retries, pec_write, pec_read
-        self.waits, self.buffer = 0, [0xA5] * buffer
+    def __init__(self, retries, pec_write, pec_read, buffer=0, growing=False):
+        self.retries, self.pec_write, self.pec_read, self.growing = retries, pec_write, pec_read, growing
+        self.waits, self.waited_ms, self.buffer = 0, 0, [0xA5] * buffer
 
     def send(self, frame):
         """One frame, with a budget of its own."""

@@ -25,6 +25,7 @@ pub struct Report {
     /// None where the outcomes ran out.
     pub answer: Option<Answer>,
     pub waits: u32,
+    pub waited_ms: u32,
     pub transfers: u32,
     pub panic: Option<Panic>,
 }
@@ -35,15 +36,16 @@ pub fn run(host: &mut impl Host) -> Report {
         Ok(request) => request,
         Err(number) => {
             let answer = Answer::plain(number);
-            host.printed(&last_line(Some(answer), 0, None));
-            return Report { answer: Some(answer), waits: 0, transfers: 0, panic: None };
+            host.printed(&last_line(Some(answer), 0, 0, None));
+            return Report { answer: Some(answer), waits: 0, waited_ms: 0, transfers: 0, panic: None };
         }
     };
     let mut desk = Desk { host, refused: None };
     let run = call::run(&request, &mut desk);
     let answer = run.answer.or(desk.refused.map(Answer::plain));
-    host.printed(&last_line(answer, run.waits, run.buffer.as_deref()));
-    Report { answer, waits: run.waits, transfers: run.transfers, panic: run.panic }
+    host.printed(&last_line(answer, run.waits, run.waited_ms, run.buffer.as_deref()));
+    let call::Run { waits, waited_ms, transfers, panic, .. } = run;
+    Report { answer, waits, waited_ms, transfers, panic }
 }
 
 /// The request that a line says, or the refusal's number. A retired kind comes before anything else on the line.
@@ -94,8 +96,8 @@ fn transfer_line(transfer: &Transfer<'_>) -> Vec<u8> {
     }
 }
 
-/// FF, answer and detail, or FE; then the waits and a reading call's buffer.
-fn last_line(answer: Option<Answer>, waits: u32, buffer: Option<&[u8]>) -> Vec<u8> {
+/// FF, answer and detail, or FE; then the waits, their milliseconds and a reading call's buffer.
+fn last_line(answer: Option<Answer>, waits: u32, waited_ms: u32, buffer: Option<&[u8]>) -> Vec<u8> {
     let mut line = match answer {
         Some(Answer { number, detail }) => {
             let [low, high] = detail.to_le_bytes();
@@ -104,6 +106,7 @@ fn last_line(answer: Option<Answer>, waits: u32, buffer: Option<&[u8]>) -> Vec<u
         None => vec![0xFE],
     };
     line.extend(waits.to_le_bytes());
+    line.extend(waited_ms.to_le_bytes());
     line.extend(buffer.unwrap_or_default());
     line
 }

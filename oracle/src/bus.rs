@@ -1,6 +1,6 @@
 //! The bus that the Rust talks to: every transfer goes to a partner, who says its outcome.
 
-use std::cell::Cell;
+use std::cell::{Cell, RefCell};
 use std::future::pending;
 
 use embedded_hal_async::delay::DelayNs;
@@ -49,11 +49,14 @@ pub struct BusError(pub u8);
 
 impl Error for BusError {}
 
-/// What is counted while a call runs.
+/// What is noted while a call runs.
 #[derive(Debug, Default)]
 pub struct Tally {
     pub transfers: Cell<u32>,
-    pub waits: Cell<u32>,
+    /// The writes among them that were acknowledged.
+    pub heard_writes: Cell<u32>,
+    /// Each wait, as the number of acknowledged writes before it.
+    pub waits: RefCell<Vec<u32>>,
 }
 
 /// A bus with a partner.
@@ -84,7 +87,9 @@ impl<P> ErrorType for Bus<'_, P> {
 
 impl<P: Partner> I2c for Bus<'_, P> {
     async fn write(&mut self, address: u8, write: &[u8]) -> Result<(), BusError> {
-        self.exchange(address, Transfer::Write(write)).await.map(|_| ())
+        self.exchange(address, Transfer::Write(write)).await?;
+        self.tally.heard_writes.set(self.tally.heard_writes.get() + 1);
+        Ok(())
     }
 
     async fn write_read(&mut self, address: u8, write: &[u8], read: &mut [u8]) -> Result<(), BusError> {
@@ -97,7 +102,7 @@ impl<P: Partner> I2c for Bus<'_, P> {
     }
 }
 
-/// A delay that only counts.
+/// A delay that is only noted.
 pub struct Waits<'a> {
     pub tally: &'a Tally,
 }
@@ -105,6 +110,6 @@ pub struct Waits<'a> {
 impl DelayNs for Waits<'_> {
     async fn delay_ms(&mut self, ms: u32) {
         assert_eq!(ms, WAIT_MS, "a wait of another length");
-        self.tally.waits.set(self.tally.waits.get() + 1);
+        self.tally.waits.borrow_mut().push(self.tally.heard_writes.get());
     }
 }

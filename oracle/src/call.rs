@@ -1,6 +1,7 @@
 //! One call of the Rust, from its start until it ends or waits for good.
 
 use std::future::Future;
+use std::iter::repeat;
 use std::panic::{AssertUnwindSafe, catch_unwind};
 use std::pin::pin;
 use std::task::{Context, Poll, Waker};
@@ -26,6 +27,8 @@ pub struct Run {
     /// None where the call still waits.
     pub answer: Option<Answer>,
     pub waits: u32,
+    /// How long they were in all, in milliseconds.
+    pub waited_ms: u32,
     pub transfers: u32,
     /// The buffer of a reading call, as it stands.
     pub buffer: Option<Vec<u8>>,
@@ -49,7 +52,31 @@ pub fn run(request: &Request, partner: &mut impl Partner) -> Run {
         let polled = caught(|| poll_once(call(&mut gauge, request, lent)));
         ending(request, polled, &tally)
     };
-    Run { answer, waits: tally.waits.get(), transfers: tally.transfers.get(), buffer, panic }
+    let waits = tally.waits.into_inner();
+    Run {
+        answer,
+        waits: counted(waits.len()),
+        waited_ms: waited_ms(request, &waits),
+        transfers: tally.transfers.get(),
+        buffer,
+        panic,
+    }
+}
+
+/// The milliseconds of a call's waits, each of which is told by the number of acknowledged writes before it. The Rust's are all of one
+/// length. Where waits grow, which the Rust knows nothing of, the first of a budget is 10, then come 20 and 40, and every later one is
+/// 80 (document 02, W-203). A reading call has one budget; in a writing call an acknowledged write is the end of a frame's.
+fn waited_ms(request: &Request, waits: &[u32]) -> u32 {
+    if !request.growing_waits {
+        return WAIT_MS * counted(waits.len());
+    }
+    let reading = request.buffer_length().is_some();
+    let budgets = waits.chunk_by(|before, after| reading || before == after);
+    budgets.flat_map(|budget| [10, 20, 40].into_iter().chain(repeat(80)).take(budget.len())).sum()
+}
+
+fn counted(waits: usize) -> u32 {
+    u32::try_from(waits).expect("each block has 65,535 waits at most")
 }
 
 /// A key of another length: the Rust takes arrays, so no call of it could be written.

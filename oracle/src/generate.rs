@@ -8,7 +8,7 @@ mod sample;
 mod step;
 
 pub use boundaries::boundaries;
-pub use exhaustive::exhaustive;
+pub use exhaustive::{DEPTH, exhaustive};
 pub use random::random;
 pub use sample::sample;
 
@@ -28,6 +28,7 @@ fn request(kind: Kind, number: u32, length: usize, rng: &mut Rng) -> Request {
         kind,
         pec_write: false,
         pec_read: false,
+        growing_waits: false,
         retries: 0,
         number,
         length: if layout.length { u16::try_from(length).expect("a length has two bytes") } else { 0 },
@@ -37,7 +38,13 @@ fn request(kind: Kind, number: u32, length: usize, rng: &mut Rng) -> Request {
 
 /// The same call with another setting.
 fn with_setting(request: &Request, flags: u8, retries: u16) -> Request {
-    Request { pec_write: flags & 1 != 0, pec_read: flags & 2 != 0, retries, ..request.clone() }
+    Request {
+        pec_write: flags & 1 != 0,
+        pec_read: flags & 2 != 0,
+        growing_waits: flags & 8 != 0,
+        retries,
+        ..request.clone()
+    }
 }
 
 /// Call and setting in a case's title.

@@ -92,7 +92,7 @@ fn run() -> io::Result<ExitCode> {
 
 /// Writes a generator's list to standard output, and its number of cases to standard error.
 fn generate(name: &str, options: &[&str]) -> io::Result<ExitCode> {
-    let (mut depth, mut seed, mut cases) = (9, 1, 1000);
+    let (mut depth, mut seed, mut cases) = (generate::DEPTH, 1, 1000);
     for option in options.chunks(2) {
         match option {
             ["--depth", number] => depth = whole(number)? as usize,

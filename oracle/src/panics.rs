@@ -109,6 +109,7 @@ fn zeros(kind: Kind, flags: u8, length: u16, payload: usize) -> Request {
         kind,
         pec_write: flags & 1 != 0,
         pec_read: flags & 2 != 0,
+        growing_waits: false,
         retries: 0,
         number: if kind.layout().number == 2 { 0x4000 } else { 0 },
         length,

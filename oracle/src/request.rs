@@ -6,6 +6,9 @@ pub const LARGEST: usize = 8192;
 /// The bytes of a charging voltage override.
 const OVERRIDE_LENGTH: usize = 10;
 
+/// Flags that mean nothing: a line that sets one is bad.
+const UNKNOWN_FLAGS: u8 = 0b1111_0100;
+
 /// The first two characters of a request line whose kind is retired: the unchecked register calls had these numbers,
 /// and no other call is given them.
 pub const RETIRED: [&str; 2] = ["0C", "0D"];
@@ -121,6 +124,7 @@ pub struct Request {
     pub kind: Kind,
     pub pec_write: bool,
     pub pec_read: bool,
+    pub growing_waits: bool,
     pub retries: u16,
     /// The address, or the lower access key and, above it, the upper one.
     pub number: u32,
@@ -141,12 +145,13 @@ impl Request {
             kind,
             pec_write: flags & 1 != 0,
             pec_read: flags & 2 != 0,
+            growing_waits: flags & 8 != 0,
             retries: rest.number(2)? as u16,
             number: rest.number(layout.number)?,
             length: if layout.length { rest.number(2)? as u16 } else { 0 },
             payload: if layout.payload { rest.all().to_vec() } else { Vec::new() },
         };
-        (flags < 4 && rest.0.is_empty() && request.fits()).then_some(request)
+        (flags & UNKNOWN_FLAGS == 0 && rest.0.is_empty() && request.fits()).then_some(request)
     }
 
     /// The bytes that say the request, also where a length is over the limit.
@@ -166,7 +171,7 @@ impl Request {
     /// The flags byte.
     #[must_use]
     pub fn flags(&self) -> u8 {
-        u8::from(self.pec_write) | u8::from(self.pec_read) << 1
+        u8::from(self.pec_write) | u8::from(self.pec_read) << 1 | u8::from(self.growing_waits) << 3
     }
 
     /// The length of the buffer that a reading call fills.

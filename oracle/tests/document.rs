@@ -1,4 +1,4 @@
-//! Statements of document 01, each shown by running the Rust, and that retired kinds are refused.
+//! Statements of document 01, each shown by running the Rust, that retired kinds are refused, and how waits grow.
 
 mod bench;
 
@@ -27,7 +27,7 @@ fn started(kind: u8, flags: u8, arguments: &[u8]) -> Option<u8> {
 #[test]
 fn the_worked_case() {
     let printed = bench(&["010001000040AABB", "0105", "00"]);
-    assert_eq!(printed, ["0044040040AABB", "0044040040AABB", "FF00000001000000"]);
+    assert_eq!(printed, ["0044040040AABB", "0044040040AABB", "FF000000010000000A000000"]);
 }
 
 #[test]
@@ -69,6 +69,7 @@ fn the_window_figure_that_no_line_can_ask_for() {
             kind,
             pec_write: false,
             pec_read: false,
+            growing_waits: false,
             retries: 0,
             number: 0x4000,
             length: 8193,
@@ -114,7 +115,7 @@ fn a_write_of_33_bytes_makes_frames_of_36_and_5_bytes() {
     let payload: Vec<u8> = (0..33).collect();
     let printed = bench(&[&request(0x01, 0, 0, &[&[0x00, 0x40], &payload[..]].concat()), "00", "00"]);
     let first = line(&[&[0x00, 0x44, 0x22, 0x00, 0x40], &payload[..32]].concat());
-    assert_eq!(printed, [first, "0044032040".to_owned() + "20", "FF00000000000000".into()]);
+    assert_eq!(printed, [first, "0044032040".to_owned() + "20", "FF0000000000000000000000".into()]);
 }
 
 #[test]
@@ -122,15 +123,15 @@ fn a_data_flash_write_renews_its_budget_at_each_block() {
     let long = request(0x01, 0, 1, &[&[0x00, 0x40][..], &[0; 65]].concat());
     let outcomes = ["02", "00", "0111", "00", "02", "00"];
     let printed = bench(&[&[long.as_str()], &outcomes[..]].concat());
-    assert_eq!(printed.last().map(String::as_str), Some("FF00000003000000"));
+    assert_eq!(printed.last().map(String::as_str), Some("FF000000030000001E000000"));
 }
 
 #[test]
 fn a_failed_data_flash_write_tells_the_bytes_before_the_failing_block() {
     let long = request(0x01, 0, 0, &[&[0x00, 0x40][..], &[0; 65]].concat());
-    assert_eq!(bench(&[&long, "0111"])[1], "FF01110000000000");
-    assert_eq!(bench(&[&long, "00", "0111"])[2], "FF06200000000000");
-    assert_eq!(bench(&[&long, "00", "00", "02"])[3], "FF06400000000000");
+    assert_eq!(bench(&[&long, "0111"])[1], "FF0111000000000000000000");
+    assert_eq!(bench(&[&long, "00", "0111"])[2], "FF0620000000000000000000");
+    assert_eq!(bench(&[&long, "00", "00", "02"])[3], "FF0640000000000000000000");
 }
 
 #[test]
@@ -140,7 +141,7 @@ fn a_data_flash_read_has_one_budget_and_sends_a_failed_blocks_own_address_again(
     let printed = bench(&[&long, "00", &whole, "02", "00", "0111"]);
     let transfers = ["0044020040", "01442300", "01440400", "0044022040", "01440400"];
     assert_eq!(printed[..5], transfers);
-    assert_eq!(printed[5], format!("FF01110001000000{}A5", "77".repeat(32)));
+    assert_eq!(printed[5], format!("FF011100010000000A000000{}A5", "77".repeat(32)));
 }
 
 #[test]
@@ -149,14 +150,14 @@ fn after_a_bad_pec_the_blocks_own_address_goes_out_again() {
     let good = sealed_reply(0x44, &[0x77; 35]);
     let bad = format!("00{}", "77".repeat(36));
     let printed = bench(&[&long, "00", &bad, "00", &good]);
-    let transfers = ["0044020040AB", "01442400", "0044020040AB", "01442400", "FF0000000100000077"];
+    let transfers = ["0044020040AB", "01442400", "0044020040AB", "01442400", "FF000000010000000A00000077"];
     assert_eq!(printed, transfers);
 }
 
 #[test]
 fn a_mac_read_restarts_at_its_command_frame() {
     let printed = bench(&["0F0001000100", "00", "02", "00", "0001020377"]);
-    let expected = ["0044027B00", "01440400", "0044027B00", "01440400", "FF0000000100000077"];
+    let expected = ["0044027B00", "01440400", "0044027B00", "01440400", "FF000000010000000A00000077"];
     assert_eq!(printed, expected);
 }
 
@@ -165,25 +166,25 @@ fn override_figures_are_signed_and_low_byte_first() {
     let bytes = "FFFF0080341200000100";
     assert_eq!(bench(&[&format!("14000000{bytes}"), "00"])[0], format!("00440CB000{bytes}"));
     let printed = bench(&["13000000", "00", &format!("000CB000{bytes}")]);
-    assert_eq!(printed, ["004402B000", "01440D00", &format!("FF00000000000000{bytes}")]);
+    assert_eq!(printed, ["004402B000", "01440D00", &format!("FF0000000000000000000000{bytes}")]);
 }
 
 #[test]
 fn a_key_of_another_length_is_8() {
-    assert_eq!(bench(&[&format!("09000000{}", "00".repeat(27))]), ["FF08000000000000"]);
-    assert_eq!(bench(&[&format!("0B000000{}", "00".repeat(17))]), ["FF08000000000000"]);
+    assert_eq!(bench(&[&format!("09000000{}", "00".repeat(27))]), ["FF0800000000000000000000"]);
+    assert_eq!(bench(&[&format!("0B000000{}", "00".repeat(17))]), ["FF0800000000000000000000"]);
 }
 
 #[test]
 fn a_refused_reading_call_prints_its_buffer_all_a5() {
-    assert_eq!(bench(&["02000000FF3F0200"]), ["FF05000000000000A5A5"]);
-    assert_eq!(bench(&["040000000D2100"]), [format!("FF04000000000000{}", "A5".repeat(33))]);
-    assert_eq!(bench(&["05000000003544000200AA"]), ["FF07000000000000A5A5"]);
+    assert_eq!(bench(&["02000000FF3F0200"]), ["FF0500000000000000000000A5A5"]);
+    assert_eq!(bench(&["040000000D2100"]), [format!("FF0400000000000000000000{}", "A5".repeat(33))]);
+    assert_eq!(bench(&["05000000003544000200AA"]), ["FF0700000000000000000000A5A5"]);
 }
 
 #[test]
 fn bad_lines_are_11() {
-    let refused = ["FF0B000000000000"];
+    let refused = ["FF0B00000000000000000000"];
     assert_eq!(bench(&[]), refused);
     for bad in
         ["", "0", "16000000", "15040000", "150000", "1500000g", "150000AA ", "15000000\r", "020000000040"]
@@ -191,7 +192,7 @@ fn bad_lines_are_11() {
         assert_eq!(bench(&[bad]), refused, "{bad:?}");
     }
     for bad in ["", "0", "03", "01", "010203", "0200", "02 ", "00\r", "0a"] {
-        assert_eq!(bench(&["15000000", bad]), ["00", "FF0B000000000000"], "{bad:?}");
+        assert_eq!(bench(&["15000000", bad]), ["00", "FF0B00000000000000000000"], "{bad:?}");
     }
 }
 
@@ -199,13 +200,17 @@ fn bad_lines_are_11() {
 fn a_retired_kind_is_15_whatever_follows() {
     for kind in ["0C", "0D"] {
         for rest in ["", "0", "ZZ", "FF0000", "000000120200", " ", "\r", "c"] {
-            assert_eq!(bench(&[&format!("{kind}{rest}"), "00"]), ["FF0F000000000000"], "{kind}{rest:?}");
+            assert_eq!(
+                bench(&[&format!("{kind}{rest}"), "00"]),
+                ["FF0F00000000000000000000"],
+                "{kind}{rest:?}"
+            );
         }
     }
     for other in ["0c000000120200", "0", "0E", " 0C", "1C000000"] {
-        assert_eq!(bench(&[other]), ["FF0B000000000000"], "{other:?}");
+        assert_eq!(bench(&[other]), ["FF0B00000000000000000000"], "{other:?}");
     }
-    assert_eq!(bench(&["15000000", "0C"]), ["00", "FF0B000000000000"]);
+    assert_eq!(bench(&["15000000", "0C"]), ["00", "FF0B00000000000000000000"]);
 }
 
 #[test]
@@ -213,16 +218,78 @@ fn a_wrong_reply_is_9_and_one_over_8192_bytes_is_11() {
     let waited = ["0200010000400100", "0111", "00"];
     let transfers = ["0044020040", "0044020040", "01440400"];
     let reply = |length: usize| format!("00{}", "00".repeat(length));
-    for (length, last) in
-        [(3, "FF09000001000000A5"), (8192, "FF09000001000000A5"), (8193, "FF0B000001000000A5")]
-    {
+    for (length, last) in [
+        (3, "FF090000010000000A000000A5"),
+        (8192, "FF090000010000000A000000A5"),
+        (8193, "FF0B0000010000000A000000A5"),
+    ] {
         let printed = bench(&[&waited[..], &[&reply(length)]].concat());
         assert_eq!(printed, [&transfers[..], &[last]].concat());
     }
 }
 
+/// The waits and their milliseconds on the last line of a run of `request`, whose outcomes are these.
+fn waited(request: &str, outcomes: &[&str]) -> (u32, u32) {
+    let printed = bench(&[&[request], outcomes].concat());
+    let last = printed.last().expect("something is always printed");
+    let digits = if last.starts_with("FF") { &last[8..24] } else { &last[2..18] };
+    let number = |digits| u32::from_str_radix(digits, 16).expect("eight digits").swap_bytes();
+    (number(&digits[..8]), number(&digits[8..]))
+}
+
+#[test]
+fn the_rusts_waits_are_10_ms_each() {
+    for failures in [0, 1, 3, 4, 6, 65535] {
+        let outcomes = [&vec!["02"; failures][..], &["00"]].concat();
+        let waits = failures as u32;
+        assert_eq!(waited("1500FFFFAA", &outcomes), (waits, 10 * waits));
+        assert_eq!(waited("1508FFFFAA", &outcomes).0, waits);
+    }
+}
+
+#[test]
+fn waits_that_grow_are_10_20_40_and_then_80() {
+    for (failures, ms) in [0, 10, 30, 70, 150, 230, 310].into_iter().enumerate() {
+        let waits = failures as u32;
+        let heard_then = [&vec!["0111"; failures][..], &["00"]].concat();
+        assert_eq!(waited("15080600AA", &heard_then), (waits, ms));
+        assert_eq!(waited("15080600AA", &vec!["02"; failures]), (waits, ms));
+        let last_has_none = format!("1508{failures:02X}00AA");
+        assert_eq!(waited(&last_has_none, &vec!["02"; failures + 1]), (waits, ms));
+    }
+    assert_eq!(waited("1508FFFFAA", &vec!["02"; 65536]), (65535, 10 + 20 + 40 + 80 * 65532));
+}
+
+#[test]
+fn in_a_writing_call_each_frame_begins_at_10() {
+    let long = request(0x01, 8, 4, &[&[0x00, 0x40][..], &[0; 65]].concat());
+    let outcomes = ["02", "0111", "02", "02", "00", "02", "0111", "00", "02"];
+    assert_eq!(waited(&long, &outcomes), (7, 150 + 30 + 10));
+    assert_eq!(waited(&long, &outcomes[..6]), (5, 150 + 10));
+    let key = request(0x0E, 8, 2, &[0x14, 0x04, 0x72, 0x36]);
+    assert_eq!(waited(&key, &["02", "02", "00", "02", "02", "02"]), (4, 30 + 30));
+}
+
+#[test]
+fn a_reading_call_has_one_budget_whose_waits_grow_through_it() {
+    let long = request(0x02, 8, 4, &[0x00, 0x40, 33, 0]);
+    let whole = format!("00{}", "77".repeat(35));
+    assert_eq!(waited(&long, &["02", "00", "02", "00", &whole, "0111", "00", "02"]), (4, 150));
+    let mac = "0F0A04000100";
+    let bad = format!("00{}", "77".repeat(36));
+    assert_eq!(waited(mac, &["00", &bad, "02", "00", "0111", "00"]), (3, 70));
+}
+
+#[test]
+fn other_flags_are_11() {
+    for flags in 0..=255 {
+        let good = [0x00, 0x01, 0x02, 0x03, 0x08, 0x09, 0x0A, 0x0B].contains(&flags);
+        assert_eq!(started(0x15, flags, &[0xAA]), if good { None } else { Some(11) }, "{flags:02X}");
+    }
+}
+
 #[test]
 fn with_no_outcomes_left_the_waits_and_the_buffer_are_printed() {
-    assert_eq!(bench(&["0200010000400100", "0111"]), ["0044020040", "0044020040", "FE01000000A5"]);
-    assert_eq!(bench(&["15000100AA"]), ["00AA", "FE00000000"]);
+    assert_eq!(bench(&["0200010000400100", "0111"]), ["0044020040", "0044020040", "FE010000000A000000A5"]);
+    assert_eq!(bench(&["15000100AA"]), ["00AA", "FE0000000000000000"]);
 }

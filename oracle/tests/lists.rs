@@ -33,7 +33,7 @@ fn random_cases_replay() {
 
 #[test]
 fn the_exhaustive_list_is_complete_at_its_usual_depth() {
-    let (_, usual) = list_of(|sink| generate::exhaustive(9, sink));
+    let (_, usual) = list_of(|sink| generate::exhaustive(generate::DEPTH, sink));
     let (_, deeper) = list_of(|sink| generate::exhaustive(30, sink));
     assert_eq!(usual, deeper);
 }
@@ -53,5 +53,5 @@ fn the_sample_has_every_answer_and_fits_a_repository() {
         "an ended call takes no outcome on the bench, and 12 to 14 are no answers"
     );
     assert!(waiting > 0);
-    assert!(list_of(generate::sample).0.len() < 1_500_000);
+    assert!(list_of(generate::sample).0.len() < 1_600_000);
 }

@@ -16,8 +16,8 @@ use Rattle.answers.proofs.Laws.{bare-head}
 pub starts-as : Admitted
 unfolding writing.startOf reading.startOf nothing
 starts-as = record {
-  writing = λ plan n w. record { phase = refl; task = refl; sent = refl; budget = refl; waits = refl; transfers = refl };
-  reading = λ plan n w. record { phase = refl; task = refl; heading = bare-head (plan .head); received = refl; budget = refl; waits = refl; transfers = refl };
+  writing = λ plan n w. record { phase = refl; task = refl; sent = refl; budget = refl; waits = (refl, refl); transfers = refl };
+  reading = λ plan n w. record { phase = refl; task = refl; heading = bare-head (plan .head); received = refl; budget = refl; waits = (refl, refl); transfers = refl };
 }
 
 pub limits : (config : Config) → Limits config

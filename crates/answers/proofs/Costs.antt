@@ -54,12 +54,13 @@ module _ (call : WriteCall) where
   misses-w : (why : Answer) → MissesW (writing.failOf (writing.countedOf call) why)
   unfolding MissesW writing.failOf writing.retryOf writing.endOf waited writing.countedOf tallied
   misses-w why =
-      either MissesW (call .budget) (writing.retryOf (writing.countedOf call)) (writing.endOf (writing.countedOf call) why) (λ b less. (refl, refl, (inl (refl, less, refl), refl)))
-      (λ none. (refl, refl, (inr (over-waits, none, none, refl), refl)))
+      either MissesW (call .task .plan .retries) (call .task .plan .growing) (call .budget) (writing.retryOf (writing.countedOf call)) (writing.endOf (writing.countedOf call) why)
+      (λ b less. (refl, refl, (inl (refl, less, refl, refl), refl)))
+      (λ none. (refl, refl, (inr (over-waits, none, none, (refl, refl)), refl)))
 
   settles : (o : Outcome) → CostW call o (wrote.Taken (writing.settleOf (writing.countedOf call) o))
   unfolding MissesW writing.settleOf writing.advanceOf case_acknowledged_error_timeout_ writing.countedOf tallied
-  settles outcome.Acknowledged = (refl, refl, (refl, refl, refl))
+  settles outcome.Acknowledged = (refl, refl, (refl, (refl, refl), refl))
   settles (outcome.BusError code) = misses-w (answer.I2c code)
   settles outcome.Timeout = misses-w answer.Timeout
 
@@ -86,9 +87,9 @@ module _ (call : ReadCall) where
   misses-r : (why : Answer) → MissesR (reading.failOf (reading.countedOf call) why)
   unfolding MissesR reading.failOf reading.retryOf reading.endOf waited reading.countedOf tallied
   misses-r why =
-      either MissesR (call .budget) (reading.retryOf (reading.countedOf call)) (reading.endOf (reading.countedOf call) why)
-      (λ b less. (refl, refl, (inl (refl, less, refl), (λ e. bare-head (call .task .plan .head)), (λ over. absurd (over refl)), refl)))
-      (λ none. (refl, refl, (inr (over-waits, none, none, refl), (λ e. absurd (over-waits e)), (λ over. refl), refl)))
+      either MissesR (call .task .plan .retries) (call .task .plan .growing) (call .budget) (reading.retryOf (reading.countedOf call)) (reading.endOf (reading.countedOf call) why)
+      (λ b less. (refl, refl, (inl (refl, less, refl, refl), (λ e. bare-head (call .task .plan .head)), (λ over. absurd (over refl)), refl)))
+      (λ none. (refl, refl, (inr (over-waits, none, none, (refl, refl)), (λ e. absurd (over-waits e)), (λ over. refl), refl)))
 
   -- what a verdict that is no refusal says of outcome and reply
   abbrev Comes : Outcome → List ℕ → Verdict → Type 0
@@ -175,11 +176,11 @@ module _ (call : ReadCall) where
           let q : result ≡ read.Taken (reading.headedOf (reading.countedOf call)) = rw e in
           let d : Comes o bytes verdict.Head = subst (Comes o bytes) e c in
           subst (CostR call o bytes) (sym q)
-          (refl, refl, pays-heard o bytes (reading.headedOf (reading.countedOf call)) (d .0) (λ x. false≢true (sym (x .0) ∙ d .1)) (refl, refl, refl, rw (d .1)))
+          (refl, refl, pays-heard o bytes (reading.headedOf (reading.countedOf call)) (d .0) (λ x. false≢true (sym (x .0) ∙ d .1)) (refl, (refl, refl), refl, rw (d .1)))
       by verdict.Block e c =
           let q : result ≡ read.Taken (reading.advanceOf (reading.countedOf call)) = rw e in
           let d : Comes o bytes verdict.Block = subst (Comes o bytes) e c in
-          subst (CostR call o bytes) (sym q) (refl, refl, pays-heard o bytes (reading.advanceOf (reading.countedOf call)) (d .0) (d .2) (refl, refl, refl, rw (d .1)))
+          subst (CostR call o bytes) (sym q) (refl, refl, pays-heard o bytes (reading.advanceOf (reading.countedOf call)) (d .0) (d .2) (refl, (refl, refl), refl, rw (d .1)))
 
 -- ---- a reading call's buffer
 

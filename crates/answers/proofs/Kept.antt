@@ -81,7 +81,7 @@ pub data Step (call : ReadCall) (buffer : List ℕ) : ReadCall → List ℕ → 
   stays : Step call buffer call buffer
   opens : call .phase ≡ phase.Waiting → Step call buffer (headedOf (countedOf call)) buffer
   goes-on : (bytes : List ℕ) → call .phase ≡ phase.Waiting → call .heading ≡ false → Step call buffer (advanceOf (countedOf call)) (storedOf call bytes buffer)
-  again : (left : Budget) → call .phase ≡ phase.Waiting → left .left + 1 ≡ call .budget .left → Step call buffer (retryOf (countedOf call) left) buffer
+  again : (left : Budget) (ms : ℕ) → call .phase ≡ phase.Waiting → left .left + 1 ≡ call .budget .left → Step call buffer (retryOf (countedOf call) left ms) buffer
   ends : (why : Answer) → call .phase ≡ phase.Waiting → Step call buffer (endOf (countedOf call) why) buffer
 
 -- what a verdict says of the call
@@ -138,7 +138,7 @@ module _ (call : ReadCall) where
   fails : (buffer : List ℕ) (why : Answer) → call .phase ≡ phase.Waiting → Step call buffer (failOf (countedOf call) why) buffer
   unfolding failOf countedOf tallied
   fails buffer why e =
-      either (λ (c : ReadCall). Step call buffer c buffer) (call .budget) (retryOf (countedOf call)) (endOf (countedOf call) why) (λ left less. again left e less) (λ none. ends why e)
+      either (λ (c : ReadCall). Step call buffer c buffer) (call .task .plan .retries) (call .task .plan .growing) (call .budget) (retryOf (countedOf call)) (endOf (countedOf call) why) (λ left less. again left _ e less) (λ none. ends why e)
 
   pub steps : (o : Outcome) (bytes buffer : List ℕ) (w : ℕ) → Step call buffer (callR (reportOf call o bytes (length buffer) w)) (bufferAfter call o bytes buffer w)
   unfolding reportOf bufferAfter case_refused_fault_headed_block_ countedOf tallied
@@ -242,7 +242,7 @@ module _ (count : ℕ) (start : List ℕ) (few : count ≤ 256) where
         size = stored-length _ _ _ buffer ∙ s .size;
         front = block-front count start call bytes buffer few (s .counts) below (waiting-front count start call buffer e (s .front) .0);
       }
-  keeps call after buffer left (again budget e less) s = record {
+  keeps call after buffer left (again budget ms e less) s = record {
     counts = s .counts;
     due = λ w h. s .bare e h;
     more = λ w h. s .more e h;
@@ -320,7 +320,7 @@ unfolding headedOf advanceOf retryOf endOf countedOf
 step-task call after buffer left stays = refl
 step-task call after buffer left (opens e) = refl
 step-task call after buffer left (goes-on bytes e h) = refl
-step-task call after buffer left (again budget e less) = refl
+step-task call after buffer left (again budget ms e less) = refl
 step-task call after buffer left (ends why e) = refl
 
 pub same-task : (es : List ReadReport) (r : Reader) → feedR r es .call .task ≡ r .call .task

@@ -11,7 +11,7 @@ use Rattle.protocol.specs.Pick.{if_then_else_}
 use Rattle.protocol.specs.Answer.{numberOf, detailOf}
 use Rattle.protocol.specs.declared.error.Answer.{Answer}
 use Rattle.engine.specs.Pick.{case_retry_spent_}
-use Rattle.engine.specs.Budget.{failed}
+use Rattle.engine.specs.Budget.{waitOf, failed}
 use Rattle.engine.specs.Bus.{phaseAfter, fitsOf}
 use Rattle.engine.specs.declared.budget.Budget.{Budget}
 use Rattle.engine.specs.declared.bus.Lent.{Lent}
@@ -86,17 +86,18 @@ not-done count m e = by (leb count m) refl
     by true t = let z : _≡_ {A = ℕ} 0 1 = cc (rw t at e) in absurd (omega arith)
     by false t = leb-false count m t
 
--- a failed attempt: a retry is taken from the budget, or none is left
-pub either : {A : Type 0} (P : A → Type 0) (left : Budget) (again : Budget → A) (over : A)
-    → ((b : Budget) → b .left + 1 ≡ left .left → P (again b)) → (left .left ≡ 0 → P over) → P (case_retry_spent_ (failed left) again over)
+-- a failed attempt: a retry is taken from the budget, after a wait, or none is left
+pub either : {A : Type 0} (P : A → Type 0) (r : ℕ) (growing : Bool) (left : Budget) (again : Budget → ℕ → A) (over : A)
+    → ((b : Budget) → b .left + 1 ≡ left .left → P (again b (waitOf growing (r - left .left)))) → (left .left ≡ 0 → P over)
+    → P (case_retry_spent_ (failed r growing left) again over)
 unfolding failed case_retry_spent_ if_then_else_
-either {A} P left again over some none = by (eqb (left .left) 0) refl
+either {A} P r growing left again over some none = by (eqb (left .left) 0) refl
   where
-    by : (t : Bool) → eqb (left .left) 0 ≡ t → P (case_retry_spent_ (failed left) again over)
+    by : (t : Bool) → eqb (left .left) 0 ≡ t → P (case_retry_spent_ (failed r growing left) again over)
     by true t =
-        let q : case_retry_spent_ (failed left) again over ≡ over = rw t in
+        let q : case_retry_spent_ (failed r growing left) again over ≡ over = rw t in
         subst P (sym q) (none (eqb-true _ _ t))
     by false t =
         let more = eqb-false (left .left) 0 t in
-        let q : case_retry_spent_ (failed left) again over ≡ again (record { left = left .left - 1 }) = rw t in
+        let q : case_retry_spent_ (failed r growing left) again over ≡ again (record { left = left .left - 1 }) (waitOf growing (r - left .left)) = rw t in
         subst P (sym q) (some (record { left = left .left - 1 }) (omega arith))

@@ -32,13 +32,13 @@ use Rattle.answers.proofs.Laws.{not-done, either}
 pub data Step (call : WriteCall) : WriteCall → Type 0 where
   stays : Step call call
   goes-on : call .phase ≡ phase.Waiting → Step call (advanceOf (countedOf call))
-  again : (left : Budget) → call .phase ≡ phase.Waiting → left .left + 1 ≡ call .budget .left → Step call (retryOf (countedOf call) left)
+  again : (left : Budget) (ms : ℕ) → call .phase ≡ phase.Waiting → left .left + 1 ≡ call .budget .left → Step call (retryOf (countedOf call) left ms)
   ends : (why : Answer) → call .phase ≡ phase.Waiting → Step call (endOf (countedOf call) why)
 
 module _ (call : WriteCall) where
   fails : (why : Answer) → call .phase ≡ phase.Waiting → Step call (failOf (countedOf call) why)
   unfolding failOf countedOf
-  fails why e = either (Step call) (call .budget) (retryOf (countedOf call)) (endOf (countedOf call) why) (λ left less. again left e less) (λ none. ends why e)
+  fails why e = either (Step call) (call .task .plan .retries) (call .task .plan .growing) (call .budget) (retryOf (countedOf call)) (endOf (countedOf call) why) (λ left less. again left _ e less) (λ none. ends why e)
 
   settles : (o : Outcome) → call .phase ≡ phase.Waiting → Step call (settleOf (countedOf call) o)
   unfolding settleOf case_acknowledged_error_timeout_ countedOf tallied
@@ -82,7 +82,7 @@ module _ (count : ℕ) (few : count ≤ 256) where
         spare = s .retries;
         waits = omega (arith, s .waits, s .retries);
       }
-  keeps call after (again left e less) s =
+  keeps call after (again left ms e less) s =
       record {
         counts = s .counts;
         retries = s .retries;
@@ -124,7 +124,7 @@ step-task : (call after : WriteCall) → Step call after → after .task ≡ cal
 unfolding advanceOf retryOf endOf countedOf
 step-task call after stays = refl
 step-task call after (goes-on e) = refl
-step-task call after (again left e less) = refl
+step-task call after (again left ms e less) = refl
 step-task call after (ends why e) = refl
 
 pub same-task : (es : List WriteReport) (call : WriteCall) → feedW call es .task ≡ call .task

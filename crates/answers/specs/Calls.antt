@@ -24,7 +24,7 @@ pub record BegunW (plan : WritePlan) (n w : ℕ) (call : WriteCall) : Type 0 whe
   pub task : call .task ≡ record { plan = plan; lent = record { length = n; work = w } }
   pub sent : call .sent ≡ 0
   pub budget : call .budget .left ≡ plan .retries
-  pub waits : call .tally .waits ≡ 0
+  pub waits : (call .tally .waits ≡ 0) × (call .tally .«waited_ms» ≡ 0)
   pub transfers : call .tally .transfers ≡ 0
 
 pub record BegunR (plan : ReadPlan) (n w : ℕ) (call : ReadCall) : Type 0 where
@@ -33,7 +33,7 @@ pub record BegunR (plan : ReadPlan) (n w : ℕ) (call : ReadCall) : Type 0 where
   pub heading : (call .heading ≡ false) ↔ (plan .head ≡ head.Bare)
   pub received : call .received ≡ 0
   pub budget : call .budget .left ≡ plan .retries
-  pub waits : call .tally .waits ≡ 0
+  pub waits : (call .tally .waits ≡ 0) × (call .tally .«waited_ms» ≡ 0)
   pub transfers : call .tally .transfers ≡ 0
 
 -- a call starts as its limit says, for what it was started for, with nothing sent, received or counted; its first frame or its head is due, if it has one

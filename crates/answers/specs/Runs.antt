@@ -37,7 +37,7 @@ unfoldable pub feedW : WriteCall → List WriteReport → WriteCall
 feedW call [] = call
 feedW call (e ∷ es) = feedW (reportedW call e) es
 
--- no counter is anywhere near its largest number (of the transfers: `ceilings`)
+-- no counter is anywhere near its largest number (of the transfers: `ceilings`; of the milliseconds: `waits`)
 pub record TameW (call : WriteCall) : Type 0 where
   pub frames : call .sent ≤ 256
   pub waits : call .tally .waits ≤ 16842495  -- at most 65,535 for each of 256 frames, and room for one more

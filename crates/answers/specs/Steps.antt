@@ -1,6 +1,6 @@
--- What a step does to what is lent, and what it costs. (01, The step machine; Frames and retries)
+-- What a step does to what is lent, and what it costs. (01, The step machine; Frames and retries; 02, W-203)
 -- Assumes nothing.
-use Prim.Native.Nat.{ℕ, _+_, _*_, _≤_}
+use Prim.Native.Nat.{ℕ, _+_, _-_, _*_, _≤_}
 use mathlib.Core.Path.{_≡_}
 use mathlib.Core.Bool.{Bool, true, false}
 use mathlib.Core.List.{List}
@@ -10,7 +10,7 @@ use Rattle.protocol.specs.Pick.{if_then_else_}
 use Rattle.protocol.specs.Answer.{numberOf}
 use Rattle.protocol.specs.declared.common.Config.{Config}
 use Rattle.protocol.specs.declared.error.Answer.the-variants as answer
-use Rattle.engine.specs.Budget.{moreOf}
+use Rattle.engine.specs.Budget.{waitOf, plusOf, moreOf}
 use Rattle.engine.specs.declared.budget.Budget.{Budget}
 use Rattle.engine.specs.declared.budget.Tally.{Tally}
 use Rattle.engine.specs.declared.bus.Lent.{Lent}
@@ -111,20 +111,27 @@ pub record HandsOut : Type 0 where
 
 -- ---- what a report costs
 
--- a failed attempt takes one retry and one wait; with none left it ends the call, with no wait
-abbrev pub FailedOnce : Budget → Tally → Phase → Budget → Tally → Type 0
-FailedOnce left tally p left′ tally′ =
-    ((p ≡ phase.Waiting) × (left′ .left + 1 ≡ left .left) × (tally′ .waits ≡ moreOf (tally .waits)))
-    ⊎ ((p ≡ phase.Waiting → ⊥) × (left .left ≡ 0) × (left′ .left ≡ 0) × (tally′ .waits ≡ tally .waits))
+-- no wait is made
+abbrev pub Unwaited : Tally → Tally → Type 0
+Unwaited tally tally′ = (tally′ .waits ≡ tally .waits) × (tally′ .«waited_ms» ≡ tally .«waited_ms»)
+
+-- a failed attempt of a budget that began with r retries takes one of them and one wait, whose length goes by the failures of the same budget before it; with none left
+-- it ends the call, with no wait
+abbrev pub FailedOnce : (r : ℕ) (growing : Bool) → Budget → Tally → Phase → Budget → Tally → Type 0
+FailedOnce r growing left tally p left′ tally′ =
+    ((p ≡ phase.Waiting) × (left′ .left + 1 ≡ left .left) × (tally′ .waits ≡ moreOf (tally .waits))
+    × (tally′ .«waited_ms» ≡ plusOf (tally .«waited_ms») (waitOf growing (r - left .left))))
+    ⊎ ((p ≡ phase.Waiting → ⊥) × (left .left ≡ 0) × (left′ .left ≡ 0) × Unwaited tally tally′)
 
 -- of a write, after a failed attempt the same frame is due
 abbrev pub MissedW : WriteCall → WriteCall → Type 0
-MissedW call next = FailedOnce (call .budget) (call .tally) (next .phase) (next .budget) (next .tally) × (next .sent ≡ call .sent)
+MissedW call next =
+    FailedOnce (call .task .plan .retries) (call .task .plan .growing) (call .budget) (call .tally) (next .phase) (next .budget) (next .tally) × (next .sent ≡ call .sent)
 
 -- an acknowledged frame is one more sent, and is followed by one with a budget of its own; no wait is made for it
 abbrev pub PaidW : WriteCall → Outcome → WriteCall → Type 0
 PaidW call outcome.Acknowledged next =
-    (next .budget .left ≡ call .task .plan .retries) × (next .tally .waits ≡ call .tally .waits) × (next .sent ≡ moreOf (call .sent))
+    (next .budget .left ≡ call .task .plan .retries) × Unwaited (call .tally) (next .tally) × (next .sent ≡ moreOf (call .sent))
 PaidW call (outcome.BusError code) next = MissedW call next
 PaidW call outcome.Timeout next = MissedW call next
 
@@ -136,7 +143,7 @@ CostW call o (wrote.Taken next) = (next .task ≡ call .task) × (next .tally .t
 -- of a read, after a failed attempt the head is due again exactly where there is one, with as many blocks received
 abbrev pub MissedR : ReadCall → ReadCall → Type 0
 MissedR call next =
-    FailedOnce (call .budget) (call .tally) (next .phase) (next .budget) (next .tally)
+    FailedOnce (call .task .plan .retries) (call .task .plan .growing) (call .budget) (call .tally) (next .phase) (next .budget) (next .tally)
     × (next .phase ≡ phase.Waiting → (next .heading ≡ false) ↔ (call .task .plan .head ≡ head.Bare))
     × ((next .phase ≡ phase.Waiting → ⊥) → next .heading ≡ call .heading)
     × (next .received ≡ call .received)
@@ -144,7 +151,7 @@ MissedR call next =
 -- an acknowledged head or a believed reply leaves the budget of the whole call as it was, with no wait, and no head is due; a reply is one block more
 abbrev pub HeardR : ReadCall → ReadCall → Type 0
 HeardR call next =
-    (next .budget .left ≡ call .budget .left) × (next .tally .waits ≡ call .tally .waits) × (next .heading ≡ false) × (next .received ≡ readsMade call)
+    (next .budget .left ≡ call .budget .left) × Unwaited (call .tally) (next .tally) × (next .heading ≡ false) × (next .received ≡ readsMade call)
 
 -- a read whose PEC differs is a failed attempt
 abbrev pub PaidR : ReadCall → Outcome → List ℕ → ReadCall → Type 0

@@ -1,4 +1,4 @@
--- A started call stays within its bounds: for each call by name and any list of reports no counter saturates (of the transfers: `ceilings`), every frame has room, every
+-- A started call stays within its bounds: for each call by name and any list of reports no counter saturates (of the transfers: `ceilings`; of the milliseconds: `waits`), every frame has room, every
 -- block lies in the window and in the buffer, and a call that has not ended well leaves the bytes of the buffer past the whole blocks as they were.
 -- Assumes nothing.
 use Prim.Native.Nat.{ℕ, _+_, _-_, _*_, _≤_, _<_, min}

@@ -1,6 +1,6 @@
 -- A request line asks for what its row says: the machine's tests of it, kind by kind.
 -- Assumes nothing.
-use Prim.Native.Nat.{ℕ, zero, suc, _+_, _-_, _/_, _%_, _≤_, _<_}
+use Prim.Native.Nat.{ℕ, suc, _+_, _-_, _≤_, _<_}
 use mathlib.Core.Path.{_≡_, refl}
 use mathlib.Core.Bool.{Bool, true, false, _&&_, _||_}
 use mathlib.Core.List.{List, [], _∷_}
@@ -15,11 +15,12 @@ use Rattle.calls.specs.declared.kind.Kind.{Kind}
 use Rattle.hex.specs.Digits.{inDigits}
 use Rattle.requests.specs.Fields.{pairAt, quadAt}
 use Rattle.requests.specs.Request as requests
-use Rattle.requests.specs.Request.{configOf, calledOf, exactOf}
+use Rattle.requests.specs.Request.{configOf, unknownFlags, calledOf, exactOf}
 use Rattle.requests.specs.Retired.{retiredKind}
 use Rattle.requests.specs.declared.request.Request.the-variants as request
 use Rattle.bench_promises.specs.Numbers.{number, field}
 use Rattle.bench_promises.specs.Kinds.{settings, begins, isRetired}
+use Rattle.bench_promises.proofs.Flags.{flags}
 
 -- ---- numbers
 
@@ -43,16 +44,9 @@ quad-at at s h =
 
 -- ---- the header
 
-flags : (f : ℕ) → f ≤ 3 → (eqb (f % 2) 1 ≡ (eqb f 1 || eqb f 3)) × (eqb (f / 2 % 2) 1 ≡ (eqb f 2 || eqb f 3))
-flags zero h = (refl, refl)
-flags (suc zero) h = (refl, refl)
-flags (suc (suc zero)) h = (refl, refl)
-flags (suc (suc (suc zero))) h = (refl, refl)
-flags (suc (suc (suc (suc f)))) h = absurd (omega arith)
-
-pub settings-of : (line : List ℕ) → 4 ≤ length line → getD line 1 0 ≤ 3 → configOf line ≡ settings (getD line 1 0) (field 2 2 line)
+pub settings-of : (line : List ℕ) → 4 ≤ length line → getD line 1 0 < 256 → unknownFlags (getD line 1 0) ≡ false → configOf line ≡ settings (getD line 1 0) (field 2 2 line)
 unfolding configOf
-settings-of line h f = let b = flags (getD line 1 0) f in rw (b .0, b .1, pair-at 2 line h)
+settings-of line h byte f = let b = flags (getD line 1 0) byte f in rw (b .0, b .1, b .2, pair-at 2 line h)
 
 -- ---- the tests of a length
 

@@ -11,6 +11,7 @@ use lib.Dec.{ltb, eqb}
 use borrow.Author.Tests.{lt-ltb, le-ltb, ne-eqb, eqb-true, eqb-false, ltb-true, ltb-false}
 use Rattle.protocol.specs.Pick.{if_then_else_}
 use Rattle.protocol.specs.Answer.{numberOf}
+use Rattle.protocol.specs.declared.common.Config.{Config}
 use Rattle.protocol.specs.declared.error.Answer.{Answer}
 use Rattle.protocol.specs.declared.error.Answer.the-variants as answer
 use Rattle.protocol.proofs.AnswerLaws.{done-only}
@@ -29,12 +30,14 @@ use Rattle.printing.specs.Printing.{writeSaid, endSaid}
 use Rattle.dialogue.specs.Dialogue.{asked, last, sizeOf, tellOf, zeros, lineShown}
 use Rattle.hex.specs.Line.{lineBytes}
 use Rattle.dialogue.specs.Bench.{thenSay, reportThen, toldThen, callLines, callRun}
-use Rattle.original.specs.Bus.{BusOutcome, Acknowledged, BusError, Timeout, delivered, Made, write, read, brings, Ok, Err, Waiting, Read, _leaving_}
+use Rattle.original.specs.Bus.{BusOutcome, Acknowledged, BusError, Timeout, delivered, Made, write, read, brings, Ok, Err, Waiting, Read, _leaving_, waitsIn}
 use Rattle.original.specs.Fed as feeding
 use Rattle.original.specs.Fed.{Lending, reply, answered, shows_sending_transfer_answer_, came_taken_refused_, fed}
-use Rattle.bench_promises.specs.RustBench.{transferLine, transferLines, endLine, cutLine, outcome, stopped, acknowledgedBy, errorBy, timeoutBy, heardIn, lastAsks, cameTo_waiting_, heard_goes_stops_, runOf}
+use Rattle.bench_promises.specs.Kinds.{waitedBy}
+use Rattle.bench_promises.specs.RustBench.{transferLine, transferLines, endLine, cutLine, outcome, stopped, acknowledgedBy, errorBy, timeoutBy, heardIn, lastAsks, cameTo_lasting_waiting_, heard_goes_stops_, runOf}
 use Rattle.bench_promises.proofs.Steps.{IsTaken, Failure, Takes, takes}
 use Rattle.bench_promises.proofs.Said.{end-said, last-said, read-said}
+use Rattle.bench_promises.proofs.Lasts.{Lasts, lasts-on, lasts-so}
 
 -- ---- lists of transfers
 
@@ -62,29 +65,51 @@ length-work (call.Read c) payload n = read-work c n (replicate 39 0)
 all-delivered : (n : ℕ) (s : List ℕ) → length s ≡ n → delivered n s ≡ s
 all-delivered n s e = rw (← e) (take-append-seam s (replicate (length s) 0))
 
+-- what a call has waited when the outcomes run out is what it counts
+waits-now : (c : Call) (payload buffer : List ℕ) (done : List Made) → tallyOf c .waits ≡ waitsIn (fed c payload buffer lent done [])
+unfolding fed zeros answered waitsIn shows_sending_transfer_answer_ if_then_else_
+waits-now c payload buffer done = by (nextOf c payload (length buffer) 39) refl
+  where
+    answered-waits : (t : Bool) (a : Answer) → tallyOf c .waits ≡ waitsIn ((if t then Ok (record { transfers = done; waits = tallyOf c .waits }) [] else Err a (record { transfers = done; waits = tallyOf c .waits }) []) leaving buffer)
+    answered-waits true a = refl
+    answered-waits false a = refl
+
+    by : (t : Transfer) → nextOf c payload (length buffer) 39 ≡ t → tallyOf c .waits ≡ waitsIn (fed c payload buffer lent done [])
+    by (transfer.Write n) e = rw e
+    by (transfer.Read command n) e = rw e
+    by (transfer.Refused a) e = rw e (answered-waits (eqb (numberOf a) 0) a)
+    by (transfer.Ended a) e = rw e (answered-waits (eqb (numberOf a) 0) a)
+
 -- ---- one call, where the Rust has been given the outcomes so far
 
-module _ (rust : List BusOutcome → Read) (rest payload : List ℕ) (c : Call) (buffer : List ℕ) (done : List Made) (os : List BusOutcome)
-    (same : (more : List BusOutcome) → rust (os ++ more) ≡ fed c payload buffer lent done more) where
+module _ (config : Config) (perFrame : Bool) (rust : List BusOutcome → Read) (rest payload : List ℕ) (c : Call) (buffer : List ℕ) (done : List Made) (os : List BusOutcome)
+    (lasts : Lasts config perFrame os c) (same : (more : List BusOutcome) → rust (os ++ more) ≡ fed c payload buffer lent done more) where
   abbrev shown : List ℕ
   shown = workAfter c payload (length buffer) zeros
 
   abbrev waits : ℕ
   waits = tallyOf c .waits
 
+  abbrev ms : List BusOutcome → ℕ
+  ms = waitedBy perFrame config rust
+
   now : rust os ≡ fed c payload buffer lent done []
   now = ap rust (sym (append-nil os)) ∙ same []
 
+  -- how long it has waited
+  lasted : tallyOf c .«waited_ms» ≡ ms os
+  lasted = lasts-so config perFrame rust os c lasts (waits-now c payload buffer done ∙ ap waitsIn (sym now))
+
   -- what a call that has ended prints
-  ended : (a : Answer) (f : _) → (cameTo (answered a (record { transfers = done; waits = waits }) [] leaving buffer) waiting f) ≡ transferLines done ++ (endSaid a (tallyOf c) buffer ∷ [])
-  unfolding answered cameTo_waiting_ if_then_else_
+  ended : (a : Answer) (f : _) → (cameTo (answered a (record { transfers = done; waits = waits }) [] leaving buffer) lasting ms os waiting f) ≡ transferLines done ++ (endSaid a (tallyOf c) buffer ∷ [])
+  unfolding answered cameTo_lasting_waiting_ if_then_else_
   ended a f = by (eqb (numberOf a) 0) refl
     where
       by : (t : Bool) → eqb (numberOf a) 0 ≡ t
-          → (cameTo ((if t then Ok (record { transfers = done; waits = waits }) [] else Err a (record { transfers = done; waits = waits }) []) leaving buffer) waiting f)
+          → (cameTo ((if t then Ok (record { transfers = done; waits = waits }) [] else Err a (record { transfers = done; waits = waits }) []) leaving buffer) lasting ms os waiting f)
           ≡ transferLines done ++ (endSaid a (tallyOf c) buffer ∷ [])
-      by true e = rw (end-said, done-only a (eqb-true (numberOf a) 0 e))
-      by false e = rw end-said
+      by true e = rw (end-said, lasted, done-only a (eqb-true (numberOf a) 0 e))
+      by false e = rw (end-said, lasted)
 
   -- a transfer is outstanding
   module _ (m : Made) (next : (f : Made → Read) (g : Answer → Read) → (shows nextOf c payload (length buffer) 39 sending partOf c payload shown transfer f answer g) ≡ f m)
@@ -93,21 +118,21 @@ module _ (rust : List BusOutcome → Read) (rest payload : List ℕ) (c : Call) 
     unfolding fed zeros
     waiting-now = now ∙ next _ _
 
-    cut : runOf rust os [] rest ≡ transferLines done ++ callRun c payload buffer [] rest
-    unfolding runOf callRun callLines thenSay cameTo_waiting_
-    cut = rw (waiting-now, line, lines-append, last-said) (append-assoc (transferLines done) (transferLine m ∷ []) (cutLine rest waits buffer ∷ []))
+    cut : runOf rust ms os [] rest ≡ transferLines done ++ callRun c payload buffer [] rest
+    unfolding runOf callRun callLines thenSay cameTo_lasting_waiting_
+    cut = rw (waiting-now, line, lines-append, last-said, lasted) (append-assoc (transferLines done) (transferLine m ∷ []) (cutLine rest waits (ms os) buffer ∷ []))
 
     module _ (lines : List (List ℕ))
-        (on : (o : BusOutcome) (d : Call) (after : List ℕ) → ((more : List BusOutcome) → rust ((os ++ (o ∷ [])) ++ more) ≡ fed d payload after lent (done ++ (m ∷ [])) more)
-        → runOf rust (os ++ (o ∷ [])) lines rest ≡ transferLines (done ++ (m ∷ [])) ++ callRun d payload after lines rest) where
+        (on : (o : BusOutcome) (d : Call) (after : List ℕ) → Lasts config perFrame (os ++ (o ∷ [])) d → ((more : List BusOutcome) → rust ((os ++ (o ∷ [])) ++ more) ≡ fed d payload after lent (done ++ (m ∷ [])) more)
+        → runOf rust ms (os ++ (o ∷ [])) lines rest ≡ transferLines (done ++ (m ∷ [])) ++ callRun d payload after lines rest) where
       abbrev go : Call → List ℕ → List (List ℕ)
       go d after = callRun d payload after lines rest
 
       abbrev onward : BusOutcome → List (List ℕ)
-      onward o = runOf rust (os ++ (o ∷ [])) lines rest
+      onward o = runOf rust ms (os ++ (o ∷ [])) lines rest
 
       abbrev stop : Answer → List (List ℕ)
-      stop a = transferLines (done ++ (m ∷ [])) ++ (endLine a waits buffer ∷ [])
+      stop a = transferLines (done ++ (m ∷ [])) ++ (endLine a waits (ms os) buffer ∷ [])
 
       -- an outcome that the call takes
       step : (o : BusOutcome) (s : List ℕ) → IsTaken (reportOf c (feeding.told o) s (length payload) (length buffer) 39)
@@ -121,7 +146,7 @@ module _ (rust : List BusOutcome → Read) (rest payload : List ℕ) (c : Call) 
               → onward o ≡ transferLines (done ++ (m ∷ [])) ++ reportThen u (bufferAfter c (feeding.told o) s buffer 39) go
           by (reported.Refused a same) e = absurd (rw e at ok)
           by (reported.Taken d) e =
-              on o d (bufferAfter c (feeding.told o) s buffer 39)
+              on o d (bufferAfter c (feeding.told o) s buffer 39) (lasts-on config perFrame os c lasts o s (length payload) (length buffer) 39 d e)
               (λ more. ap rust (append-assoc os (o ∷ []) more) ∙ same (o ∷ more) ∙ next _ _ ∙ rw (length-work c payload (length buffer), r, e, b))
 
       -- a failure, whose reply is not looked at
@@ -133,7 +158,7 @@ module _ (rust : List BusOutcome → Read) (rest payload : List ℕ) (c : Call) 
 
       -- what follows a line that is bad, or a reply of the wrong length
       broken : (a : Answer) → stop a ≡ transferLines (done ++ (m ∷ [])) ++ (endSaid a (tallyOf c) buffer ∷ [])
-      broken a = rw end-said
+      broken a = rw (end-said, lasted)
 
       -- 00 and a reply
       acknowledged : (b : ℕ) (s : List ℕ)
@@ -194,8 +219,8 @@ module _ (rust : List BusOutcome → Read) (rest payload : List ℕ) (c : Call) 
           by false false true = timeout b s
           by false false false = broken answer.BadLine
 
-      goes-on : (text : List ℕ) → runOf rust os (text ∷ lines) rest ≡ transferLines done ++ callRun c payload buffer (text ∷ lines) rest
-      unfolding runOf callRun callLines thenSay cameTo_waiting_
+      goes-on : (text : List ℕ) → runOf rust ms os (text ∷ lines) rest ≡ transferLines done ++ callRun c payload buffer (text ∷ lines) rest
+      unfolding runOf callRun callLines thenSay cameTo_lasting_waiting_
       goes-on text =
           rw (waiting-now, line, last-asks)
           (outcome-line (lineBytes text) ∙ rw lines-append (append-assoc (transferLines done) (transferLine m ∷ []) _))
@@ -203,7 +228,7 @@ module _ (rust : List BusOutcome → Read) (rest payload : List ℕ) (c : Call) 
   -- the call has shown its answer
   module _ (a : Answer) (over : rust os ≡ (answered a (record { transfers = done; waits = waits }) [] leaving buffer))
       (line : lineShown c payload buffer ≡ last (endSaid a (tallyOf c) buffer)) where
-    answers : (lines : List (List ℕ)) → runOf rust os lines rest ≡ transferLines done ++ callRun c payload buffer lines rest
+    answers : (lines : List (List ℕ)) → runOf rust ms os lines rest ≡ transferLines done ++ callRun c payload buffer lines rest
     unfolding runOf callRun thenSay
     answers [] = rw (over, line) (ended a _)
     answers (text ∷ lines) = rw (over, line) (ended a _)
@@ -212,12 +237,12 @@ module _ (rust : List BusOutcome → Read) (rest payload : List ℕ) (c : Call) 
   abbrev On : List (List ℕ) → Type 0
   On [] = Unit {0}
   On (text ∷ lines) =
-      (m : Made) (o : BusOutcome) (d : Call) (after : List ℕ) → ((more : List BusOutcome) → rust ((os ++ (o ∷ [])) ++ more) ≡ fed d payload after lent (done ++ (m ∷ [])) more)
-      → runOf rust (os ++ (o ∷ [])) lines rest ≡ transferLines (done ++ (m ∷ [])) ++ callRun d payload after lines rest
+      (m : Made) (o : BusOutcome) (d : Call) (after : List ℕ) → Lasts config perFrame (os ++ (o ∷ [])) d → ((more : List BusOutcome) → rust ((os ++ (o ∷ [])) ++ more) ≡ fed d payload after lent (done ++ (m ∷ [])) more)
+      → runOf rust ms (os ++ (o ∷ [])) lines rest ≡ transferLines (done ++ (m ∷ [])) ++ callRun d payload after lines rest
 
   -- by what the call shows
   by-shown : (lines : List (List ℕ)) → On lines → (t : Transfer) → nextOf c payload (length buffer) 39 ≡ t
-      → runOf rust os lines rest ≡ transferLines done ++ callRun c payload buffer lines rest
+      → runOf rust ms os lines rest ≡ transferLines done ++ callRun c payload buffer lines rest
   unfolding fed zeros lineShown tellOf sizeOf writeSaid transferLine shows_sending_transfer_answer_ brings
   by-shown [] on (transfer.Write n) e = cut (write (partOf c payload shown n)) (λ f g. rw e) (rw e) (rw e at (takes c payload buffer (rw e tt)))
   by-shown (text ∷ lines) on (transfer.Write n) e =
@@ -229,8 +254,10 @@ module _ (rust : List BusOutcome → Read) (rest payload : List ℕ) (c : Call) 
   by-shown lines on (transfer.Ended a) e = answers a (now ∙ rw e) (rw e) lines
 
 -- the run of a call, whatever has gone before it
-pub follow : (lines : List (List ℕ)) (rust : List BusOutcome → Read) (rest payload : List ℕ) (c : Call) (buffer : List ℕ) (done : List Made) (os : List BusOutcome)
-    → ((more : List BusOutcome) → rust (os ++ more) ≡ fed c payload buffer lent done more) → runOf rust os lines rest ≡ transferLines done ++ callRun c payload buffer lines rest
-follow [] rust rest payload c buffer done os same = by-shown rust rest payload c buffer done os same [] tt _ refl
-follow (text ∷ lines) rust rest payload c buffer done os same =
-    by-shown rust rest payload c buffer done os same (text ∷ lines) (λ m o d after h. follow lines rust rest payload d after (done ++ (m ∷ [])) (os ++ (o ∷ [])) h) _ refl
+pub follow : (lines : List (List ℕ)) (config : Config) (perFrame : Bool) (rust : List BusOutcome → Read) (rest payload : List ℕ) (c : Call) (buffer : List ℕ) (done : List Made)
+    (os : List BusOutcome) → Lasts config perFrame os c → ((more : List BusOutcome) → rust (os ++ more) ≡ fed c payload buffer lent done more)
+    → runOf rust (waitedBy perFrame config rust) os lines rest ≡ transferLines done ++ callRun c payload buffer lines rest
+follow [] config perFrame rust rest payload c buffer done os lasts same = by-shown config perFrame rust rest payload c buffer done os lasts same [] tt _ refl
+follow (text ∷ lines) config perFrame rust rest payload c buffer done os lasts same =
+    by-shown config perFrame rust rest payload c buffer done os lasts same (text ∷ lines)
+    (λ m o d after l h. follow lines config perFrame rust rest payload d after (done ++ (m ∷ [])) (os ++ (o ∷ [])) l h) _ refl

@@ -1,6 +1,8 @@
 pub mod Steps
 pub mod Said
+pub mod Lasts
 pub mod Follow
+pub mod Flags
 pub mod Asked
 pub mod Rows
 pub mod Lines

@@ -2,7 +2,7 @@
 -- Assumes nothing.
 use Prim.Native.Nat.{ℕ, zero, suc, _-_, _*_, _≤_, _<_}
 use mathlib.Core.Path.{_≡_, refl, ap, _∙_}
-use mathlib.Core.Bool.{Bool, true, false, false≢true}
+use mathlib.Core.Bool.{Bool, true, false, not, false≢true}
 use mathlib.Core.List.{List, [], _∷_}
 use native.Mathlib.Omega.{arith}
 use lib.ListN.{length, drop, getD, replicate, length-drop}
@@ -20,7 +20,7 @@ use Rattle.protocol.specs.declared.common.Config.{Config}
 use Rattle.protocol.specs.declared.error.Answer.the-variants as answer
 use Rattle.original.specs.Bus.{BusOutcome, Read}
 use Rattle.bench_promises.specs.Numbers.{number, field}
-use Rattle.bench_promises.specs.Kinds.{Row, rows, Asked, bad, retired, call, askedBy, askedAmong, settings, askedIn, begins, isRetired, askedLine}
+use Rattle.bench_promises.specs.Kinds.{Row, rows, Asked, bad, retired, call, askedBy, askedAmong, among, knownFlags, settings, askedIn, begins, isRetired, askedLine}
 use Rattle.bench_promises.specs.RustBench.{stopped, acknowledgedBy, errorBy, timeoutBy, heardIn, longestDigits}
 use Rattle.bench_promises.specs.LineByLine.{Longest, LineByLine}
 use Rattle.bench_promises.proofs.Said.{read-back}
@@ -70,7 +70,7 @@ long-request : (s : List ℕ) → 8202 < length s → askedIn s ≡ bad
 unfolding askedIn if_then_else_
 long-request s h =
     let n : 8198 < length (drop 4 s) = rw length-drop (omega arith) in
-    rw (long-among rows few-rows (getD s 0 0) (settings (getD s 1 0) (field 2 2 s)) (drop 4 s) n) (by (ltb (length s) 4) (ltb 3 (getD s 1 0)))
+    rw (long-among rows few-rows (getD s 0 0) (settings (getD s 1 0) (field 2 2 s)) (drop 4 s) n) (by (ltb (length s) 4) (not (among knownFlags (getD s 1 0))))
   where
     by : (a b : Bool) → (if a then bad else if b then bad else bad) ≡ bad
     by true b = refl
@@ -110,16 +110,16 @@ command-bytes (suc k) = all-zero 8201 k
 isCall : Asked → Bool
 isCall bad = false
 isCall retired = false
-isCall (call rust) = true
+isCall (call rust ms) = true
 
-its-call : (a : Asked) → isCall a ≡ true → (rust : List BusOutcome → Read) × (a ≡ call rust)
+its-call : (a : Asked) → isCall a ≡ true → (rust : List BusOutcome → Read) × (ms : List BusOutcome → ℕ) × (a ≡ call rust ms)
 unfolding isCall
 its-call bad e = absurd (false≢true e)
 its-call retired e = absurd (false≢true e)
-its-call (call rust) e = (rust, refl)
+its-call (call rust ms) e = (rust, ms, refl)
 
 command-asked : isCall (askedIn command) ≡ true
-unfolding askedIn askedAmong askedBy number if_then_else_ isCall
+unfolding askedIn askedAmong askedBy among number if_then_else_ isCall
 command-asked = refl
 
 -- it begins with 05

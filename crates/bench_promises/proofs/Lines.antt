@@ -17,7 +17,7 @@ use Rattle.protocol.specs.declared.error.Answer.the-variants as answer
 use Rattle.engine.specs.Budget.{nothing}
 use Rattle.requests.specs.Fields.{pairAt}
 use Rattle.requests.specs.Request as requests
-use Rattle.requests.specs.Request.{configOf, askedOf, requestLine}
+use Rattle.requests.specs.Request.{configOf, unknownFlags, askedOf, requestLine}
 use Rattle.requests.specs.Retired.{retiredKind}
 use Rattle.lines.specs.Input.{linesFrom, restFrom}
 use Rattle.dialogue.specs.Dialogue.{unfinishedOf}
@@ -29,6 +29,7 @@ use Rattle.bench_promises.specs.Numbers.{field}
 use Rattle.bench_promises.specs.Kinds.{rows, bad, askedAmong, settings, askedIn, askedLine, askedCut}
 use Rattle.bench_promises.specs.RustBench.{runAsked, rustBench, rustPrinted, rustSoFar}
 use Rattle.bench_promises.proofs.Said.{end-said}
+use Rattle.bench_promises.proofs.Flags.{unknown}
 use Rattle.bench_promises.proofs.Asked.{pair-at, settings-of, same-retired}
 use Rattle.bench_promises.proofs.Rows.{same-bad, every-kind}
 
@@ -39,19 +40,19 @@ few-retries s h small = rw (pair-at 2 s h) (omega (arith, small 2, small 3))
 
 request-line : (bytes : List ℕ) → AllBytes bytes → (lines : List (List ℕ)) (rest : List ℕ) → requestThen (requestLine bytes) bytes lines rest ≡ runAsked (askedIn bytes) lines rest
 unfolding requestLine askedIn if_then_else_
-request-line bytes small lines rest = by (ltb (length bytes) 4) refl (ltb 3 (getD bytes 1 0)) refl
+request-line bytes small lines rest = rw (← unknown (getD bytes 1 0) (small 1)) (by (ltb (length bytes) 4) refl (unknownFlags (getD bytes 1 0)) refl)
   where
     own : Config
     own = settings (getD bytes 1 0) (field 2 2 bytes)
 
-    by : (a : Bool) → ltb (length bytes) 4 ≡ a → (b : Bool) → ltb 3 (getD bytes 1 0) ≡ b
+    by : (a : Bool) → ltb (length bytes) 4 ≡ a → (b : Bool) → unknownFlags (getD bytes 1 0) ≡ b
         → requestThen (if a then requests.bad else if b then requests.bad else askedOf (getD bytes 0 0) (configOf bytes) (drop 4 bytes)) bytes lines rest
         ≡ runAsked (if a then bad else if b then bad else askedAmong rows (getD bytes 0 0) own (drop 4 bytes)) lines rest
     by true a b p = same-bad bytes lines rest own requests.bad refl
     by false a true p = same-bad bytes lines rest own requests.bad refl
     by false a false p =
         let h : 4 ≤ length bytes = ltb-false (length bytes) 4 a in
-        rw (settings-of bytes h (ltb-false 3 (getD bytes 1 0) p)) (every-kind bytes lines rest own (few-retries bytes h small) small (getD bytes 0 0))
+        rw (settings-of bytes h (small 1) p) (every-kind bytes lines rest own (few-retries bytes h small) small (getD bytes 0 0))
 
 pub each-line : (lines : List (List ℕ)) (rest : List ℕ) → benchOf lines rest ≡ rustBench lines rest
 unfolding benchOf requestOf requestThen unfinishedOf rustBench askedLine askedCut runAsked nothing if_then_else_

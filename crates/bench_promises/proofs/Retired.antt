@@ -125,13 +125,13 @@ so-retired input (inr b) = rw (← b .same, so-begins (0x30 ∷ 0x44 ∷ []) (b 
 
 -- ---- such an input
 
-retired-bench : (input : List ℕ) → isRetired input ≡ true → rustBench (linesFrom [] input) (restFrom [] input) ≡ endLine answer.RetiredKind 0 [] ∷ []
+retired-bench : (input : List ℕ) → isRetired input ≡ true → rustBench (linesFrom [] input) (restFrom [] input) ≡ endLine answer.RetiredKind 0 0 [] ∷ []
 unfolding rustBench runAsked askedLine askedCut if_then_else_
 retired-bench input e =
     let first : isRetired (beforeFeed input) ≡ true = first-retired input ∙ e in
-    by-first (λ said. said ≡ endLine answer.RetiredKind 0 [] ∷ []) input (rw first) (λ lines rest. rw first)
+    by-first (λ said. said ≡ endLine answer.RetiredKind 0 0 [] ∷ []) input (rw first) (λ lines rest. rw first)
 
-retired-printed : (input : List ℕ) → BeginsRetired input → rustPrinted input ≡ ascii "FF0F000000000000\n"
+retired-printed : (input : List ℕ) → BeginsRetired input → rustPrinted input ≡ ascii "FF0F00000000000000000000\n"
 unfolding rustPrinted feeds feedBytes hexOf digitOf endLine lowFirst ascii if_then_else_
 retired-printed input b = rw (retired-bench input (so-retired input b))
 
@@ -310,7 +310,7 @@ no-more-read read wrote so-far left b =
     by (ltb longestDigits (length (restFrom [] read))) refl (length (linesFrom [] read)) refl
   where
     last : List ℕ
-    last = endLine answer.RetiredKind 0 []
+    last = endLine answer.RetiredKind 0 0 []
 
     said : rustBench (linesFrom [] read) (restFrom [] read) ≡ last ∷ []
     said = retired-bench read (so-retired read b)

@@ -32,9 +32,10 @@ use Rattle.original.specs.Fed.{fed}
 use Rattle.original.specs.ByKind.{rustOf, Defined, Added, long-frame, input-given, keys-written, key-written, EqualByKind}
 use Rattle.original.proofs.Equal.{equal}
 use Rattle.original.proofs.ByKind.{equal-by-kind}
-use Rattle.bench_promises.specs.Kinds.{Row, unlike, rows, Asked, bad, call, askedBy, askedAmong}
+use Rattle.bench_promises.specs.Kinds.{Row, unlike, rows, waitedBy, Asked, bad, call, askedBy, askedAmong}
 use Rattle.bench_promises.specs.RustBench.{transferLines, runAsked}
 use Rattle.bench_promises.proofs.Said.{end-said}
+use Rattle.bench_promises.proofs.Lasts.{perFrameOf, lasts-begin}
 use Rattle.bench_promises.proofs.Follow.{lent, follow}
 use Rattle.bench_promises.proofs.Asked.{byte-at, pair-at, quad-at, missing, long, wide, called, other, exact}
 
@@ -45,7 +46,7 @@ pick false first second = second
 
 -- the row of a kind
 abbrev rowAmong : List Row → ℕ → Row
-rowAmong [] k = record { kind = 0; fixed = 0; least = 0; most = 0; size = λ s. 0; call = λ config s p b os. Err answer.BadLine begun os leaving b }
+rowAmong [] k = record { kind = 0; fixed = 0; least = 0; most = 0; size = λ s. 0; perFrame = true; call = λ config s p b os. Err answer.BadLine begun os leaving b }
 rowAmong (first ∷ more) k = pick (eqb k (first .kind)) first (rowAmong more k)
 
 abbrev row : ℕ → Row
@@ -88,31 +89,36 @@ module _ (line : List ℕ) (lines : List (List ℕ)) (rest : List ℕ) (c : Conf
   abbrev fedAs : Row → Kind → List BusOutcome → Read
   fedAs row k os = fed (startOf k c (length (payload row)) (length (buffer row)) 39) (payload row) (buffer row) lent [] os
 
-  same-call : (row : Row) (k : Kind) → ((os : List BusOutcome) → row .call c args (payload row) (buffer row) os ≡ fedAs row k os)
-      → Same (request.Call k c (4 + row .fixed) (row .size args)) (call (row .call c args (payload row) (buffer row)))
+  -- what is asked for by a row
+  abbrev rustIn : Row → List BusOutcome → Read
+  rustIn row = row .call c args (payload row) (buffer row)
+
+  same-call : (row : Row) (k : Kind) → row .perFrame ≡ perFrameOf k → c .«max_bus_retries» ≤ 65535 → ((os : List BusOutcome) → row .call c args (payload row) (buffer row) os ≡ fedAs row k os)
+      → Same (request.Call k c (4 + row .fixed) (row .size args)) (call (rustIn row) (waitedBy (row .perFrame) c (rustIn row)))
   unfolding requestThen runAsked transferLines
-  same-call row k e =
+  same-call row k own-budgets small e =
       let own : length (buffer row) ≡ row .size args = length-replicate {A = ℕ} (row .size args) 0xA5 in
       rw (← drop-drop (row .fixed) 4 line)
       (ap (λ (n : ℕ). callRun (startOf k c (length (payload row)) n 39) (payload row) (buffer row) lines rest) (sym own)
-      ∙ sym (follow lines (row .call c args (payload row) (buffer row)) rest (payload row) (startOf k c (length (payload row)) (length (buffer row)) 39) (buffer row) [] [] e))
+      ∙ sym (follow lines c (row .perFrame) (rustIn row) rest (payload row) (startOf k c (length (payload row)) (length (buffer row)) 39) (buffer row) [] []
+      (lasts-begin c small k (row .perFrame) own-budgets (length (payload row)) (length (buffer row)) 39) e))
 
-  leaf : (row : Row) (k : Kind) (q : Request) → Tests row k q → (Within row → (os : List BusOutcome) → row .call c args (payload row) (buffer row) os ≡ fedAs row k os)
+  leaf : c .«max_bus_retries» ≤ 65535 → (row : Row) (k : Kind) (q : Request) → row .perFrame ≡ perFrameOf k → Tests row k q → (Within row → (os : List BusOutcome) → row .call c args (payload row) (buffer row) os ≡ fedAs row k os)
       → Same q (askedBy row c args)
   unfolding askedBy if_then_else_
-  leaf row k q t e =
+  leaf small row k q own-budgets t e =
       by (ltb (length args) (row .fixed)) refl (ltb (length args - row .fixed) (row .least)) refl (ltb (row .most) (length args - row .fixed)) refl (ltb 8192 (row .size args)) refl
     where
       by : (a : Bool) → ltb (length args) (row .fixed) ≡ a → (b : Bool) → ltb (length args - row .fixed) (row .least) ≡ b
           → (d : Bool) → ltb (row .most) (length args - row .fixed) ≡ d → (w : Bool) → ltb 8192 (row .size args) ≡ w
-          → Same q (if a then bad else if b then bad else if d then bad else if w then bad else call (row .call c args (payload row) (buffer row)))
+          → Same q (if a then bad else if b then bad else if d then bad else if w then bad else call (rustIn row) (waitedBy (row .perFrame) c (rustIn row)))
       by true a b p d q′ w r = same-bad q (t .missing (ltb-true _ _ a))
       by false a true p d q′ w r = same-bad q (t .short (ltb-false _ _ a) (ltb-true _ _ p))
       by false a false p true q′ w r = same-bad q (t .long (ltb-false _ _ a) (ltb-true _ _ q′))
       by false a false p false q′ true r = same-bad q (t .wide (ltb-false _ _ a) (ltb-true _ _ r))
       by false a false p false q′ false r =
           let within : Within row = record { fixed = ltb-false _ _ a; least = ltb-false _ _ p; most = ltb-false _ _ q′; size = ltb-false _ _ r } in
-          rw (t .good within) (same-call row k (e within))
+          rw (t .good within) (same-call row k own-budgets small (e within))
 
   -- a payload of any length up to 8,192
   any-length : (row : Row) (k : Kind) (size : ℕ) → row .least ≡ 0 → row .most ≡ 8192 → (row .fixed ≤ length args → size ≡ row .size args)
@@ -144,13 +150,13 @@ module _ (line : List ℕ) (lines : List (List ℕ)) (rest : List ℕ) (c : Conf
       by f h false q = other k c (row .fixed) size (length args) p (eqb-false _ _ q)
 
   -- a row whose payload has any length, and one whose payload has one
-  any : (row : Row) (k : Kind) (size : ℕ) → row .least ≡ 0 → row .most ≡ 8192 → (row .fixed ≤ length args → size ≡ row .size args)
+  any : c .«max_bus_retries» ≤ 65535 → (row : Row) (k : Kind) (size : ℕ) → row .perFrame ≡ perFrameOf k → row .least ≡ 0 → row .most ≡ 8192 → (row .fixed ≤ length args → size ≡ row .size args)
       → (Within row → (os : List BusOutcome) → row .call c args (payload row) (buffer row) os ≡ fedAs row k os) → Same (calledOf k c (row .fixed) size (length args)) (askedBy row c args)
-  any row k size l m e f = leaf row k (calledOf k c (row .fixed) size (length args)) (any-length row k size l m e) f
+  any small row k size b l m e f = leaf small row k (calledOf k c (row .fixed) size (length args)) b (any-length row k size l m e) f
 
-  one : (row : Row) (k : Kind) (p size : ℕ) → p ≤ 8192 → row .least ≡ p → row .most ≡ p → (row .fixed ≤ length args → size ≡ row .size args)
+  one : c .«max_bus_retries» ≤ 65535 → (row : Row) (k : Kind) (p size : ℕ) → p ≤ 8192 → row .perFrame ≡ perFrameOf k → row .least ≡ p → row .most ≡ p → (row .fixed ≤ length args → size ≡ row .size args)
       → (Within row → (os : List BusOutcome) → row .call c args (payload row) (buffer row) os ≡ fedAs row k os) → Same (exactOf k c (row .fixed) p size (length args)) (askedBy row c args)
-  one row k p size few l m e f = leaf row k (exactOf k c (row .fixed) p size (length args)) (one-length row k p size few l m e) f
+  one small row k p size few b l m e f = leaf small row k (exactOf k c (row .fixed) p size (length args)) b (one-length row k p size few l m e) f
 
   -- two chains of choices, choice by choice
   both : (t : Bool) (q r : Request) (a b : Asked) → Same q a → Same r b → Same (if t then q else r) (if t then a else b)
@@ -207,100 +213,100 @@ module _ (line : List ℕ) (lines : List (List ℕ)) (rest : List ℕ) (c : Conf
 
     write-dataflash : Same (calledOf (kind.WriteDataflash (pairAt 0 args)) c 2 0 (length args)) (askedBy (row 0x01) c args)
     write-dataflash =
-        any (row 0x01) (kind.WriteDataflash (pairAt 0 args)) 0 refl refl (λ h. refl)
+        any small (row 0x01) (kind.WriteDataflash (pairAt 0 args)) 0 refl refl refl (λ h. refl)
         (λ w os. rw (pair-at 0 args (omega (arith, w .fixed))) (same (row 0x01) _ os tt))
 
     read-dataflash : Same (exactOf (kind.ReadDataflash (pairAt 0 args)) c 4 0 (pairAt 2 args) (length args)) (askedBy (row 0x02) c args)
     read-dataflash =
-        one (row 0x02) (kind.ReadDataflash (pairAt 0 args)) 0 (pairAt 2 args) (omega arith) refl refl (λ h. sym (pair-at 2 args h))
+        one small (row 0x02) (kind.ReadDataflash (pairAt 0 args)) 0 (pairAt 2 args) (omega arith) refl refl refl (λ h. sym (pair-at 2 args h))
         (λ w os. rw (pair-at 0 args (omega (arith, w .fixed))) (same (row 0x02) _ os tt))
 
     write-register : Same (calledOf (kind.WriteRegister (getD args 0 0)) c 1 0 (length args)) (askedBy (row 0x03) c args)
     write-register =
-        any (row 0x03) (kind.WriteRegister (getD args 0 0)) 0 refl refl (λ h. refl)
+        any small (row 0x03) (kind.WriteRegister (getD args 0 0)) 0 refl refl refl (λ h. refl)
         (λ w os. rw (byte-at 0 args (omega (arith, w .fixed))) (same (row 0x03) _ os tt))
 
     read-register : Same (exactOf (kind.ReadRegister (getD args 0 0)) c 3 0 (pairAt 1 args) (length args)) (askedBy (row 0x04) c args)
     read-register =
-        one (row 0x04) (kind.ReadRegister (getD args 0 0)) 0 (pairAt 1 args) (omega arith) refl refl (λ h. sym (pair-at 1 args h))
+        one small (row 0x04) (kind.ReadRegister (getD args 0 0)) 0 (pairAt 1 args) (omega arith) refl refl refl (λ h. sym (pair-at 1 args h))
         (λ w os. rw (byte-at 0 args (omega (arith, w .fixed))) (same (row 0x04) _ os tt))
 
     dispatch-command : Same (calledOf (kind.DispatchCommand (quadAt 0 args)) c 6 (pairAt 4 args) (length args)) (askedBy (row 0x05) c args)
     dispatch-command =
-        any (row 0x05) (kind.DispatchCommand (quadAt 0 args)) (pairAt 4 args) refl refl (λ h. sym (pair-at 4 args h))
+        any small (row 0x05) (kind.DispatchCommand (quadAt 0 args)) (pairAt 4 args) refl refl refl (λ h. sym (pair-at 4 args h))
         (λ w os. rw (quad-at 0 args (omega (arith, w .fixed)))
         (either-read (rust.dispatchPanics (payload (row 0x05)) (buffer (row 0x05))) _ _ _ (λ t. added (row 0x05) _ os answer.NotACommand (input-given (quadAt 0 args) t)) (λ t. sym (same (row 0x05) _ os t))))
 
     read-buffer : Same (exactOf (kind.ReadBuffer (getD args 0 0)) c 3 0 (pairAt 1 args) (length args)) (askedBy (row 0x06) c args)
     read-buffer =
-        one (row 0x06) (kind.ReadBuffer (getD args 0 0)) 0 (pairAt 1 args) (omega arith) refl refl (λ h. sym (pair-at 1 args h))
+        one small (row 0x06) (kind.ReadBuffer (getD args 0 0)) 0 (pairAt 1 args) (omega arith) refl refl refl (λ h. sym (pair-at 1 args h))
         (λ w os. rw (byte-at 0 args (omega (arith, w .fixed))) (same (row 0x06) _ os (small-buffer (row 0x06) w)))
 
     write-buffer : Same (calledOf (kind.WriteBuffer (getD args 0 0)) c 1 0 (length args)) (askedBy (row 0x07) c args)
     write-buffer =
-        any (row 0x07) (kind.WriteBuffer (getD args 0 0)) 0 refl refl (λ h. refl)
+        any small (row 0x07) (kind.WriteBuffer (getD args 0 0)) 0 refl refl refl (λ h. refl)
         (λ w os. rw (byte-at 0 args (omega (arith, w .fixed))) (same (row 0x07) _ os tt))
 
     read-security-keys : Same (exactOf kind.ReadSecurityKeys c 0 0 28 (length args)) (askedBy (row 0x08) c args)
     read-security-keys =
-        one (row 0x08) kind.ReadSecurityKeys 0 28 (omega arith) refl refl (λ h. refl)
+        one small (row 0x08) kind.ReadSecurityKeys 0 28 (omega arith) refl refl refl (λ h. refl)
         (λ w os. same (row 0x08) _ os (own-size 28))
 
     write-security-keys : Same (calledOf kind.WriteSecurityKeys c 0 0 (length args)) (askedBy (row 0x09) c args)
     write-security-keys =
-        any (row 0x09) kind.WriteSecurityKeys 0 refl refl (λ h. refl)
+        any small (row 0x09) kind.WriteSecurityKeys 0 refl refl refl (λ h. refl)
         (λ w os. either (unlike 28 (payload (row 0x09))) _ _ (buffer (row 0x09)) _
         (λ t. added (row 0x09) _ os answer.WrongBuffer (keys-written (unlike-not 28 (payload (row 0x09)) t))) (λ t. sym (same (row 0x09) _ os (unlike-same 28 (payload (row 0x09)) t))))
 
     read-authentication-key : Same (exactOf kind.ReadAuthenticationKey c 0 0 16 (length args)) (askedBy (row 0x0A) c args)
     read-authentication-key =
-        one (row 0x0A) kind.ReadAuthenticationKey 0 16 (omega arith) refl refl (λ h. refl)
+        one small (row 0x0A) kind.ReadAuthenticationKey 0 16 (omega arith) refl refl refl (λ h. refl)
         (λ w os. same (row 0x0A) _ os (own-size 16))
 
     write-authentication-key : Same (calledOf kind.WriteAuthenticationKey c 0 0 (length args)) (askedBy (row 0x0B) c args)
     write-authentication-key =
-        any (row 0x0B) kind.WriteAuthenticationKey 0 refl refl (λ h. refl)
+        any small (row 0x0B) kind.WriteAuthenticationKey 0 refl refl refl (λ h. refl)
         (λ w os. either (unlike 16 (payload (row 0x0B))) _ _ (buffer (row 0x0B)) _
         (λ t. added (row 0x0B) _ os answer.WrongBuffer (key-written (unlike-not 16 (payload (row 0x0B)) t))) (λ t. sym (same (row 0x0B) _ os (unlike-same 16 (payload (row 0x0B)) t))))
 
     send-access-key : Same (exactOf (kind.SendAccessKey (pairAt 0 args) (pairAt 2 args)) c 4 0 0 (length args)) (askedBy (row 0x0E) c args)
     send-access-key =
-        one (row 0x0E) (kind.SendAccessKey (pairAt 0 args) (pairAt 2 args)) 0 0 (omega arith) refl refl (λ h. refl)
+        one small (row 0x0E) (kind.SendAccessKey (pairAt 0 args) (pairAt 2 args)) 0 0 (omega arith) refl refl refl (λ h. refl)
         (λ w os. rw (pair-at 0 args (omega (arith, w .fixed)), pair-at 2 args (omega (arith, w .fixed))) (same (row 0x0E) _ os (drop-of-length-le args {i = 4} (omega (arith, w .most, w .fixed)))))
 
     read-mfg-info-c : Same (exactOf kind.ReadMfgInfoC c 2 0 (pairAt 0 args) (length args)) (askedBy (row 0x0F) c args)
     read-mfg-info-c =
-        one (row 0x0F) kind.ReadMfgInfoC 0 (pairAt 0 args) (omega arith) refl refl (λ h. sym (pair-at 0 args h))
+        one small (row 0x0F) kind.ReadMfgInfoC 0 (pairAt 0 args) (omega arith) refl refl refl (λ h. sym (pair-at 0 args h))
         (λ w os. same (row 0x0F) _ os tt)
 
     write-mfg-info-c : Same (calledOf (kind.WriteMfgInfoC (pairAt 0 args) (pairAt 2 args)) c 4 0 (length args)) (askedBy (row 0x10) c args)
     write-mfg-info-c =
-        any (row 0x10) (kind.WriteMfgInfoC (pairAt 0 args) (pairAt 2 args)) 0 refl refl (λ h. refl)
+        any small (row 0x10) (kind.WriteMfgInfoC (pairAt 0 args) (pairAt 2 args)) 0 refl refl refl (λ h. refl)
         (λ w os. rw (pair-at 0 args (omega (arith, w .fixed)), pair-at 2 args (omega (arith, w .fixed))) (same (row 0x10) _ os tt))
 
     read-mfg-info : Same (exactOf kind.ReadMfgInfo c 2 0 (pairAt 0 args) (length args)) (askedBy (row 0x11) c args)
     read-mfg-info =
-        one (row 0x11) kind.ReadMfgInfo 0 (pairAt 0 args) (omega arith) refl refl (λ h. sym (pair-at 0 args h))
+        one small (row 0x11) kind.ReadMfgInfo 0 (pairAt 0 args) (omega arith) refl refl refl (λ h. sym (pair-at 0 args h))
         (λ w os. same (row 0x11) _ os tt)
 
     write-mfg-info : Same (calledOf kind.WriteMfgInfo c 0 0 (length args)) (askedBy (row 0x12) c args)
     write-mfg-info =
-        any (row 0x12) kind.WriteMfgInfo 0 refl refl (λ h. refl)
+        any small (row 0x12) kind.WriteMfgInfo 0 refl refl refl (λ h. refl)
         (λ w os. same (row 0x12) _ os tt)
 
     read-charging-voltage-override : Same (exactOf kind.ReadChargingVoltageOverride c 0 0 10 (length args)) (askedBy (row 0x13) c args)
     read-charging-voltage-override =
-        one (row 0x13) kind.ReadChargingVoltageOverride 0 10 (omega arith) refl refl (λ h. refl)
+        one small (row 0x13) kind.ReadChargingVoltageOverride 0 10 (omega arith) refl refl refl (λ h. refl)
         (λ w os. same (row 0x13) _ os (own-size 10))
 
     write-charging-voltage-override : Same (exactOf kind.WriteChargingVoltageOverride c 0 10 0 (length args)) (askedBy (row 0x14) c args)
     write-charging-voltage-override =
-        one (row 0x14) kind.WriteChargingVoltageOverride 10 0 (omega arith) refl refl (λ h. refl)
+        one small (row 0x14) kind.WriteChargingVoltageOverride 10 0 (omega arith) refl refl refl (λ h. refl)
         (λ w os. rw (← by-name os .override-figures (payload (row 0x14))) (same (row 0x14) _ os (omega (arith, w .least, w .most), all-bytes)))
 
     write-with-retries : Same (calledOf kind.WriteWithRetries c 0 0 (length args)) (askedBy (row 0x15) c args)
     write-with-retries =
-        any (row 0x15) kind.WriteWithRetries 0 refl refl (λ h. refl)
+        any small (row 0x15) kind.WriteWithRetries 0 refl refl refl (λ h. refl)
         (λ w os. either (rust.writePanics (c .«pec_write») (payload (row 0x15))) _ _ (buffer (row 0x15)) _
         (λ t. added (row 0x15) _ os answer.DataTooLarge (long-frame t)) (λ t. sym (same (row 0x15) _ os t)))
 

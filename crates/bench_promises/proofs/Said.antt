@@ -31,13 +31,13 @@ pair-low : (n : ℕ) → pairOf n ≡ lowFirst 2 n
 unfolding pairOf lowFirst
 pair-low n = refl
 
-pub end-said : (a : Answer) (tally : Tally) (buffer : List ℕ) → endSaid a tally buffer ≡ endLine a (tally .waits) buffer
+pub end-said : (a : Answer) (tally : Tally) (buffer : List ℕ) → endSaid a tally buffer ≡ endLine a (tally .waits) (tally .«waited_ms») buffer
 unfolding endSaid endLine
-end-said a tally buffer = rw (← pair-low (detailOf a), ← quad-low (tally .waits))
+end-said a tally buffer = rw (← pair-low (detailOf a), ← quad-low (tally .waits), ← quad-low (tally .«waited_ms»))
 
-pub last-said : (tally : Tally) (rest buffer : List ℕ) → lastOf tally (length rest) buffer ≡ cutLine rest (tally .waits) buffer
+pub last-said : (tally : Tally) (rest buffer : List ℕ) → lastOf tally (length rest) buffer ≡ cutLine rest (tally .waits) (tally .«waited_ms») buffer
 unfolding lastOf cutSaid cutLine if_then_else_
-last-said tally [] buffer = rw (← quad-low (tally .waits))
+last-said tally [] buffer = rw (← quad-low (tally .waits), ← quad-low (tally .«waited_ms»))
 last-said tally (b ∷ rest) buffer = rw (ne-eqb (suc (length rest)) 0 (λ e. omega arith)) (end-said answer.BadLine tally buffer)
 
 pub read-said : (command count : ℕ) → readSaid command count ≡ 0x01 ∷ command ∷ lowFirst 2 count

@@ -1,8 +1,8 @@
--- The kinds of docs/BENCH.md, one to a row: its arguments, and the Rust's function that they are for. (01, The bench program)
+-- The kinds of docs/BENCH.md, one to a row: its arguments, and the Rust's function that they are for. (01, The bench program; 02, W-203)
 -- Assumes nothing.
-use Prim.Native.Nat.{ℕ, _-_}
+use Prim.Native.Nat.{ℕ, _-_, _*_}
 use mathlib.Core.Bool.{Bool, true, false, not, _&&_, _||_}
-use mathlib.Core.List.{List, [], _∷_}
+use mathlib.Core.List.{List, [], _∷_, map}
 use lib.ListN.{length, drop, getD, replicate}
 use lib.Dec.{ltb, eqb}
 use Rattle.hex.specs.Digits.{inDigits}
@@ -11,9 +11,10 @@ use Rattle.protocol.specs.Pick.{if_then_else_}
 use Rattle.protocol.specs.declared.common.Config.{Config}
 use Rattle.protocol.specs.declared.error.Answer.{Answer}
 use Rattle.protocol.specs.declared.error.Answer.the-variants as answer
-use Rattle.original.specs.Bus.{BusOutcome, Log, begun, Came, Err, Read, _leaving_}
+use Rattle.original.specs.Bus.{BusOutcome, told, Log, begun, Came, Err, Read, _leaving_, waitsIn}
 use Rattle.original.specs.OriginalInterface as rust
 use Rattle.original.specs.OriginalR5 as rust-r5
+use Rattle.waits.specs.Costs.{budgetCost, framesCost}
 use Rattle.bench_promises.specs.Numbers.{field}
 
 -- what a line of a kind asks for
@@ -26,6 +27,8 @@ pub record Row : Type 0 where
   pub most : ℕ
   -- the length of its buffer, by the arguments
   pub size : List ℕ → ℕ
+  -- whether each frame has a budget of its own, and not the whole call one
+  pub perFrame : Bool
   -- the Rust's function of its name
   pub call : Config → (arguments payload buffer : List ℕ) → List BusOutcome → Read
 
@@ -37,6 +40,7 @@ writes kind fixed call = record {
   least = 0;
   most = 8192;
   size = λ arguments. 0;
+  perFrame = true;
   call = λ config arguments payload buffer os. call config arguments payload begun os leaving buffer;
 }
 
@@ -48,6 +52,7 @@ reads kind fixed call = record {
   least = 0;
   most = 0;
   size = λ arguments. field (fixed - 2) 2 arguments;
+  perFrame = false;
   call = λ config arguments payload buffer os. call config arguments buffer begun os;
 }
 
@@ -59,6 +64,7 @@ fills kind size call = record {
   least = 0;
   most = 0;
   size = λ arguments. size;
+  perFrame = false;
   call = λ config arguments payload buffer os. call config buffer begun os;
 }
 
@@ -83,6 +89,7 @@ rows =
       least = 0;
       most = 8192;
       size = λ arguments. field 4 2 arguments;
+      perFrame = false;
       call = λ config arguments input output os.
           if rust.dispatchPanics input output then Err answer.NotACommand begun os leaving output
           else rust.dispatchCommand config (field 0 4 arguments) input output begun os;
@@ -99,6 +106,7 @@ rows =
       least = 0;
       most = 0;
       size = λ arguments. 0;
+      perFrame = true;
       call = λ config arguments payload buffer os. rust-r5.sendAccessKey config (field 0 2 arguments) (field 2 2 arguments) begun os leaving buffer;
     }
     ∷ reads 0x0F 2 (λ config arguments buffer. rust-r5.readMfgInfoC config buffer)
@@ -112,17 +120,25 @@ rows =
       least = 10;
       most = 10;
       size = λ arguments. 0;
+      perFrame = true;
       call = λ config arguments payload buffer os. rust-r5.writeChargingVoltageOverride config (rust-r5.overrideFigures payload) begun os leaving buffer;
     }
     ∷ writes 0x15 0 (λ config arguments frame log os.
     refusedIf (rust.writePanics (config .«pec_write») frame) answer.DataTooLarge log os (rust.writeWithRetries config frame (config .«pec_write») log os))
     ∷ []
 
--- what a request line asks for: a function of the Rust, or nothing, since it is bad or its kind is retired
+-- how long the waits of a function of the Rust are, by the outcomes so far: 10 ms for each of its delays. Where waits grow, which the Rust's do not, what they come to
+-- is in closed words (`waits`), with a budget for each frame or one for the whole call
+unfoldable pub waitedBy : (perFrame : Bool) → Config → (List BusOutcome → Read) → List BusOutcome → ℕ
+waitedBy perFrame config rust os =
+    if config .«growing_waits» then (if perFrame then framesCost true (config .«max_bus_retries») 0 (map told os) else budgetCost true (waitsIn (rust os)))
+    else waitsIn (rust os) * 10
+
+-- what a request line asks for: a function of the Rust and how long its waits are, or nothing, since it is bad or its kind is retired
 pub data Asked : Type 0 where
   bad : Asked
   retired : Asked
-  call : (List BusOutcome → Read) → Asked
+  call : (rust : List BusOutcome → Read) (ms : List BusOutcome → ℕ) → Asked
 
 -- by a row: bad where arguments are missing, the payload is shorter or longer than the kind has it, or the buffer is over 8,192 bytes. A buffer starts as A5
 unfoldable pub askedBy : Row → Config → List ℕ → Asked
@@ -131,26 +147,36 @@ askedBy row config arguments =
     if ltb (length arguments - row .fixed) (row .least) then bad else
     if ltb (row .most) (length arguments - row .fixed) then bad else
     if ltb 8192 (row .size arguments) then bad else
-    call (row .call config arguments (drop (row .fixed) arguments) (replicate (row .size arguments) 0xA5))
+    let rust : List BusOutcome → Read = row .call config arguments (drop (row .fixed) arguments) (replicate (row .size arguments) 0xA5) in
+    call rust (waitedBy (row .perFrame) config rust)
 
 -- by the first row of the kind; bad where there is none
 unfoldable pub askedAmong : List Row → ℕ → Config → List ℕ → Asked
 askedAmong [] kind config arguments = bad
 askedAmong (row ∷ more) kind config arguments = if eqb kind (row .kind) then askedBy row config arguments else askedAmong more kind config arguments
 
--- flags: bit 0 is `pec_write`, bit 1 `pec_read`
+-- one of these numbers
+unfoldable pub among : List ℕ → ℕ → Bool
+among [] n = false
+among (k ∷ ks) n = eqb n k || among ks n
+
+-- flags: bit 0 is `pec_write`, bit 1 `pec_read`, bit 3 `growing_waits`; no other means anything
+abbrev pub knownFlags : List ℕ
+knownFlags = 0x00 ∷ 0x01 ∷ 0x02 ∷ 0x03 ∷ 0x08 ∷ 0x09 ∷ 0x0A ∷ 0x0B ∷ []
+
 abbrev pub settings : ℕ → ℕ → Config
 settings flags retries = record {
   «max_bus_retries» = retries;
-  «pec_write» = eqb flags 1 || eqb flags 3;
-  «pec_read» = eqb flags 2 || eqb flags 3;
+  «pec_write» = among (0x01 ∷ 0x03 ∷ 0x09 ∷ 0x0B ∷ []) flags;
+  «pec_read» = among (0x02 ∷ 0x03 ∷ 0x0A ∷ 0x0B ∷ []) flags;
+  «growing_waits» = among (0x08 ∷ 0x09 ∷ 0x0A ∷ 0x0B ∷ []) flags;
 }
 
 -- the bytes of a request line: kind, flags, retries, arguments. It is bad where the header is short, a flag is not known, the kind is not known, or its lengths fail
 unfoldable pub askedIn : List ℕ → Asked
 askedIn line =
     if ltb (length line) 4 then bad else
-    if ltb 3 (getD line 1 0) then bad else
+    if not (among knownFlags (getD line 1 0)) then bad else
     askedAmong rows (getD line 0 0) (settings (getD line 1 0) (field 2 2 line)) (drop 4 line)
 
 -- ---- a request line as characters

@@ -1,5 +1,5 @@
 -- What is promised of the bench program: whatever is on standard input, however it is cut, what is written is what the Rust does, in hexadecimal, but for
--- the kinds that were retired. (01, The bench program; 02, W-210)
+-- the kinds that were retired and, where waits grow, for their milliseconds, which are in closed words. (01, The bench program; 02, W-203, W-210)
 -- Assumes nothing.
 use Prim.Native.Nat.{ℕ, _<_}
 use mathlib.Core.Path.{_≡_}
@@ -21,12 +21,12 @@ use Rattle.bench_promises.specs.Retired.{RetiredKinds}
 pub record Longest (digits : ℕ) : Type 0 where
   pub line : List ℕ
   pub long : length line ≡ digits
-  pub valid : (rust : List BusOutcome → Read) × (askedLine line ≡ call rust)
+  pub valid : (rust : List BusOutcome → Read) × (ms : List BusOutcome → ℕ) × (askedLine line ≡ call rust ms)
   pub longer-request : (longer : List ℕ) → digits < length longer → isRetired longer ≡ false → askedLine longer ≡ bad
   pub longer-outcome : (asked : ℕ) (longer : List ℕ) → digits < length longer → heardIn asked (lineBytes longer) ≡ stopped answer.BadLine
 
 pub record LineByLine : Type 0 where
-  -- from line to line the bench is the Rust, and refuses what was retired
+  -- from line to line the bench is the Rust, and refuses what was retired; where waits grow their milliseconds are in closed words
   pub lines : (lines : List (List ℕ)) (rest : List ℕ) → benchOf lines rest ≡ rustBench lines rest
   -- so is what the program's loop writes, wherever it may stand
   pub writes : Writes rustPrinted rustSoFar

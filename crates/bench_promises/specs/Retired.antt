@@ -62,13 +62,13 @@ pub record NoCall : Type 0 where
 
 pub record RetiredKinds : Type 0 where
   -- such an input is answered by this line, whatever follows, and by nothing else
-  pub answered : (input : List ℕ) → BeginsRetired input → rustPrinted input ≡ ascii "FF0F000000000000\n"
+  pub answered : (input : List ℕ) → BeginsRetired input → rustPrinted input ≡ ascii "FF0F00000000000000000000\n"
   -- no other input gives 15
   pub only : (input : List ℕ) → Says15 (rustPrinted input) → BeginsRetired input
   -- in whatever pieces the input comes: the same two, of all that a run that is over has read and written
   pub in-pieces : (first : Desk) → Fresh first → {rounds : ℕ} {read wrote chunk : List ℕ} {end : Bool} {d : Desk} → Reached first rounds read wrote chunk end d
       → d .session .on ≡ false → d .session .laid ≡ 0
-      → (BeginsRetired read → wrote ≡ ascii "FF0F000000000000\n") × (Says15 wrote → BeginsRetired read)
+      → (BeginsRetired read → wrote ≡ ascii "FF0F00000000000000000000\n") × (Says15 wrote → BeginsRetired read)
   -- no further piece is read after that line: more is read only while it is neither whole nor longer than the longest line that is valid
   pub no-more : (first : Desk) → Fresh first → {rounds : ℕ} {read wrote chunk : List ℕ} {d : Desk} → Reached first rounds read wrote chunk false d
       → Ready d → length chunk ≤ d .session .at → BeginsRetired read → (linesFrom [] read ≡ []) × (length read ≤ longestDigits)

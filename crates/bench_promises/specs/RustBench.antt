@@ -1,4 +1,5 @@
--- The bench program over the Rust's functions: the transfers that its function lists for the outcomes, then its answer, waits and buffer. (01, The bench program)
+-- The bench program over the Rust's functions: the transfers that its function lists for the outcomes, then its answer, waits, how long they were, and buffer.
+-- (01, The bench program; 02, W-203)
 -- Assumes nothing.
 use Prim.Native.Nat.{ℕ, _+_}
 use mathlib.Core.List.{List, [], _∷_, _++_}
@@ -25,14 +26,14 @@ unfoldable pub transferLines : List Made → List (List ℕ)
 transferLines [] = []
 transferLines (t ∷ ts) = transferLine t ∷ transferLines ts
 
--- the end: FF, the answer, its two-byte detail, the four-byte wait count and the buffer
-unfoldable pub endLine : Answer → ℕ → List ℕ → List ℕ
-endLine a waits buffer = 0xFF ∷ numberOf a ∷ lowFirst 2 (detailOf a) ++ lowFirst 4 waits ++ buffer
+-- the end: FF, the answer, its two-byte detail, the wait count and the milliseconds of the waits in four bytes each, and the buffer
+unfoldable pub endLine : Answer → (waits ms : ℕ) → List ℕ → List ℕ
+endLine a waits ms buffer = 0xFF ∷ numberOf a ∷ lowFirst 2 (detailOf a) ++ lowFirst 4 waits ++ lowFirst 4 ms ++ buffer
 
--- no outcomes left: FE, the waits and the buffer; a last line that lacks its line feed is bad
-unfoldable pub cutLine : List ℕ → ℕ → List ℕ → List ℕ
-cutLine [] waits buffer = 0xFE ∷ lowFirst 4 waits ++ buffer
-cutLine (b ∷ rest) waits buffer = endLine answer.BadLine waits buffer
+-- no outcomes left: FE, the waits, their milliseconds and the buffer; a last line that lacks its line feed is bad
+unfoldable pub cutLine : List ℕ → (waits ms : ℕ) → List ℕ → List ℕ
+cutLine [] waits ms buffer = 0xFE ∷ lowFirst 4 waits ++ lowFirst 4 ms ++ buffer
+cutLine (b ∷ rest) waits ms buffer = endLine answer.BadLine waits ms buffer
 
 -- ---- outcome lines
 
@@ -77,12 +78,12 @@ lastAsks (t ∷ u ∷ ts) = lastAsks (u ∷ ts)
 abbrev closed : Log → List ℕ → List (List ℕ)
 closed log line = transferLines (log .transfers) ++ (line ∷ [])
 
--- a function of the Rust that is given all outcomes so far has ended, or it waits for the one of its last transfer
-infixr 10 cameTo_waiting_
-unfoldable pub cameTo_waiting_ : Read → (Log → List ℕ → List (List ℕ)) → List (List ℕ)
-cameTo (Ok log os leaving buffer) waiting f = closed log (endLine answer.Done (log .waits) buffer)
-cameTo (Err a log os leaving buffer) waiting f = closed log (endLine a (log .waits) buffer)
-cameTo (Waiting log leaving buffer) waiting f = f log buffer
+-- a function of the Rust that is given all outcomes so far has ended, with waits of so many milliseconds, or it waits for the one of its last transfer
+infixr 10 cameTo_lasting_waiting_
+unfoldable pub cameTo_lasting_waiting_ : Read → ℕ → (Log → List ℕ → List (List ℕ)) → List (List ℕ)
+cameTo (Ok log os leaving buffer) lasting ms waiting f = closed log (endLine answer.Done (log .waits) ms buffer)
+cameTo (Err a log os leaving buffer) lasting ms waiting f = closed log (endLine a (log .waits) ms buffer)
+cameTo (Waiting log leaving buffer) lasting ms waiting f = f log buffer
 
 infixr 10 heard_goes_stops_
 unfoldable pub heard_goes_stops_ : Heard → (BusOutcome → List (List ℕ)) → (Answer → List (List ℕ)) → List (List ℕ)
@@ -90,21 +91,21 @@ heard outcome o goes f stops g = f o
 heard stopped a goes f stops g = g a
 
 -- all that is printed of a run: `os` are the outcomes so far, `lines` those to come, and `rest` follows the last line feed
-unfoldable pub runOf : (List BusOutcome → Read) → (os : List BusOutcome) → (lines : List (List ℕ)) → (rest : List ℕ) → List (List ℕ)
-runOf rust os [] rest =
-    cameTo rust os
-    waiting (λ log buffer. closed log (cutLine rest (log .waits) buffer))
-runOf rust os (line ∷ lines) rest =
-    cameTo rust os
+unfoldable pub runOf : (rust : List BusOutcome → Read) (ms : List BusOutcome → ℕ) → (os : List BusOutcome) → (lines : List (List ℕ)) → (rest : List ℕ) → List (List ℕ)
+runOf rust ms os [] rest =
+    cameTo rust os lasting ms os
+    waiting (λ log buffer. closed log (cutLine rest (log .waits) (ms os) buffer))
+runOf rust ms os (line ∷ lines) rest =
+    cameTo rust os lasting ms os
     waiting (λ log buffer. heard heardIn (lastAsks (log .transfers)) (lineBytes line)
-    goes (λ o. runOf rust (os ++ (o ∷ [])) lines rest)
-    stops (λ a. closed log (endLine a (log .waits) buffer)))
+    goes (λ o. runOf rust ms (os ++ (o ∷ [])) lines rest)
+    stops (λ a. closed log (endLine a (log .waits) (ms os) buffer)))
 
--- a bad request line has no waits and no buffer, and so has one of a retired kind
+-- a bad request line has no waits, no milliseconds and no buffer, and so has one of a retired kind
 unfoldable pub runAsked : Asked → List (List ℕ) → List ℕ → List (List ℕ)
-runAsked bad lines rest = endLine answer.BadLine 0 [] ∷ []
-runAsked retired lines rest = endLine answer.RetiredKind 0 [] ∷ []
-runAsked (call rust) lines rest = runOf rust [] lines rest
+runAsked bad lines rest = endLine answer.BadLine 0 0 [] ∷ []
+runAsked retired lines rest = endLine answer.RetiredKind 0 0 [] ∷ []
+runAsked (call rust ms) lines rest = runOf rust ms [] lines rest
 
 -- from the lines of the input, and what follows its last line feed, to the lines that are printed
 unfoldable pub rustBench : List (List ℕ) → List ℕ → List (List ℕ)

@@ -46,7 +46,7 @@ window-some start n e = by (inWindow start n) refl (eqb n 0) refl
         let w = within start n a (omega arith) in
         (omega arith, omega (arith, w .0, w .1))
 
-admits-some : (start n w : ℕ) → admitted limit.Window start n w ≡ phase.Waiting → (0 < n) × (n ≤ 8192)
+pub admits-some : (start n w : ℕ) → admitted limit.Window start n w ≡ phase.Waiting → (0 < n) × (n ≤ 8192)
 unfolding admitted measured if_then_else_
 admits-some start n w e = by (ltb w 39) refl
   where

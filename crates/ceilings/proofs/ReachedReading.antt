@@ -17,7 +17,7 @@ use Rattle.protocol.specs.declared.reply.Ask.{Ask}
 use Rattle.protocol.specs.declared.reply.Heard.the-variants as heard
 use Rattle.protocol.proofs.Shared as shared
 use Rattle.engine.specs.Pick.{case_waiting_ended_, case_acknowledged_error_timeout_, case_retry_spent_}
-use Rattle.engine.specs.Budget.{moreOf, nothing, waited, tallied}
+use Rattle.engine.specs.Budget.{waitOf, moreOf, nothing, waited, tallied}
 use Rattle.engine.specs.Bus.{phaseAfter, fitsOf}
 use Rattle.engine.specs.declared.budget.Tally.{Tally}
 use Rattle.engine.specs.declared.bus.Outcome.the-variants as outcome
@@ -79,24 +79,24 @@ module _ (its : ReadPlan) (p n w : ℕ) where
     heading = heading;
     received = i;
     budget = record { left = left };
-    tally = record { waits = waits; transfers = t .transfers };
+    tally = record { waits = waits; «waited_ms» = t .«waited_ms»; transfers = t .transfers };
   }
 
-  -- what else it counts after a failed attempt that is retried
-  abbrev missed : Tally → Tally
-  missed t = waited (tallied t)
+  -- what else it counts after a failed attempt that is retried, with so many retries left
+  abbrev missed : ℕ → Tally → Tally
+  missed left t = waited (tallied t) (waitOf (its .growing) (its .retries - suc left))
 
   -- a timeout with a retry left
-  retried : (h : Bool) (i left v : ℕ) (t : Tally) → reportOf (call.Read (at h i (suc left) v t)) outcome.Timeout [] p n w ≡ reported.Taken (call.Read (at (hasHead (its .head)) i left (moreOf v) (missed t)))
+  retried : (h : Bool) (i left v : ℕ) (t : Tally) → reportOf (call.Read (at h i (suc left) v t)) outcome.Timeout [] p n w ≡ reported.Taken (call.Read (at (hasHead (its .head)) i left (moreOf v) (missed left t)))
   unfolding reportOf gotOf reading.reportOf reading.judgeOf reading.weighOf reading.failOf reading.countedOf reading.retryOf
       case_waiting_ended_ case_acknowledged_error_timeout_ case_retry_spent_ case_refused_fault_headed_block_ waited tallied fitsOf if_then_else_
-  retried h i left v t = rw (eq-eqb n n refl, eq-eqb w w refl, laws .retries left)
+  retried h i left v t = rw (eq-eqb n n refl, eq-eqb w w refl, laws .retries (its .retries) left (its .growing))
 
   -- and with none
   gives-up : (h : Bool) (i v : ℕ) (t : Tally) → reportOf (call.Read (at h i 0 v t)) outcome.Timeout [] p n w ≡ reported.Taken (call.Read (reading.endOf (at h i 0 v (tallied t)) answer.Timeout))
   unfolding reportOf gotOf reading.reportOf reading.judgeOf reading.weighOf reading.failOf reading.countedOf
       case_waiting_ended_ case_acknowledged_error_timeout_ case_retry_spent_ case_refused_fault_headed_block_ tallied fitsOf if_then_else_
-  gives-up h i v t = rw (eq-eqb n n refl, eq-eqb w w refl, laws .spent)
+  gives-up h i v t = rw (eq-eqb n n refl, eq-eqb w w refl, laws .spent (its .retries) (its .growing))
 
   -- a head that goes through, before a read
   opened : (i left v : ℕ) (t : Tally) → i < readCount (its .reads) n → reportOf (call.Read (at true i left v t)) outcome.Acknowledged [] p n w ≡ reported.Taken (call.Read (at false i left v (tallied t)))
@@ -120,7 +120,7 @@ module _ (its : ReadPlan) (p n w : ℕ) where
   alone : (left v : ℕ) (t : Tally) → v + left ≤ 4294967295 → Reached (1 * left + 1) (v + left) (call.Read (at (hasHead (its .head)) 0 left v t))
   alone left v t room =
       spends (λ (l x : ℕ) (y : Tally). call.Read (at (hasHead (its .head)) 0 l x y)) 1
-      (λ l x y m u rest. one-more _ _ outcome.Timeout [] p n w m u (retried (hasHead (its .head)) 0 l x y) (rest (missed y)))
+      (λ l x y m u rest. one-more _ _ outcome.Timeout [] p n w m u (retried (hasHead (its .head)) 0 l x y) (rest (missed l y)))
       left v t 1 (v + left) room (last (hasHead (its .head)) 0 (v + left))
 
   -- so they reach their ceiling
@@ -138,7 +138,7 @@ module _ (its : ReadPlan) (p n w : ℕ) where
     again i more left v t m u rest =
         same-reach _ (1 + (1 + m)) (2 + m) u u (omega arith) refl
         (one-more _ _ outcome.Timeout [] p n w (1 + m) u (retried false i left v t)
-        (rw first (one-more _ _ outcome.Acknowledged [] p n w m u (opened i left (moreOf v) (missed t) more) (rest (tallied (missed t))))))
+        (rw first (one-more _ _ outcome.Acknowledged [] p n w m u (opened i left (moreOf v) (missed left t) more) (rest (tallied (missed left t))))))
 
     -- read i and so many later ones
     reads : (later i left v : ℕ) (t : Tally) → readCount (its .reads) n ≡ i + suc later → i + suc later ≤ 4294967295 → v + left ≤ 4294967295

@@ -1,6 +1,6 @@
 -- A writing call reaches its ceiling: each frame fails until its budget is spent and then goes through, and the last one fails once more.
 -- Assumes nothing.
-use Prim.Native.Nat.{ℕ, zero, suc, _+_, _*_, _≤_, _<_}
+use Prim.Native.Nat.{ℕ, zero, suc, _+_, _-_, _*_, _≤_, _<_}
 use mathlib.Core.Path.{_≡_, refl}
 use mathlib.Core.List.{[]}
 use native.Mathlib.Omega.{arith}
@@ -10,7 +10,7 @@ use borrow.Author.Tests.{eq-eqb, lt-leb}
 use Rattle.protocol.specs.Pick.{if_then_else_}
 use Rattle.protocol.specs.declared.error.Answer.the-variants as answer
 use Rattle.engine.specs.Pick.{case_waiting_ended_, case_acknowledged_error_timeout_, case_retry_spent_}
-use Rattle.engine.specs.Budget.{moreOf, nothing, waited, tallied}
+use Rattle.engine.specs.Budget.{waitOf, moreOf, nothing, waited, tallied}
 use Rattle.engine.specs.Bus.{phaseAfter, fitsOf}
 use Rattle.engine.proofs.Laws.{laws}
 use Rattle.engine.specs.declared.budget.Tally.{Tally}
@@ -35,24 +35,24 @@ module _ (its : WritePlan) (p n w : ℕ) where
     phase = phase.Waiting;
     sent = i;
     budget = record { left = left };
-    tally = record { waits = waits; transfers = t .transfers };
+    tally = record { waits = waits; «waited_ms» = t .«waited_ms»; transfers = t .transfers };
   }
 
-  -- what else it counts after a failed attempt that is retried
-  abbrev missed : Tally → Tally
-  missed t = waited (tallied t)
+  -- what else it counts after a failed attempt that is retried, with so many retries left
+  abbrev missed : ℕ → Tally → Tally
+  missed left t = waited (tallied t) (waitOf (its .growing) (its .retries - suc left))
 
   -- a timeout with a retry left
-  retried : (i left v : ℕ) (t : Tally) → reportOf (call.Write (at i (suc left) v t)) outcome.Timeout [] p n w ≡ reported.Taken (call.Write (at i left (moreOf v) (missed t)))
+  retried : (i left v : ℕ) (t : Tally) → reportOf (call.Write (at i (suc left) v t)) outcome.Timeout [] p n w ≡ reported.Taken (call.Write (at i left (moreOf v) (missed left t)))
   unfolding reportOf wroteOf writing.reportOf writing.repliedOf writing.settleOf writing.failOf writing.countedOf writing.retryOf
       case_waiting_ended_ case_acknowledged_error_timeout_ case_retry_spent_ waited tallied fitsOf if_then_else_
-  retried i left v t = rw (eq-eqb p p refl, eq-eqb w w refl, laws .retries left)
+  retried i left v t = rw (eq-eqb p p refl, eq-eqb w w refl, laws .retries (its .retries) left (its .growing))
 
   -- and with none
   gives-up : (i v : ℕ) (t : Tally) → reportOf (call.Write (at i 0 v t)) outcome.Timeout [] p n w ≡ reported.Taken (call.Write (writing.endOf (at i 0 v (tallied t)) answer.Timeout))
   unfolding reportOf wroteOf writing.reportOf writing.repliedOf writing.settleOf writing.failOf writing.countedOf
       case_waiting_ended_ case_acknowledged_error_timeout_ case_retry_spent_ tallied fitsOf if_then_else_
-  gives-up i v t = rw (eq-eqb p p refl, eq-eqb w w refl, laws .spent)
+  gives-up i v t = rw (eq-eqb p p refl, eq-eqb w w refl, laws .spent (its .retries) (its .growing))
 
   -- a frame that goes through, before others
   advanced : (i left v : ℕ) (t : Tally) → moreOf i < frameCount (its .frames) p
@@ -64,7 +64,7 @@ module _ (its : WritePlan) (p n w : ℕ) where
   -- frame i fails until its budget is spent: a retry is one transfer
   fails : (i v : ℕ) (t : Tally) (m u : ℕ) → v + its .retries ≤ 4294967295 → ((t′ : Tally) → Reached m u (call.Write (at i 0 (v + its .retries) t′)))
       → Reached (1 * its .retries + m) u (call.Write (at i (its .retries) v t))
-  fails i v t = spends (λ (l x : ℕ) (y : Tally). call.Write (at i l x y)) 1 (λ l x y m u rest. one-more _ _ outcome.Timeout [] p n w m u (retried i l x y) (rest (missed y))) (its .retries) v t
+  fails i v t = spends (λ (l x : ℕ) (y : Tally). call.Write (at i l x y)) 1 (λ l x y m u rest. one-more _ _ outcome.Timeout [] p n w m u (retried i l x y) (rest (missed l y))) (its .retries) v t
 
   -- the failure that ends the call is one transfer
   last : (i v : ℕ) (t : Tally) → Reached 1 v (call.Write (at i 0 v t))

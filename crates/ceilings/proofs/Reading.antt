@@ -27,13 +27,15 @@ data Came (call : ReadCall) : ReadReported → Type 0 where
   turned-down : (why : Answer) → Came call (reported.Refused why call)
   opens : call .phase ≡ phase.Waiting → call .heading ≡ true → Came call (reported.Taken (headedOf (countedOf call)))
   goes-on : call .phase ≡ phase.Waiting → call .heading ≡ false → Came call (reported.Taken (advanceOf (countedOf call)))
-  again : (left : Budget) → call .phase ≡ phase.Waiting → left .left + 1 ≡ call .budget .left → Came call (reported.Taken (retryOf (countedOf call) left))
+  again : (left : Budget) (ms : ℕ) → call .phase ≡ phase.Waiting → left .left + 1 ≡ call .budget .left → Came call (reported.Taken (retryOf (countedOf call) left ms))
   ends : (why : Answer) → call .phase ≡ phase.Waiting → Came call (reported.Taken (endOf (countedOf call) why))
 
 module _ (call : ReadCall) where
   fails : (why : Answer) → call .phase ≡ phase.Waiting → Came call (reported.Taken (failOf (countedOf call) why))
   unfolding failOf countedOf
-  fails why e = either (λ (c : ReadCall). Came call (reported.Taken c)) (call .budget) (retryOf (countedOf call)) (endOf (countedOf call) why) (λ left less. again left e less) (λ none. ends why e)
+  fails why e =
+      either (λ (c : ReadCall). Came call (reported.Taken c)) (call .task .plan .retries) (call .task .plan .growing) (call .budget) (retryOf (countedOf call)) (endOf (countedOf call) why)
+      (λ left less. again left _ e less) (λ none. ends why e)
 
   came : (o : Outcome) (reply : List ℕ) (n w : ℕ) → Came call (reportOf call o reply n w)
   unfolding reportOf case_refused_fault_headed_block_
@@ -109,12 +111,12 @@ advanced m call h few (bare-due x a later whole most) w =
     bare-due refl a (later - 1) (omega (arith, whole, more, next)) (omega (arith, whole, more, next, most))
 
 -- an attempt failed, and its retry is left
-retried : (m : ℕ) (call : ReadCall) (left : Budget) → left .left + 1 ≡ call .budget .left → Enough m call → Enough (m - 1) (retryOf (countedOf call) left)
+retried : (m : ℕ) (call : ReadCall) (left : Budget) (ms : ℕ) → left .left + 1 ≡ call .budget .left → Enough m call → Enough (m - 1) (retryOf (countedOf call) left ms)
 unfolding retryOf countedOf
-retried m call left less (head-due x a later whole most) = head-due a a later whole (omega arith)
-retried m call left less (only-head x a none most) = only-head a a none (omega arith)
-retried m call left less (read-due x a later whole most) = head-due a a later whole (omega arith)
-retried m call left less (bare-due x a later whole most) = bare-due a a later whole (omega arith)
+retried m call left ms less (head-due x a later whole most) = head-due a a later whole (omega arith)
+retried m call left ms less (only-head x a none most) = only-head a a none (omega arith)
+retried m call left ms less (read-due x a later whole most) = head-due a a later whole (omega arith)
+retried m call left ms less (bare-due x a later whole most) = bare-due a a later whole (omega arith)
 
 module _ (k m v : ℕ) where
   -- the count of a call that waits is not full
@@ -149,7 +151,7 @@ module _ (k m v : ℕ) where
           due = λ w. record { few = d .few; enough = advanced m call h (d .few) (d .enough) w; room = one .2; rest = d .rest };
         },
       )
-  keeps call r (again left e less) s =
+  keeps call r (again left ms e less) s =
       let d = s .due e in
       let one = one-more call s e in (
         m - 1,
@@ -157,7 +159,7 @@ module _ (k m v : ℕ) where
         record {
           counted = one .0;
           rests = omega (arith, d .rest, less);
-          due = λ w. record { few = d .few; enough = retried m call left less (d .enough); room = one .2; rest = omega (arith, d .rest, less) };
+          due = λ w. record { few = d .few; enough = retried m call left ms less (d .enough); room = one .2; rest = omega (arith, d .rest, less) };
         },
       )
   keeps call r (ends why e) s =

@@ -27,13 +27,15 @@ use Rattle.ceilings.proofs.Numbers.{one-less}
 data Came (call : WriteCall) : WriteReported → Type 0 where
   refused : (why : Answer) → Came call (reported.Refused why call)
   goes-on : call .phase ≡ phase.Waiting → Came call (reported.Taken (advanceOf (countedOf call)))
-  again : (left : Budget) → call .phase ≡ phase.Waiting → left .left + 1 ≡ call .budget .left → Came call (reported.Taken (retryOf (countedOf call) left))
+  again : (left : Budget) (ms : ℕ) → call .phase ≡ phase.Waiting → left .left + 1 ≡ call .budget .left → Came call (reported.Taken (retryOf (countedOf call) left ms))
   ends : (why : Answer) → call .phase ≡ phase.Waiting → Came call (reported.Taken (endOf (countedOf call) why))
 
 module _ (call : WriteCall) where
   fails : (why : Answer) → call .phase ≡ phase.Waiting → Came call (reported.Taken (failOf (countedOf call) why))
   unfolding failOf countedOf
-  fails why e = either (λ (c : WriteCall). Came call (reported.Taken c)) (call .budget) (retryOf (countedOf call)) (endOf (countedOf call) why) (λ left less. again left e less) (λ none. ends why e)
+  fails why e =
+      either (λ (c : WriteCall). Came call (reported.Taken c)) (call .task .plan .retries) (call .task .plan .growing) (call .budget) (retryOf (countedOf call)) (endOf (countedOf call) why)
+      (λ left less. again left _ e less) (λ none. ends why e)
 
   settles : (o : Outcome) → call .phase ≡ phase.Waiting → Came call (reported.Taken (settleOf (countedOf call) o))
   unfolding settleOf case_acknowledged_error_timeout_
@@ -107,7 +109,7 @@ module _ (k m v : ℕ) where
               };
         },
       )
-  keeps call r (again left e less) s =
+  keeps call r (again left ms e less) s =
       let d = s .due e in (
         m - 1,
         omega (arith, d .enough),

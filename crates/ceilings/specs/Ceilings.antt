@@ -26,7 +26,7 @@ pub record Ceiling (most waits : ℕ) (call : Call) (es : List Report) : Type 0 
   pub highest : accepted call es ≤ most
   -- EVERY CALL ENDS: once it has accepted as many, it no longer waits
   pub ends : most ≤ accepted call es → phaseOf (feed call es) ≡ phase.Waiting → ⊥
-  -- so often at the most it has waited for 10 ms
+  -- so often at the most it has waited
   pub waits-most : tallyOf (feed call es) .waits ≤ waits
 
 -- so many transfers and so many waits, reached by one list of reports to a call

@@ -11,7 +11,7 @@ use Rattle.protocol.specs.Window.{inWindow}
 use Rattle.protocol.specs.Reply as reply
 use Rattle.protocol.specs.declared.common.Config.{Config}
 use Rattle.engine.specs.Pick.{case_waiting_ended_, case_acknowledged_error_timeout_, case_retry_spent_}
-use Rattle.engine.specs.Budget.{failed, nothing, waited, tallied}
+use Rattle.engine.specs.Budget.{waitOf, failed, nothing, waited, tallied}
 use Rattle.engine.specs.Bus.{phaseAfter, fitsOf}
 use Rattle.engine.specs.Limit.{windowed, commanded, measured, admitted}
 use Rattle.engine.specs.declared.bus.Outcome.{Outcome}
@@ -33,16 +33,16 @@ use Rattle.calls.specs.declared.kind.Kind.the-variants as kind
 use Rattle.ceilings.specs.Reports.{Report, feed, accepted}
 use Rattle.ceilings.specs.Ceilings.{CeilingOf, write-with-retries, write-register, write-buffer, write-security-keys, write-authentication-key, write-charging-voltage-override, write-mfg-info, send-access-key, unseal-fg, write-mfg-info-c, write-dataflash, nothing-written, read-register, read-buffer, read-mfg-info, read-security-keys, read-authentication-key, read-charging-voltage-override, read-mfg-info-c, command-read, command-alone, read-dataflash, nothing-read}
 
--- one retry, no PEC
+-- one retry, no PEC, waits of one length
 abbrev config : Config
-config = record { «max_bus_retries» = 1; «pec_write» = false; «pec_read» = false }
+config = record { «max_bus_retries» = 1; «pec_write» = false; «pec_read» = false; «growing_waits» = false }
 
 -- a call with a payload of p bytes and a buffer of n; its ceiling, of transfers and of waits; the outcomes that it is told, each with its reply
 pub data Run : Type 0 where
   told : (kind : Kind) (p n most waits : ℕ) → CeilingOf 1 p n kind most waits → List (Outcome × List ℕ) → Run
 
 -- each is reported with the lengths of the start
-abbrev reportsOf : (p n : ℕ) → List (Outcome × List ℕ) → List Report
+abbrev pub reportsOf : (p n : ℕ) → List (Outcome × List ℕ) → List Report
 reportsOf p n [] = []
 reportsOf p n ((o, bytes) ∷ rest) = record { outcome = o; reply = bytes; payload = p; buffer = n; work = 39 } ∷ reportsOf p n rest
 
@@ -68,10 +68,10 @@ bounds (told kind p n most waits ceiling es) = most ∷ most ∷ waits ∷ 1 ∷
 abbrev fails : Outcome × List ℕ
 fails = (outcome.Timeout, [])
 
-abbrev goes : Outcome × List ℕ
+abbrev pub goes : Outcome × List ℕ
 goes = (outcome.Acknowledged, [])
 
-abbrev brings : ℕ → Outcome × List ℕ
+abbrev pub brings : ℕ → Outcome × List ℕ
 brings n = (outcome.Acknowledged, replicate n 0)
 
 -- each ceiling once
@@ -106,7 +106,7 @@ runs =
 pub runs-reach : map figures runs ≡ map bounds runs
 unfolding feed accepted
     startWith startOf planOf wroteOf gotOf reportOf phaseOf tallyOf
-    if_then_else_ inWindow case_waiting_ended_ case_acknowledged_error_timeout_ case_retry_spent_ failed nothing waited tallied phaseAfter fitsOf windowed commanded measured admitted
+    if_then_else_ inWindow case_waiting_ended_ case_acknowledged_error_timeout_ case_retry_spent_ waitOf failed nothing waited tallied phaseAfter fitsOf windowed commanded measured admitted
     frames.firstAddress frames.frameCount writing.planOf writing.startOf writing.advanceOf writing.retryOf writing.failOf writing.settleOf writing.repliedOf writing.countedOf writing.reportOf
     case_refused_fault_headed_block_ parts.hasHead parts.firstAddress parts.readCount parts.askOf parts.blockAsk reading.plainPlan reading.macPlan reading.startOf reading.dueAsk reading.headedOf reading.advanceOf reading.retryOf reading.failOf reading.heardHead reading.verdictOf reading.heardBlock reading.acknowledgedOf reading.weighOf reading.judgeOf reading.countedOf reading.reportOf
     reply.plainAsk reply.macAsk reply.leadOf reply.aroundOf reply.bytesAsked reply.heardOf

@@ -118,7 +118,7 @@ openOf kind config at n line buffer =
     sayOf (roomFor (calls.startOf kind config (length (drop at line)) (min n (length buffer)) 39) n (length buffer))
     (record { at = at; payload = length (drop at line); buffer = n }) (drop at line) (take n (filled n buffer))
 
--- a request line is refused: no waits, and no buffer
+-- a request line is refused: nothing counted, and no buffer
 unfoldable pub refusedOf : Answer → Spoken
 refusedOf a = record { run = run.Fresh; saying = last (endSaid a nothing []) }
 

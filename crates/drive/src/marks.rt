@@ -10,6 +10,7 @@ pub(crate) fn settings(pec_write: bool) -> Config {
         max_bus_retries: 1,
         pec_write,
         pec_read: !pec_write,
+        growing_waits: false,
     }
 }
 

@@ -35,11 +35,11 @@ module _ {A : Type 0} where
   at-timeout o x a b f e q = rw e q
 
   -- of what a failed attempt came to, as a call gave it
-  pub at-retry : (u v : Failed) (x y : A) (f : Budget → A) (b : Budget) → u ≡ v → u ≡ failed.Retry b → x ≡ f b → x ≡ case_retry_spent_ v f y
+  pub at-retry : (u v : Failed) (x y : A) (f : Budget → ℕ → A) (b : Budget) (ms : ℕ) → u ≡ v → u ≡ failed.Retry b ms → x ≡ f b ms → x ≡ case_retry_spent_ v f y
   unfolding case_retry_spent_
-  at-retry u v x y f b p e q = rw (← p, e) q
+  at-retry u v x y f b ms p e q = rw (← p, e) q
 
-  pub at-spent : (u v : Failed) (x y : A) (f : Budget → A) → u ≡ v → u ≡ failed.Spent → x ≡ y → x ≡ case_retry_spent_ v f y
+  pub at-spent : (u v : Failed) (x y : A) (f : Budget → ℕ → A) → u ≡ v → u ≡ failed.Spent → x ≡ y → x ≡ case_retry_spent_ v f y
   unfolding case_retry_spent_
   at-spent u v x y f p e q = rw (← p, e) q
 

@@ -22,6 +22,6 @@ case outcome.Acknowledged acknowledged x error f timeout y = x
 case outcome.BusError code acknowledged x error f timeout y = f code
 case outcome.Timeout acknowledged x error f timeout y = y
 
-unfoldable pub case_retry_spent_ : {A : Type 0} → Failed → (Budget → A) → A → A
-case failed.Retry b retry f spent x = f b
+unfoldable pub case_retry_spent_ : {A : Type 0} → Failed → (Budget → ℕ → A) → A → A
+case failed.Retry b ms retry f spent x = f b ms
 case failed.Spent retry f spent x = x

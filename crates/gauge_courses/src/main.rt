@@ -272,6 +272,7 @@ fn setting(retries: u16, pec: bool, old: &[u8], clean: &[u8]) {
         max_bus_retries: retries,
         pec_write: pec,
         pec_read: false,
+        growing_waits: false,
     };
     let mut counted = Counts::new();
     for length in 0..8usize {

@@ -100,6 +100,7 @@ pub(crate) fn setting(retries: u16, pec: bool, old: &[u8]) {
         max_bus_retries: retries,
         pec_write: false,
         pec_read: pec,
+        growing_waits: false,
     };
     let mut seen = Seen::new();
     for length in 0..8usize {

@@ -15,6 +15,7 @@ pub(crate) fn settings(pec: bool) -> Config {
         max_bus_retries: 3,
         pec_write: pec,
         pec_read: pec,
+        growing_waits: false,
     }
 }
 

@@ -16,7 +16,7 @@ use Rattle.protocol.specs.Frame.{sealed, macBytes, pairOf}
 use Rattle.protocol.specs.Reply.{macAsk, leadOf, aroundOf, bytesAsked, dataOf}
 use Rattle.protocol.specs.declared.error.Answer.{Answer}
 use Rattle.protocol.specs.declared.error.Answer.the-variants as answer
-use Rattle.engine.specs.Budget.{waited, tallied}
+use Rattle.engine.specs.Budget.{tallied}
 use Rattle.engine.specs.declared.budget.Tally.{Tally}
 use Rattle.engine.specs.declared.limit.Limit.{Limit}
 use Rattle.reading.specs.Parts as parts
@@ -27,7 +27,7 @@ use Rattle.reading.specs.declared.call.ReadPlan.{ReadPlan}
 use Rattle.original.specs.Bus.{BusOutcome, Acknowledged, BusError, Timeout, delivered, Made, write, read, Log, made, delayed, Ok, Err, Waiting, Read, _leaving_, busOp_err_ok_}
 use Rattle.original.specs.Fed.{Lending, Lends, fedRead}
 use Rattle.original.specs.OriginalInterface.{toLeBytes, withPec, readChunks, readChunksPec}
-use Rattle.original.proofs.Laws.{one-wait}
+use Rattle.original.proofs.Laws.{missed, one-wait}
 use Rattle.original.proofs.ReadTurns.{length-delivered, at, headAt, askAt, believed, waits-head, waits-read, turn-head, turn-read, after-failure, after-head, after-block, after-last}
 use Rattle.original.proofs.Replies.{checked-last, stored-chunk, length-chunk}
 
@@ -107,9 +107,9 @@ module _ (start : ℕ) where
         let k : min 32 (length buffer - bytesRead) ≡ min 35 (length buffer - bytesRead + 2 + 1) - 3 = omega arith in
         rw (lt-leb (length buffer) bytesRead more, k)
 
-  module _ (retries : ℕ) (limit : Limit) (n w : ℕ) (lent : ℕ → Lending) (steady : Lends w lent) (roomy : 39 ≤ w) (after : 0x4000 ≤ start) (before : start + n ≤ 0x6000) where
+  module _ (retries : ℕ) (growing : Bool) (limit : Limit) (n w : ℕ) (lent : ℕ → Lending) (steady : Lends w lent) (roomy : 39 ≤ w) (after : 0x4000 ≤ start) (before : start + n ≤ 0x6000) where
     abbrev plan : Bool → ReadPlan
-    plan pec = record { retries = retries; limit = limit; head = head.DataFlash start; «head_pec» = pec; reads = reads.Blocks pec }
+    plan pec = record { retries = retries; growing = growing; limit = limit; head = head.DataFlash start; «head_pec» = pec; reads = reads.Blocks pec }
 
     fits-head : (i : ℕ) → length (parts.headBytes (head.DataFlash start) i) < w
     unfolding parts.headBytes macBytes pairOf
@@ -167,9 +167,9 @@ module _ (start : ℕ) where
     fault pec heading outcomes ih i left tally why buffer done bad b h c true t =
         after-failure (plan pec) n w lent heading i left tally why buffer done outcomes bad true t ∙ rw t
     fault pec heading outcomes ih i left tally why buffer done bad b h c false t =
-        let m : waited tally .waits ≡ tally .waits + 1 = one-wait tally (omega arith) in
+        let m : missed growing retries left tally .waits ≡ tally .waits + 1 = one-wait growing retries left tally (omega arith) in
         after-failure (plan pec) n w lent heading i left tally why buffer done outcomes bad false t
-        ∙ rw (t, ← m) (ih true i (left - 1) (waited tally) buffer done b h (omega (arith, eqb-false left 0 t)))
+        ∙ rw (t, ← m) (ih true i (left - 1) (missed growing retries left tally) buffer done b h (omega (arith, eqb-false left 0 t)))
 
     -- a chunk is in the buffer: another is due, or it was the last one
     next-chunk : (pec : Bool) (outcomes : List BusOutcome) → Same pec outcomes → (i left : ℕ) (tally : Tally) (buffer : List ℕ) (done : List Made) → length buffer ≡ n → i * 32 < n → tally .waits + left ≤ 65535

@@ -1,7 +1,8 @@
 -- What the calls share: how a length is measured, and what follows a call.
 -- Assumes nothing.
-use Prim.Native.Nat.{ℕ, _+_, _≤_, _<_}
+use Prim.Native.Nat.{ℕ, _+_, _-_, _≤_, _<_}
 use mathlib.Core.Path.{_≡_, refl, ap}
+use mathlib.Core.Bool.{Bool}
 use mathlib.Core.List.{List}
 use native.Mathlib.Omega.{arith}
 use lib.ListN.{length}
@@ -11,7 +12,7 @@ use Rattle.protocol.specs.Frame.{fixedPair}
 use Rattle.protocol.specs.declared.error.Answer.{Answer}
 use Rattle.protocol.specs.declared.frame.MacCommand.{MacCommand}
 use Rattle.protocol.specs.declared.frame.MacCommand.the-variants as mac
-use Rattle.engine.specs.Budget.{waited}
+use Rattle.engine.specs.Budget.{waitOf, waited}
 use Rattle.engine.specs.Limit.{measured, admitted}
 use Rattle.engine.specs.declared.budget.Tally.{Tally}
 use Rattle.engine.specs.declared.limit.Limit.{Limit}
@@ -22,10 +23,14 @@ pub measure : (l : Limit) (start n w : ℕ) → 39 ≤ w → admitted l start n 
 unfolding admitted if_then_else_
 measure l start n w h = rw (le-ltb w 39 h)
 
--- a wait is one more
-pub one-wait : (tally : Tally) → tally .waits < 4294967295 → waited tally .waits ≡ tally .waits + 1
+-- what a call has counted once a failed attempt is to be retried, of a budget of r retries with so many left
+abbrev pub missed : (growing : Bool) (r left : ℕ) → Tally → Tally
+missed growing r left tally = waited tally (waitOf growing (r - left))
+
+-- a wait is one more, however long it is
+pub one-wait : (growing : Bool) (r left : ℕ) (tally : Tally) → tally .waits < 4294967295 → missed growing r left tally .waits ≡ tally .waits + 1
 unfolding waited
-one-wait tally h = omega arith
+one-wait growing r left tally h = omega arith
 
 -- a fixed pair is two bytes
 pub fixed-pair : (command : MacCommand) → length (fixedPair command) ≡ 2

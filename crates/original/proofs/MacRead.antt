@@ -15,7 +15,7 @@ use Rattle.protocol.specs.Frame.{sealed}
 use Rattle.protocol.specs.Reply.{macAsk, leadOf, bytesAsked, dataOf}
 use Rattle.protocol.specs.declared.error.Answer.{Answer}
 use Rattle.protocol.specs.declared.error.Answer.the-variants as answer
-use Rattle.engine.specs.Budget.{waited, tallied}
+use Rattle.engine.specs.Budget.{tallied}
 use Rattle.engine.specs.declared.budget.Tally.{Tally}
 use Rattle.engine.specs.declared.limit.Limit.{Limit}
 use Rattle.reading.specs.Parts as parts
@@ -26,15 +26,15 @@ use Rattle.reading.specs.declared.call.ReadPlan.{ReadPlan}
 use Rattle.original.specs.Bus.{BusOutcome, Acknowledged, BusError, Timeout, delivered, Made, write, read, Log, delayed, Ok, Err, Read, _leaving_, busOp_err_ok_, copied}
 use Rattle.original.specs.Fed.{Lending, Lends, fedRead}
 use Rattle.original.specs.OriginalInterface.{withPec, macWriteTurn, macReadTurn}
-use Rattle.original.proofs.Laws.{one-wait}
+use Rattle.original.proofs.Laws.{missed, one-wait}
 use Rattle.original.proofs.ReadTurns.{length-delivered, at, headAt, askAt, believed, waits-head, waits-read, turn-head, turn-read, after-failure, after-head, after-last}
 use Rattle.original.proofs.Replies.{checked-last, count-mac, stored-whole, copied-pick, copied-ok, copied-err, copied-waiting, take-short-of}
 
-module _ (retries : ℕ) (limit : Limit) (head : Head) (first : ℕ) (frame buffer inner : List ℕ) (w : ℕ) (lent : ℕ → Lending) (steady : Lends w lent)
+module _ (retries : ℕ) (growing : Bool) (limit : Limit) (head : Head) (first : ℕ) (frame buffer inner : List ℕ) (w : ℕ) (lent : ℕ → Lending) (steady : Lends w lent)
     (opens : parts.hasHead head ≡ true) (bytes-of : parts.headBytes head 0 ≡ frame) (opening : getD frame 0 0 ≡ first) (fitting : length frame < w)
     (room : length buffer ≤ length inner) (least : length inner ≤ 32) where
   abbrev plan : Bool → ReadPlan
-  plan pec = record { retries = retries; limit = limit; head = head; «head_pec» = pec; reads = reads.Once (macAsk first (length inner) pec) }
+  plan pec = record { retries = retries; growing = growing; limit = limit; head = head; «head_pec» = pec; reads = reads.Once (macAsk first (length inner) pec) }
 
   -- how much is asked for
   abbrev count : Bool → ℕ
@@ -72,9 +72,9 @@ module _ (retries : ℕ) (limit : Limit) (head : Head) (first : ℕ) (frame buff
   fault pec heading outcomes ih left tally why done bad b true t =
       after-failure (plan pec) (length buffer) w lent heading 0 left tally why buffer done outcomes bad true t ∙ rw t
   fault pec heading outcomes ih left tally why done bad b false t =
-      let m : waited tally .waits ≡ tally .waits + 1 = one-wait tally (omega arith) in
+      let m : missed growing retries left tally .waits ≡ tally .waits + 1 = one-wait growing retries left tally (omega arith) in
       after-failure (plan pec) (length buffer) w lent heading 0 left tally why buffer done outcomes bad false t
-      ∙ rw (t, opens, ← m) (ih (left - 1) (waited tally) done (omega (arith, eqb-false left 0 t)))
+      ∙ rw (t, opens, ← m) (ih (left - 1) (missed growing retries left tally) done (omega (arith, eqb-false left 0 t)))
 
   -- a reply that is believed fills the buffer
   filled : (pec : Bool) (left : ℕ) (tally : Tally) (done : List Made) (reply : List ℕ) (outcomes : List BusOutcome) → length reply ≡ count pec

@@ -12,7 +12,7 @@ use Rattle.protocol.specs.Pick.{if_then_else_}
 use Rattle.protocol.specs.Answer.{numberOf}
 use Rattle.protocol.specs.declared.error.Answer.{Answer}
 use Rattle.protocol.specs.declared.error.Answer.the-variants as answer
-use Rattle.engine.specs.Budget.{waited, tallied}
+use Rattle.engine.specs.Budget.{tallied}
 use Rattle.engine.specs.Bus.{phaseAfter}
 use Rattle.engine.specs.declared.budget.Tally.{Tally}
 use Rattle.engine.specs.declared.bus.Phase.the-variants as phase
@@ -23,7 +23,7 @@ use Rattle.reading.specs.declared.call.ReadPlan.{ReadPlan}
 use Rattle.original.specs.Bus.{BusOutcome, Acknowledged, BusError, Timeout, Made, Ok, Err, _leaving_, busOp_err_ok_}
 use Rattle.original.specs.Fed.{Lending, Lends, answered, fedRead}
 use Rattle.original.specs.OriginalInterface.{writeWithRetriesInternal}
-use Rattle.original.proofs.Laws.{one-wait}
+use Rattle.original.proofs.Laws.{missed, one-wait}
 use Rattle.original.proofs.ReadTurns.{at-end, at, headAt, waits-head, turn-head, after-failure}
 
 module _ (plan : ReadPlan) (buffer : List ℕ) (w : ℕ) (lent : ℕ → Lending) (steady : Lends w lent) (opens : parts.hasHead (plan .head) ≡ true) (alone : plan .reads ≡ reads.Nothing) (fitting : length (parts.headBytes (plan .head) 0) < w) where
@@ -49,9 +49,9 @@ module _ (plan : ReadPlan) (buffer : List ℕ) (w : ℕ) (lent : ℕ → Lending
   fault outcomes ih left tally why done bad b true t =
       after-failure plan (length buffer) w lent true 0 left tally why buffer done outcomes bad true t ∙ rw t
   fault outcomes ih left tally why done bad b false t =
-      let m : waited tally .waits ≡ tally .waits + 1 = one-wait tally (omega arith) in
+      let m : missed (plan .growing) (plan .retries) left tally .waits ≡ tally .waits + 1 = one-wait (plan .growing) (plan .retries) left tally (omega arith) in
       after-failure plan (length buffer) w lent true 0 left tally why buffer done outcomes bad false t
-      ∙ rw (t, opens, ← m) (ih (left - 1) (waited tally) done (omega (arith, eqb-false left 0 t)))
+      ∙ rw (t, opens, ← m) (ih (left - 1) (missed (plan .growing) (plan .retries) left tally) done (omega (arith, eqb-false left 0 t)))
 
   pub same : (outcomes : List BusOutcome) → Same outcomes
   unfolding writeWithRetriesInternal busOp_err_ok_ tallied

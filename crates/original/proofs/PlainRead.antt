@@ -15,7 +15,7 @@ use Rattle.protocol.specs.Reply.{plainAsk, leadOf, bytesAsked, dataOf}
 use Rattle.protocol.specs.declared.common.Config.{Config}
 use Rattle.protocol.specs.declared.error.Answer.{Answer}
 use Rattle.protocol.specs.declared.error.Answer.the-variants as answer
-use Rattle.engine.specs.Budget.{waited, tallied}
+use Rattle.engine.specs.Budget.{tallied}
 use Rattle.engine.specs.declared.budget.Tally.{Tally}
 use Rattle.engine.specs.declared.limit.Limit.{Limit}
 use Rattle.reading.specs.Parts as parts
@@ -24,7 +24,7 @@ use Rattle.reading.specs.declared.call.ReadPlan.{ReadPlan}
 use Rattle.original.specs.Bus.{BusOutcome, Acknowledged, BusError, Timeout, delivered, Made, read, Log, delayed, Ok, Err, Read, _leaving_, busOp_err_ok_, copied}
 use Rattle.original.specs.Fed.{Lending, Lends, fedRead}
 use Rattle.original.specs.OriginalInterface.{readLoop}
-use Rattle.original.proofs.Laws.{one-wait}
+use Rattle.original.proofs.Laws.{missed, one-wait}
 use Rattle.original.proofs.ReadTurns.{length-delivered, at, askAt, believed, waits-read, turn-read, after-failure, after-last}
 use Rattle.original.proofs.Replies.{checked-last, count-plain, stored-whole, copied-pick, copied-ok, copied-err, copied-waiting, take-short-of}
 
@@ -55,9 +55,9 @@ module _ (config : Config) (limit : Limit) (command : ℕ) (buffer inner : List 
   fault pec outcomes ih left tally why done bad b true t =
       after-failure (plan pec) (length buffer) w lent false 0 left tally why buffer _ outcomes bad true t ∙ rw t
   fault pec outcomes ih left tally why done bad b false t =
-      let m : waited tally .waits ≡ tally .waits + 1 = one-wait tally (omega arith) in
+      let m : missed (config .«growing_waits») (config .«max_bus_retries») left tally .waits ≡ tally .waits + 1 = one-wait (config .«growing_waits») (config .«max_bus_retries») left tally (omega arith) in
       after-failure (plan pec) (length buffer) w lent false 0 left tally why buffer _ outcomes bad false t
-      ∙ rw (t, ← m) (ih (left - 1) (waited tally) _ (omega (arith, eqb-false left 0 t)))
+      ∙ rw (t, ← m) (ih (left - 1) (missed (config .«growing_waits») (config .«max_bus_retries») left tally) _ (omega (arith, eqb-false left 0 t)))
 
   -- a reply that is believed fills the buffer
   filled : (pec : Bool) (left : ℕ) (tally : Tally) (done : List Made) (reply : List ℕ) (outcomes : List BusOutcome) → length reply ≡ count pec

@@ -119,7 +119,7 @@ module _ (config : Config) (small : config .«max_bus_retries» ≤ 65535) (w : 
   unfolding reading.macPlan parts.hasHead parts.firstAddress parts.headBytes rust.macReadWithRetries nothing
   behind l command buffer inner m h least =
       started (reading.macPlan config l command (length inner)) (length buffer) w lent buffer outcomes (measure l 0 (length buffer) w roomy ∙ m)
-      ∙ mac-read.at-frame (config .«max_bus_retries») l (head.Mac command) 0x44 (0x44 ∷ 2 ∷ fixedPair command) buffer inner w lent steady refl (mac-head command) refl (omega (arith, fixed-pair command)) h least
+      ∙ mac-read.at-frame (config .«max_bus_retries») (config .«growing_waits») l (head.Mac command) 0x44 (0x44 ∷ 2 ∷ fixedPair command) buffer inner w lent steady refl (mac-head command) refl (omega (arith, fixed-pair command)) h least
       outcomes (config .«pec_read») (config .«max_bus_retries») nothing [] (omega arith)
 
   -- and one into the caller's own
@@ -182,7 +182,7 @@ module _ (config : Config) (small : config .«max_bus_retries» ≤ 65535) (w : 
       let some : 0 < length buffer = omega (arith, eqb-false (length buffer) 0 e) in
       let far : (0x4000 ≤ start) × (start + length buffer ≤ 0x6000) = within start (length buffer) t some in
       started (machine-r5.readDataflash config start) (length buffer) w lent buffer outcomes (rw (le-ltb w 39 roomy, t, e))
-      ∙ flash-read.same start (config .«max_bus_retries») limit.Window (length buffer) w lent steady roomy (far .0) (far .1) outcomes (config .«pec_read») true 0 (config .«max_bus_retries») nothing buffer [] refl some (omega arith)
+      ∙ flash-read.same start (config .«max_bus_retries») (config .«growing_waits») limit.Window (length buffer) w lent steady roomy (far .0) (far .1) outcomes (config .«pec_read») true 0 (config .«max_bus_retries») nothing buffer [] refl some (omega arith)
       ∙ rw (range-window, t)
 
   pub read-dataflash : (start : ℕ) (buffer : List ℕ) → reads (machine-r5.readDataflash config start) buffer w lent outcomes ≡ rust-r5.readDataflash config start buffer begun outcomes
@@ -201,7 +201,7 @@ module _ (config : Config) (small : config .«max_bus_retries» ≤ 65535) (w : 
       ∙ rw n
   dispatched address input output m h false n =
       rw n (started (reading.planOf config (limit.Command (length input)) (head.Command address) (config .«pec_read») (reads-of.Once (macAsk (address / 65536 % 256) (length output) (config .«pec_read»)))) (length output) w lent output outcomes (measure (limit.Command (length input)) 0 (length output) w roomy ∙ m)
-      ∙ mac-read.at-frame (config .«max_bus_retries») (limit.Command (length input)) (head.Command address) (address / 65536 % 256) (commandBytes address) output output w lent steady refl refl refl (omega arith) (omega arith) h
+      ∙ mac-read.at-frame (config .«max_bus_retries») (config .«growing_waits») (limit.Command (length input)) (head.Command address) (address / 65536 % 256) (commandBytes address) output output w lent steady refl refl refl (omega arith) (omega arith) h
       outcomes (config .«pec_read») (config .«max_bus_retries») nothing [] (omega arith)
       ∙ mac-read.own (commandBytes address) output (config .«pec_read») outcomes (config .«max_bus_retries») begun)
 

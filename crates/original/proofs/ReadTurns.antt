@@ -31,6 +31,7 @@ use Rattle.reading.specs.declared.call.ReadCall.{ReadCall}
 use Rattle.reading.specs.declared.call.Verdict.the-variants as verdict
 use Rattle.original.specs.Bus.{BusOutcome, Acknowledged, BusError, Timeout, delivered, Made, write, read, brings, begun, Ok, Err, Waiting, _leaving_, busOp_err_ok_}
 use Rattle.original.specs.Fed.{Lending, Lends, told, reply, answered, shows_sending_transfer_answer_, heard_taken_refused_, fedRead}
+use Rattle.original.proofs.Laws.{missed}
 
 -- one that has ended says its answer
 pub at-end : (call : ReadCall) (buffer : List ℕ) (lent : ℕ → Lending) (done : List Made) (a : Answer) → call .phase ≡ phase.Ended a
@@ -146,7 +147,7 @@ module _ (plan : ReadPlan) (n w : ℕ) where
     pub after-failure : (heading : Bool) (i left : ℕ) (tally : Tally) (why : Answer) (buffer : List ℕ) (done : List Made) (outcomes : List BusOutcome) → eqb (numberOf why) 0 ≡ false → (t : Bool) → eqb left 0 ≡ t
         → fedRead (reading.failOf (at heading i left tally) why) buffer lent done outcomes
         ≡ (if eqb left 0 then Err why (record { transfers = done; waits = tally .waits }) outcomes leaving buffer
-        else fedRead (at (parts.hasHead (plan .head)) i (left - 1) (waited tally)) buffer lent done outcomes)
+        else fedRead (at (parts.hasHead (plan .head)) i (left - 1) (missed (plan .growing) (plan .retries) left tally)) buffer lent done outcomes)
     unfolding reading.failOf reading.endOf reading.retryOf failed waited case_retry_spent_ if_then_else_ answered
     after-failure heading i left tally why buffer done outcomes bad true e =
         let f : reading.failOf (at heading i left tally) why ≡ reading.endOf (at heading i left tally) why = rw e in

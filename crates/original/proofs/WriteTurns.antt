@@ -30,7 +30,7 @@ use Rattle.writing.specs.declared.call.WriteCall.{WriteCall}
 use Rattle.original.specs.Bus.{BusOutcome, Acknowledged, BusError, Timeout, Made, brings, write, Log, begun, delayed, Came, Ok, Err, busOp_err_ok_, settle}
 use Rattle.original.specs.Fed.{Lending, Lends, told, reply, answered, shows_sending_transfer_answer_, wrote_taken_refused_, fedWrite}
 use Rattle.original.specs.OriginalInterface.{writeWithRetriesInternal}
-use Rattle.original.proofs.Laws.{one-wait}
+use Rattle.original.proofs.Laws.{missed, one-wait}
 
 -- one that has ended says its answer
 at-end : (call : WriteCall) (payload : List ℕ) (lent : ℕ → Lending) (done : List Made) (a : Answer) → call .phase ≡ phase.Ended a
@@ -113,7 +113,7 @@ module _ (plan : WritePlan) (payload : List ℕ) (w : ℕ) where
     after-failure : (i left : ℕ) (tally : Tally) (why : Answer) (done : List Made) (outcomes : List BusOutcome) (t : Bool) → eqb left 0 ≡ t
         → fedWrite (writing.failOf (at i left tally) why) payload lent done outcomes
         ≡ (if eqb left 0 then answered (writing.gaveUp (plan .frames) i why) (record { transfers = done; waits = tally .waits }) outcomes
-        else fedWrite (at i (left - 1) (waited tally)) payload lent done outcomes)
+        else fedWrite (at i (left - 1) (missed (plan .growing) (plan .retries) left tally)) payload lent done outcomes)
     unfolding writing.failOf writing.endOf writing.retryOf failed waited case_retry_spent_ if_then_else_
     after-failure i left tally why done outcomes true e =
         let f : writing.failOf (at i left tally) why ≡ writing.endOf (at i left tally) why = rw e in
@@ -158,10 +158,10 @@ module _ (plan : WritePlan) (payload : List ℕ) (w : ℕ) where
       after-fault outcomes ih todo i left tally why done bad c l b true t =
           after-failure i left tally why (done ++ (write (frameAt i) ∷ [])) outcomes true t ∙ rw t (gave-up (plan .frames) i why (out i tally done) outcomes bad)
       after-fault outcomes ih todo i left tally why done bad c l b false t =
-          let m : waited tally .waits ≡ tally .waits + 1 = one-wait tally (omega (arith, eqb-false left 0 t)) in
+          let m : missed (plan .growing) (plan .retries) left tally .waits ≡ tally .waits + 1 = one-wait (plan .growing) (plan .retries) left tally (omega (arith, eqb-false left 0 t)) in
           let some : 1 ≤ left = omega (arith, eqb-false left 0 t) in
           after-failure i left tally why (done ++ (write (frameAt i) ∷ [])) outcomes false t
-          ∙ rw (t, ← m) (ih todo i (left - 1) (waited tally) (done ++ (write (frameAt i) ∷ [])) c (omega arith) (omega arith))
+          ∙ rw (t, ← m) (ih todo i (left - 1) (missed (plan .growing) (plan .retries) left tally) (done ++ (write (frameAt i) ∷ [])) c (omega arith) (omega arith))
 
       same : (outcomes : List BusOutcome) → Same outcomes
       unfolding fedWrite writeWithRetriesInternal settle busOp_err_ok_ told writing.settleOf case_acknowledged_error_timeout_ tallied

@@ -30,7 +30,7 @@ brings (read command count) = count
 abbrev pub delivered : ℕ → List ℕ → List ℕ
 delivered n bytes = take n (bytes ++ replicate n 0)
 
--- what a call has done so far: its transfers, first to last, and how often it has waited for 10 ms
+-- what a call has done so far: its transfers, first to last, and how often it has waited (each of the Rust's waits is 10 ms)
 pub record Log : Type 0 where
   pub transfers : List Made
   pub waits : ℕ

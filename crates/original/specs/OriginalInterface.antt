@@ -1,5 +1,6 @@
 -- interface.rs, function by function as it stands there, over the list of what the bus does.
--- Each takes what was done so far and the outcomes to come, as `&mut self` has them. A loop takes its `retries`; the Rust starts them at `max_bus_retries`.
+-- Each takes what was done so far and the outcomes to come, as `&mut self` has them. A loop takes its `retries`; the Rust starts them at `max_bus_retries`. None looks
+-- at `growing_waits`, which is no setting of the Rust (02, W-203).
 -- Assumes nothing.
 use Prim.Native.Nat.{ℕ, zero, suc, _+_, _-_, _/_, _%_, min}
 use mathlib.Core.Bool.{Bool, true, false, not, _&&_, _||_}

@@ -12,9 +12,9 @@ use Rattle.original.specs.Bus.{Acknowledged, BusError, Timeout, write, r
 use Rattle.original.specs.OriginalInterface as rust
 use Rattle.original.specs.OriginalR5 as rust-r5
 
--- so many retries, and no PEC
+-- so many retries, no PEC, waits of one length
 abbrev retrying : ℕ → Config
-retrying n = record { «max_bus_retries» = n; «pec_write» = false; «pec_read» = false }
+retrying n = record { «max_bus_retries» = n; «pec_write» = false; «pec_read» = false; «growing_waits» = false }
 
 -- the whole case of document 01: a bus error, one wait, the same frame again
 pub retried-write : rust-r5.writeDataflash (retrying 1) 0x4000 (0xAA ∷ 0xBB ∷ []) begun (BusError 5 ∷ Acknowledged [] ∷ [])

@@ -32,14 +32,14 @@ writeSaid frame = 0x00 ∷ frame
 unfoldable pub readSaid : ℕ → ℕ → List ℕ
 readSaid command count = 0x01 ∷ command ∷ pairOf count
 
--- the end: FF, the answer, its two-byte detail, the waits and a reading call's buffer
+-- the end: FF, the answer, its two-byte detail, the waits, how long they were (02, W-203) and a reading call's buffer
 unfoldable pub endSaid : Answer → Tally → List ℕ → List ℕ
-endSaid answer tally buffer = 0xFF ∷ numberOf answer ∷ pairOf (detailOf answer) ++ quadOf (tally .waits) ++ buffer
+endSaid answer tally buffer = 0xFF ∷ numberOf answer ∷ pairOf (detailOf answer) ++ quadOf (tally .waits) ++ quadOf (tally .«waited_ms») ++ buffer
 
--- no outcomes left: FE, the waits and a reading call's buffer
+-- no outcomes left: FE, the waits, how long they were and a reading call's buffer
 unfoldable pub cutSaid : Tally → List ℕ → List ℕ
-cutSaid tally buffer = 0xFE ∷ quadOf (tally .waits) ++ buffer
+cutSaid tally buffer = 0xFE ∷ quadOf (tally .waits) ++ quadOf (tally .«waited_ms») ++ buffer
 
 -- the longest of them: an end with the longest buffer
 abbrev pub longestSaid : ℕ
-longestSaid = 8 + 8192
+longestSaid = 12 + 8192

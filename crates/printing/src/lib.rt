@@ -10,8 +10,8 @@ ghost use lib.Dec.{leb};
 ghost use Rattle.hex.specs.Line.{feedBytes};
 ghost use Rattle.printing.specs.Printing.{printedOf, outPrinted, quadOf, writeSaid, readSaid, endSaid, cutSaid};
 
-// The bytes of an end before its buffer: FF, the answer, its detail and a count.
-const END_BYTES: usize = 8;
+// The bytes of an end before its buffer: FF, the answer, its detail, the waits and how long they were.
+const END_BYTES: usize = 12;
 
 // The longest line is the end of a call with the longest buffer, as digits, and a line feed.
 pub const LONGEST_LINE: usize = (END_BYTES + MOST_BYTES) * 2 + 1;
@@ -73,7 +73,7 @@ pub fn read(command: u8, count: usize, out: &mut [u8]) -> usize
     line(&head, b"", out)
 }
 
-// The four bytes of a count, low byte first.
+// The four bytes of a number, low byte first.
 fn quad(n: u32) -> [u8; 4]
     ensures { λ r. ⌜ r ≡ quadOf n ⌝ }
 {
@@ -85,12 +85,13 @@ fn quad(n: u32) -> [u8; 4]
     ]
 }
 
-// The end: FF, the answer, its two-byte detail, a four-byte count of waits and a reading call's buffer.
+// The end: FF, the answer, its two-byte detail, the waits and their milliseconds in four bytes each, and a reading call's buffer.
 pub fn end(answer: Answer, tally: Tally, buffer: &[u8], out: &mut [u8]) -> usize
     ensures { λ r. ⌜ (r ≡ printedOf (endSaid answer tally (now (buffer .entry))) (length (now (out .entry)))) × (now (out .exit) ≡ outPrinted (endSaid answer tally (now (buffer .entry))) (now (out .entry))) ⌝ }
 {
     let detail = answer.detail();
     let waits = quad(tally.waits);
+    let ms = quad(tally.waited_ms);
     let head = [
         0xFFu8,
         answer.number(),
@@ -100,15 +101,30 @@ pub fn end(answer: Answer, tally: Tally, buffer: &[u8], out: &mut [u8]) -> usize
         waits[1],
         waits[2],
         waits[3],
+        ms[0],
+        ms[1],
+        ms[2],
+        ms[3],
     ];
     line(&head, buffer, out)
 }
 
-// No outcomes left: FE, a four-byte count of waits and a reading call's buffer.
+// No outcomes left: FE, the waits and their milliseconds in four bytes each, and a reading call's buffer.
 pub fn cut(tally: Tally, buffer: &[u8], out: &mut [u8]) -> usize
     ensures { λ r. ⌜ (r ≡ printedOf (cutSaid tally (now (buffer .entry))) (length (now (out .entry)))) × (now (out .exit) ≡ outPrinted (cutSaid tally (now (buffer .entry))) (now (out .entry))) ⌝ }
 {
     let waits = quad(tally.waits);
-    let head = [0xFEu8, waits[0], waits[1], waits[2], waits[3]];
+    let ms = quad(tally.waited_ms);
+    let head = [
+        0xFEu8,
+        waits[0],
+        waits[1],
+        waits[2],
+        waits[3],
+        ms[0],
+        ms[1],
+        ms[2],
+        ms[3],
+    ];
     line(&head, buffer, out)
 }

@@ -1,4 +1,4 @@
--- Demand 1 is what `answers` proves, and `ceilings` of the ends of calls.
+-- Demand 1 is what `answers` proves, `ceilings` of the ends of calls, and `waits` of how long they wait.
 -- Assumes nothing.
 use Rattle.answers.proofs.Numbers.{numbers}
 use Rattle.answers.proofs.Start.{starts}
@@ -13,6 +13,8 @@ use Rattle.answers.proofs.Unique.{unique}
 use Rattle.answers.proofs.Unlooked.{unlooked-w, unlooked-r}
 use Rattle.answers.proofs.Within.{stays, within}
 use Rattle.ceilings.proofs.Ceilings.{ceilings}
+use Rattle.waits.proofs.Waits.{waits}
+use Rattle.promises.proofs.Reported.{as-reported}
 use Rattle.original.proofs.Fronts.{fronts}
 use Rattle.promises.specs.Demand1.{Demand1}
 use Rattle.promises.proofs.CourseRows.{course-rows}
@@ -43,6 +45,8 @@ demand1 = record {
   hands-out = hands-out;
   within = within;
   ceilings = ceilings;
+  waits = waits;
+  hosts = as-reported;
   ends = fed-ends;
   courses = course-rows;
   runs = run-laws;

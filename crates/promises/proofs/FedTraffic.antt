@@ -1,6 +1,6 @@
 -- A call that is fed: each outcome is taken and counted, so that it makes at most as many transfers as it can accept outcomes, and ends.
 -- Assumes nothing.
-use Prim.Native.Nat.{ℕ, suc, _+_, _≤_}
+use Prim.Native.Nat.{ℕ, suc, _+_, _*_, _≤_}
 use mathlib.Core.Path.{_≡_, refl, ap, subst, _∙_}
 use mathlib.Core.Bool.{Bool, true, false}
 use mathlib.Core.List.{List, [], _∷_, _++_}
@@ -17,6 +17,7 @@ use Rattle.engine.specs.declared.bus.Outcome.the-variants as outcome
 use Rattle.engine.specs.declared.bus.Phase.the-variants as phase
 use Rattle.engine.specs.declared.bus.Transfer.{Transfer}
 use Rattle.engine.specs.declared.bus.Transfer.the-variants as transfer
+use Rattle.calls.specs.Kind.{planOf}
 use Rattle.calls.specs.Call.{startOf, nextOf, workAfter, partOf, reportOf, bufferAfter, phaseOf, tallyOf}
 use Rattle.calls.specs.declared.call.Call.{Call}
 use Rattle.calls.specs.declared.call.Reported.{Reported}
@@ -25,6 +26,9 @@ use Rattle.calls.specs.declared.kind.Kind.{Kind}
 use Rattle.ceilings.specs.Reports.{callAfter, feed, accepted}
 use Rattle.ceilings.specs.Ceilings.{CeilingOf}
 use Rattle.ceilings.proofs.Ceilings.{ceilings}
+use Rattle.waits.specs.Waits.{budgetsIn}
+use Rattle.waits.proofs.Failed.{Short}
+use Rattle.waits.proofs.Waits.{Bounds, bounded}
 use Rattle.ceilings.proofs.Good.{Good, Follows, waits-some, rests, follows, counts, good-named}
 use Rattle.original.specs.Bus.{BusOutcome, Acknowledged, BusError, Timeout, brings, Log, Ok, Err, Waiting, Read, _leaving_, transfersOf, answeredIn, waitsIn, NoMore, Over}
 use Rattle.original.specs.Fed.{told, Lending, Lends, reply, answered, shows_sending_transfer_answer_, came_taken_refused_, fed, fedCall}
@@ -37,6 +41,7 @@ use Rattle.promises.specs.CountByKind.{CountByKind}
 use Rattle.promises.proofs.CourseRows.{buffer-size}
 use Rattle.promises.proofs.Taken.{shows-waits, takes, Idle, not-idle}
 use Rattle.promises.proofs.Live.{Live, live, lives, fits-live, shows-one}
+use Rattle.promises.proofs.Reported.{as-reported}
 
 -- an acknowledged transfer brings as many bytes as it asks for
 brings-all : (t : Made) (beside : List ℕ) (o : BusOutcome) → told o ≡ outcome.Acknowledged → length (reply t beside o) ≡ brings t
@@ -224,6 +229,24 @@ module _ (config : Config) (few : config .«max_bus_retries» ≤ 65535) (kind :
       let all : tallyOf (fedCall begun payload buffer lent 0 os) .transfers ≡ answeredIn (fed begun payload buffer lent [] os) = omega (arith, ran .counted, none) in
       (all ∙ ap answeredIn same, ran .waited ∙ ap waitsIn same)
 
+  -- the milliseconds are those of a call that is reported to
+  lasts-fed : Bounds (config .«growing_waits») (config .«max_bus_retries») (budgetsIn (planOf kind config (length payload) (length buffer)) (length payload)) (fedCall begun payload buffer lent 0 os)
+  lasts-fed =
+      let told = as-reported begun payload buffer lent os in
+      rw (told .same) (bounded config few kind (length payload) (length buffer) w (told .reports))
+
+  tens-fed : config .«growing_waits» ≡ false → tallyOf (fedCall begun payload buffer lent 0 os) .«waited_ms» ≡ tallyOf (fedCall begun payload buffer lent 0 os) .waits * 10
+  tens-fed = lasts-fed .tens
+
+  short-fed : Short (tallyOf (fedCall begun payload buffer lent 0 os))
+  short-fed = lasts-fed .short
+
+-- nothing is counted
+no-count : (t : Tally) → t .waits ≡ 0 → t .«waited_ms» ≡ 0 → t .transfers ≡ 0 → t ≡ record { waits = 0; «waited_ms» = 0; transfers = 0 }
+no-count t a b c = ap (λ (n : ℕ). record { waits = n; «waited_ms» = t .«waited_ms»; transfers = t .transfers }) a
+    ∙ ap (λ (n : ℕ). record { waits = 0; «waited_ms» = n; transfers = t .transfers }) b
+    ∙ ap (λ (n : ℕ). record { waits = 0; «waited_ms» = 0; transfers = n }) c
+
 -- EVERY CALL THAT IS FED ENDS
 pub fed-ends : Ends
 fed-ends = record {
@@ -237,10 +260,16 @@ fed-ends = record {
 -- THE COUNT IS THE ORIGINAL'S
 pub count-by-kind : (config : Config) → config .«max_bus_retries» ≤ 65535 → (w : ℕ) → 39 ≤ w → (lent : ℕ → Lending) → Lends w lent → (os : List BusOutcome)
     → CountByKind config w lent os
-unfolding answeredIn
+unfolding answeredIn waitsIn
 count-by-kind config few w roomy lent steady os = record {
   same = λ kind payload buffer defined. counts-fed config few kind payload buffer w lent os _ (equal-by-kind config few w roomy lent steady os .same kind payload buffer defined);
-  added = λ kind payload buffer a instead. counts-fed config few kind payload buffer w lent os _ (equal-by-kind config few w roomy lent steady os .added kind payload buffer a instead) .0;
+  steady = λ off kind payload buffer defined.
+      tens-fed config few kind payload buffer w lent os off
+      ∙ ap (λ (n : ℕ). n * 10) (counts-fed config few kind payload buffer w lent os _ (equal-by-kind config few w roomy lent steady os .same kind payload buffer defined) .1);
+  added = λ kind payload buffer a instead.
+      let none = counts-fed config few kind payload buffer w lent os _ (equal-by-kind config few w roomy lent steady os .added kind payload buffer a instead) in
+      let short = short-fed config few kind payload buffer w lent os in
+      no-count (tallyOf (fedCall (startOf kind config (length payload) (length buffer) w) payload buffer lent 0 os)) (none .1) (omega (arith, none .1, short)) (none .0);
 }
 
 -- AND SO ARE THE CEILINGS

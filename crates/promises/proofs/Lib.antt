@@ -24,6 +24,7 @@ pub mod ReadHost
 pub mod ReadCourses
 pub mod RunLaws
 pub mod Taken
+pub mod Reported
 pub mod FedTraffic
 pub mod Live
 pub mod CourseTraffic

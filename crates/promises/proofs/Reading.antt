@@ -18,7 +18,7 @@ use Rattle.protocol.specs.declared.error.Answer.{Answer}
 use Rattle.protocol.specs.declared.error.Answer.the-variants as answer
 use Rattle.protocol.proofs.Laws.{length-over}
 use Rattle.engine.specs.Pick.{case_retry_spent_}
-use Rattle.engine.specs.Budget.{failed as failedOf, waited, tallied}
+use Rattle.engine.specs.Budget.{failed as failedOf, tallied}
 use Rattle.engine.specs.Bus.{phaseAfter}
 use Rattle.engine.specs.declared.budget.Budget.{Budget}
 use Rattle.engine.specs.declared.budget.Tally.{Tally}
@@ -30,6 +30,7 @@ use Rattle.r5.specs.Plans.{readDataflash}
 use Rattle.model_gauge.specs.Gauge.{offsetOf, movedOf}
 use Rattle.model_gauge.specs.declared.gauge.Gauge.{Gauge}
 use Rattle.promises.specs.Flash.{placeOf, blockOf}
+use Rattle.original.proofs.Laws.{missed}
 use Rattle.promises.specs.Events.{Cause, Event, acknowledged, failed, unheard, causeOf, heardAs as heardBy, after, flashAfter, ackedAfter, each}
 use Rattle.promises.specs.Reads.{ReadWorld, heard, readStep, readRun, Coming, comes, damaged, readOver, Damages, readNoisily}
 use Rattle.promises.specs.Reading.{flashBytes, ReadAnswered, all-got, gave-up, disbelieved}
@@ -95,7 +96,7 @@ module _ (noisy : Bool) (config : Config) (address n : ℕ) (old flash : List �
             head = true;
             i = i;
             b = record { left = b .left - 1 };
-            t = waited t;
+            t = missed (config .«growing_waits») (config .«max_bus_retries») (b .left) t;
             gauge = g;
             buffer = buffer;
             work = work;

@@ -17,7 +17,7 @@ use Rattle.protocol.specs.declared.error.Answer.the-variants as answer
 use Rattle.protocol.proofs.WindowLaws.{within}
 use Rattle.engine.specs.Pick.{case_retry_spent_}
 use Rattle.engine.specs.Bus.{phaseAfter}
-use Rattle.engine.specs.Budget.{failed as failedOf, nothing, waited, tallied}
+use Rattle.engine.specs.Budget.{failed as failedOf, nothing, tallied}
 use Rattle.engine.specs.Limit.{windowed, measured, admitted}
 use Rattle.engine.specs.declared.budget.Budget.{Budget}
 use Rattle.engine.specs.declared.budget.Tally.{Tally}
@@ -28,6 +28,7 @@ use Rattle.writing.specs.Writing.{planOf, startOf, gaveUp, retryOf, endOf, fail
 use Rattle.r5.specs.Plans.{writeDataflash}
 use Rattle.model_gauge.specs.Gauge.{stored}
 use Rattle.promises.specs.Flash.{placeOf, blockOf, upto, Overlaid}
+use Rattle.original.proofs.Laws.{missed}
 use Rattle.promises.specs.Events.{Cause, Event, acknowledged, failed, unheard, each}
 use Rattle.promises.specs.Writes.{WriteWorld, began, shows, step, run}
 use Rattle.promises.specs.Demand3.{Answered, all-acked, some-acked, none-acked, Told, Promised, Accepted}
@@ -105,7 +106,7 @@ module _ (config : Config) (address : ℕ) (payload old : List ℕ) (n : ℕ) (r
     where
       by : (z : Bool) → eqb (b .left) 0 ≡ z → Going (record { call = failOf (callAt config address payload n phase.Waiting i b t) (whyOf c); work = work; flash = flash; acked = i })
       by true z = rw z (record { at = phase.Ended (if eqb i 0 then whyOf c else answer.PartialDataFlashWrite (i * 32)); i = i; b = b; t = t; work = work; flash = flash; is = refl; long = long; holds = v; told = told-gave-up (length payload) i c h })
-      by false z = rw z (record { at = phase.Waiting; i = i; b = record { left = b .left - 1 }; t = waited t; work = work; flash = flash; is = refl; long = long; holds = v; told = h })
+      by false z = rw z (record { at = phase.Waiting; i = i; b = record { left = b .left - 1 }; t = missed (config .«growing_waits») (config .«max_bus_retries») (b .left) t; work = work; flash = flash; is = refl; long = long; holds = v; told = h })
 
   going-at : (e : Event) (at : Phase) (i : ℕ) (b : Budget) (t : Tally) (work flash : List ℕ) → length work ≡ n
       → Overlaid 32 (placeOf address) payload old i flash → ToldAt 32 (length payload) i at

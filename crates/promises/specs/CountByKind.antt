@@ -1,7 +1,9 @@
--- The count is the original's: the transfers that a call counts are those that the Rust makes and the bus has answered for. (02, W-208)
+-- The counts are the original's: the transfers that a call counts are those that the Rust makes and the bus has answered for (02, W-208), and where waits do not
+-- grow its total is 10 ms for each of the Rust's delays (02, W-203).
 -- Assumes nothing.
-use Prim.Native.Nat.{ℕ}
+use Prim.Native.Nat.{ℕ, _*_}
 use mathlib.Core.Path.{_≡_}
+use mathlib.Core.Bool.{false}
 use mathlib.Core.List.{List}
 use lib.ListN.{length}
 use Rattle.protocol.specs.declared.common.Config.{Config}
@@ -19,6 +21,10 @@ pub record CountByKind (config : Config) (w : ℕ) (lent : ℕ → Lending) (out
       → (tallyOf (fedCall (startOf kind config (length payload) (length buffer) w) payload buffer lent 0 outcomes) .transfers
       ≡ answeredIn (rustOf kind config payload buffer outcomes))
       × (tallyOf (fedCall (startOf kind config (length payload) (length buffer) w) payload buffer lent 0 outcomes) .waits ≡ waitsIn (rustOf kind config payload buffer outcomes))
-  -- where the added refusal stands, none
+  -- with the setting off it has waited for 10 ms for each of the Rust's delays
+  pub steady : config .«growing_waits» ≡ false → (kind : Kind) (payload buffer : List ℕ) → Defined kind config payload buffer
+      → tallyOf (fedCall (startOf kind config (length payload) (length buffer) w) payload buffer lent 0 outcomes) .«waited_ms»
+      ≡ waitsIn (rustOf kind config payload buffer outcomes) * 10
+  -- where the added refusal stands, nothing is counted
   pub added : (kind : Kind) (payload buffer : List ℕ) (a : Answer) → Added config payload buffer kind a
-      → tallyOf (fedCall (startOf kind config (length payload) (length buffer) w) payload buffer lent 0 outcomes) .transfers ≡ 0
+      → tallyOf (fedCall (startOf kind config (length payload) (length buffer) w) payload buffer lent 0 outcomes) ≡ record { waits = 0; «waited_ms» = 0; transfers = 0 }

@@ -16,6 +16,7 @@ use Rattle.writing.specs.Writing as writing
 use Rattle.writing.specs.declared.call.WriteCall.{WriteCall}
 use Rattle.reading.specs.Reading as reading
 use Rattle.reading.specs.declared.call.ReadCall.{ReadCall}
+use Rattle.calls.specs.declared.call.Call.{Call}
 use Rattle.original.specs.Bus.{BusOutcome}
 use Rattle.original.specs.Fed.{Lending, Lends}
 use Rattle.original.specs.Fronts.{Fronts}
@@ -26,9 +27,10 @@ use Rattle.answers.specs.Runs.{Stays}
 use Rattle.answers.specs.Unique.{Unique}
 use Rattle.answers.specs.Within.{Within}
 use Rattle.ceilings.specs.Ceilings.{Ceilings}
+use Rattle.waits.specs.Waits.{Waits}
 use Rattle.promises.specs.CourseRows.{CourseRows}
 use Rattle.promises.specs.RunLaws.{RunLaws}
-use Rattle.promises.specs.Traffic.{Ends, CourseTraffic}
+use Rattle.promises.specs.Traffic.{Ends, AsReported, CourseTraffic}
 
 pub record Demand1 : Type 1 where
   -- the answers' numbers and details
@@ -49,7 +51,7 @@ pub record Demand1 : Type 1 where
   pub refused-w : (call : WriteCall) (o : Outcome) (r n w : ℕ) → SortW call (writing.reportOf call o r n w)
   pub refused-r : (call : ReadCall) (o : Outcome) (bytes buffer : List ℕ) (w : ℕ)
       → SortR call buffer (reading.bufferAfter call o bytes buffer w) (reading.reportOf call o bytes (length buffer) w)
-  -- what a report costs: a transfer, retries and waits, and what is due after it
+  -- what a report costs: a transfer, retries and waits with their lengths, and what is due after it
   pub costs-w : (call : WriteCall) (o : Outcome) (r n w : ℕ) → CostW call o (writing.reportOf call o r n w)
   pub costs-r : (call : ReadCall) (o : Outcome) (bytes : List ℕ) (n w : ℕ) → CostR call o bytes (reading.reportOf call o bytes n w)
   -- what a report leaves in the caller's buffer
@@ -68,7 +70,8 @@ pub record Demand1 : Type 1 where
   pub stays : Stays
   -- each call by name, however it is fed: what it hands out to be sent, and when it shows 8
   pub hands-out : HandsOut
-  -- each call by name, however it is fed: it has a next transfer until it ends, no counter saturates (of the transfers: `ceilings`), and an ending other than 0 leaves the buffer past whole blocks as it was
+  -- each call by name, however it is fed: it has a next transfer until it ends, no counter saturates (of the transfers: `ceilings`; of the milliseconds: `waits`),
+  -- and an ending other than 0 leaves the buffer past whole blocks as it was
   pub within : Within
   -- EVERY CALL ENDS: each call by name, for any list of reports, accepts and counts at most so many outcomes, and then no longer waits
   pub ceilings : Ceilings
@@ -80,5 +83,9 @@ pub record Demand1 : Type 1 where
   pub runs : RunLaws
   -- a run over a course makes at most so many transfers, and uses up a byte for each
   pub traffic : CourseTraffic
+  -- HOW LONG A CALL WAITS: the milliseconds that its tally carries, by the settings and the outcomes, and what a report adds to them
+  pub waits : Waits
+  -- a host's call is one that is reported to, with the outcomes of the bus from the first on
+  pub hosts : (call : Call) (payload buffer : List ℕ) (lent : ℕ → Lending) (outcomes : List BusOutcome) → AsReported call payload buffer lent outcomes
   -- each contract has one answer
   pub unique : Unique

@@ -2,22 +2,25 @@
 -- The ceilings by engine, by shape and by name, over any list of reports, are those of `ceilings`. Here a host makes the transfers and reports what came of them, and
 -- then a run over a course of the model gauge does.
 -- Assumes nothing.
-use Prim.Native.Nat.{ℕ, _-_, _≤_, _<_}
+use Prim.Native.Nat.{ℕ, _≤_, _<_}
 use mathlib.Core.Path.{_≡_}
 use mathlib.Core.Bool.{true}
-use mathlib.Core.List.{List, []}
+use mathlib.Core.List.{List, [], map}
 use lib.ListN.{length, take}
 use Rattle.protocol.specs.declared.common.Config.{Config}
 use Rattle.engine.specs.declared.budget.Tally.{Tally}
 use Rattle.engine.specs.declared.bus.Phase.the-variants as phase
 use Rattle.calls.specs.Call.{startOf, phaseOf, tallyOf}
+use Rattle.calls.specs.declared.call.Call.{Call}
 use Rattle.calls.specs.declared.kind.Kind.{Kind}
+use Rattle.ceilings.specs.Reports.{Report, feed, accepted}
 use Rattle.ceilings.specs.Ceilings.{CeilingOf}
+use Rattle.waits.specs.Waits.{outcomesOf}
 use Rattle.model_gauge.specs.declared.gauge.Gauge.{Gauge}
 use Rattle.courses.specs.Course.{soundOf}
 use Rattle.courses.specs.Run.{World, Left, world, runOf}
 use Rattle.courses.specs.declared.course.End.the-variants as end
-use Rattle.original.specs.Bus.{BusOutcome, NoMore, Over}
+use Rattle.original.specs.Bus.{BusOutcome, told, NoMore, Over}
 use Rattle.original.specs.Fed.{Lending, Lends, fed, fedCall}
 
 -- ---- demand 1: every call that is fed ends
@@ -36,6 +39,13 @@ pub record Ends : Type 0 where
   pub makes : (config : Config) → config .«max_bus_retries» ≤ 65535 → (kind : Kind) (payload buffer : List ℕ) (w most waits : ℕ)
       → CeilingOf (config .«max_bus_retries») (length payload) (length buffer) kind most waits → (lent : ℕ → Lending) (outcomes : List BusOutcome)
       → NoMore most waits (fed (startOf kind config (length payload) (length buffer) w) payload buffer lent [] outcomes)
+
+-- the call that a host is left with is one that was reported to, so that what is said after any list of reports (`ceilings`, `waits`) is said of it
+pub record AsReported (call : Call) (payload buffer : List ℕ) (lent : ℕ → Lending) (outcomes : List BusOutcome) : Type 0 where
+  pub reports : List Report
+  pub same : fedCall call payload buffer lent 0 outcomes ≡ feed call reports
+  -- the outcomes that it took are the first ones of what the bus did
+  pub first : outcomesOf call reports ≡ map told (take (accepted call reports) outcomes)
 
 -- ---- the same on courses
 

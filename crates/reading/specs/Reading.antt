@@ -39,9 +39,9 @@ use Rattle.reading.specs.declared.call.Verdict.the-variants as verdict
 use Rattle.reading.specs.declared.call.ReadReported.{ReadReported}
 use Rattle.reading.specs.declared.call.ReadReported.the-variants as reported
 
--- by the settings' retries
+-- by the settings' retries and waits
 abbrev pub planOf : Config → Limit → Head → Bool → Reads → ReadPlan
-planOf config limit head pec reads = record { retries = config .«max_bus_retries»; limit = limit; head = head; «head_pec» = pec; reads = reads }
+planOf config limit head pec reads = record { retries = config .«max_bus_retries»; growing = config .«growing_waits»; limit = limit; head = head; «head_pec» = pec; reads = reads }
 
 -- one plain read, with no head
 unfoldable pub plainPlan : Config → Limit → Ask → ReadPlan
@@ -117,15 +117,15 @@ advanceOf call = record {
   tally = call .tally;
 }
 
--- after a failure the head is due again
-unfoldable pub retryOf : ReadCall → Budget → ReadCall
-retryOf call left = record {
+-- after a failure, and a wait of so many milliseconds, the head is due again
+unfoldable pub retryOf : ReadCall → Budget → ℕ → ReadCall
+retryOf call left ms = record {
   task = call .task;
   phase = phase.Waiting;
   heading = parts.hasHead (call .task .plan .head);
   received = call .received;
   budget = left;
-  tally = waited (call .tally);
+  tally = waited (call .tally) ms;
 }
 
 unfoldable pub endOf : ReadCall → Answer → ReadCall
@@ -140,7 +140,7 @@ endOf call why = record {
 
 unfoldable pub failOf : ReadCall → Answer → ReadCall
 failOf call why =
-    case failed (call .budget)
+    case failed (call .task .plan .retries) (call .task .plan .growing) (call .budget)
     retry retryOf call
     spent endOf call why
 

@@ -21,9 +21,10 @@ ghost use mathlib.Core.Path.{_≡_};
 ghost use lib.ListN.{length, take};
 ghost use Rattle.reading.specs.Reading.{planOf, plainPlan, macPlan, startOf, dueAsk, shownHead, workHead, shownOf, workShown, nextOf, workAfter, headedOf, advanceOf, retryOf, endOf, failOf, heardHead, heardBlock, acknowledgedOf, weighOf, judgeOf, storedOf, countedOf, reportOf, bufferAfter};
 
-// What a reading call is: its retries, what it asks of the buffer's length, its head and whether that carries a PEC, and its reads.
+// What a reading call is: its retries and whether its waits grow, what it asks of the buffer's length, its head and whether that carries a PEC, and its reads.
 pub struct ReadPlan {
     pub retries: u16,
+    pub growing: bool,
     pub limit: Limit,
     pub head: Head,
     pub head_pec: bool,
@@ -31,12 +32,13 @@ pub struct ReadPlan {
 }
 
 impl ReadPlan {
-    // A head, with a PEC or without, and reads of a call whose limit is this, by the settings' retries.
+    // A head, with a PEC or without, and reads of a call whose limit is this, by the settings' retries and waits.
     pub fn new(config: Config, limit: Limit, head: Head, head_pec: bool, reads: Reads) -> ReadPlan
         ensures { λ r. ⌜ r ≡ planOf config limit head «head_pec» reads ⌝ }
     {
         ReadPlan {
             retries: config.max_bus_retries,
+            growing: config.growing_waits,
             limit,
             head,
             head_pec,
@@ -248,9 +250,9 @@ impl ReadCall {
         }
     }
 
-    // Another attempt, after a wait: the head is due again.
-    fn retry(self, budget: Budget) -> ReadCall
-        ensures { λ r. ⌜ r ≡ retryOf self budget ⌝ }
+    // Another attempt, after a wait of so many milliseconds: the head is due again.
+    fn retry(self, budget: Budget, ms: u32) -> ReadCall
+        ensures { λ r. ⌜ r ≡ retryOf self budget ms ⌝ }
     {
         let task = self.task;
         let plan = task.plan;
@@ -262,7 +264,7 @@ impl ReadCall {
             heading: head.some(),
             received: self.received,
             budget,
-            tally: tally.wait(),
+            tally: tally.wait(ms),
         }
     }
 
@@ -287,9 +289,11 @@ impl ReadCall {
     fn fail(self, why: Answer) -> ReadCall
         ensures { λ r. ⌜ r ≡ failOf self why ⌝ }
     {
+        let task = self.task;
+        let plan = task.plan;
         let budget = self.budget;
-        match budget.fail() {
-            Failed::Retry(left) => self.retry(left),
+        match budget.fail(plan.retries, plan.growing) {
+            Failed::Retry(left, ms) => self.retry(left, ms),
             Failed::Spent => self.end(why),
         }
     }

@@ -10,7 +10,7 @@ use Rattle.protocol.specs.declared.common.Config.{Config}
 use Rattle.engine.specs.declared.bus.Outcome.the-variants as outcome
 use Rattle.calls.specs.declared.kind.Kind.the-variants as kind
 use Rattle.requests.specs.Fields.{pairAt, quadAt}
-use Rattle.requests.specs.Request.{configOf, bad, calledOf, exactOf, askedOf, requestLine}
+use Rattle.requests.specs.Request.{configOf, unknownFlags, bad, calledOf, exactOf, askedOf, requestLine}
 use Rattle.requests.specs.Retired.{retiredKind}
 use Rattle.requests.specs.Outcome.{acknowledgedLine, errorLine, timeoutLine, outcomeLine}
 use Rattle.requests.specs.declared.outcome.Told.{Told}
@@ -26,13 +26,13 @@ pub data Figure : Type 0 where
   -- a request line in ASCII, and whether its kind is retired
   begins : List ℕ → Bool → Figure
 
--- retries, the PEC of writes and that of reads
-abbrev settings : ℕ → Bool → Bool → Config
-settings n w r = record { «max_bus_retries» = n; «pec_write» = w; «pec_read» = r }
+-- retries, the PEC of writes and that of reads, and whether waits grow
+abbrev settings : ℕ → Bool → Bool → Bool → Config
+settings n w r g = record { «max_bus_retries» = n; «pec_write» = w; «pec_read» = r; «growing_waits» = g }
 
--- no PEC and no retries
+-- no PEC, no retries and waits of one length
 abbrev plain : Config
-plain = settings 0 false false
+plain = settings 0 false false false
 
 -- a kind, no flags, no retries, and its arguments
 abbrev line : ℕ → List ℕ → List ℕ
@@ -59,13 +59,18 @@ figures =
     ∷ asks (line 0x13 []) (request.Call kind.ReadChargingVoltageOverride plain 4 10)
     ∷ asks (line 0x14 (replicate 10 0xAA)) (request.Call kind.WriteChargingVoltageOverride plain 4 0)
     ∷ asks (line 0x15 (0xAA ∷ [])) (request.Call kind.WriteWithRetries plain 4 0)
-    -- no such kind (the bytes of a retired one do not come here: its line is refused as characters, below); a third flag, a header cut short
+    -- no such kind (the bytes of a retired one do not come here: its line is refused as characters, below); a flag that means nothing, a header cut short
     ∷ asks (line 0x00 []) bad
     ∷ asks (line 0x0C (0x12 ∷ 0x02 ∷ 0x01 ∷ [])) bad
     ∷ asks (line 0x0D (0x12 ∷ 0xAA ∷ [])) bad
     ∷ asks (line 0x16 []) bad
-    ∷ asks (0x08 ∷ 0x03 ∷ 0x00 ∷ 0x00 ∷ []) (request.Call kind.ReadSecurityKeys (settings 0 true true) 4 28)
+    ∷ asks (0x08 ∷ 0x03 ∷ 0x00 ∷ 0x00 ∷ []) (request.Call kind.ReadSecurityKeys (settings 0 true true false) 4 28)
     ∷ asks (0x08 ∷ 0x04 ∷ 0x00 ∷ 0x00 ∷ []) bad
+    ∷ asks (0x08 ∷ 0x0C ∷ 0x00 ∷ 0x00 ∷ []) bad
+    ∷ asks (0x08 ∷ 0x10 ∷ 0x00 ∷ 0x00 ∷ []) bad
+    ∷ asks (0x08 ∷ 0x28 ∷ 0x00 ∷ 0x00 ∷ []) bad
+    ∷ asks (0x08 ∷ 0x40 ∷ 0x00 ∷ 0x00 ∷ []) bad
+    ∷ asks (0x08 ∷ 0x88 ∷ 0x00 ∷ 0x00 ∷ []) bad
     ∷ asks (0x08 ∷ 0x00 ∷ 0x00 ∷ []) bad
     -- arguments that are missing, or too many
     ∷ asks (line 0x01 (0x34 ∷ [])) bad
@@ -108,11 +113,15 @@ figures =
     ∷ says (0x02 ∷ 0x00 ∷ []) told.Bad
     ∷ says (0x03 ∷ []) told.Bad
     ∷ says [] told.Bad
-    -- settings: the retries low byte first, bit 0 the PEC of writes, bit 1 that of reads
-    ∷ asks (0x08 ∷ 0x01 ∷ 0x02 ∷ 0x01 ∷ []) (request.Call kind.ReadSecurityKeys (settings 0x0102 true false) 4 28)
-    ∷ asks (0x08 ∷ 0x02 ∷ 0xFF ∷ 0xFF ∷ []) (request.Call kind.ReadSecurityKeys (settings 65535 false true) 4 28)
-    ∷ asks (0x08 ∷ 0x03 ∷ 0x00 ∷ 0x00 ∷ []) (request.Call kind.ReadSecurityKeys (settings 0 true true) 4 28)
-    ∷ asks (0x08 ∷ 0x00 ∷ 0x00 ∷ 0x00 ∷ []) (request.Call kind.ReadSecurityKeys (settings 0 false false) 4 28)
+    -- settings: the retries low byte first, bit 0 the PEC of writes, bit 1 that of reads, bit 3 waits that grow
+    ∷ asks (0x08 ∷ 0x01 ∷ 0x02 ∷ 0x01 ∷ []) (request.Call kind.ReadSecurityKeys (settings 0x0102 true false false) 4 28)
+    ∷ asks (0x08 ∷ 0x02 ∷ 0xFF ∷ 0xFF ∷ []) (request.Call kind.ReadSecurityKeys (settings 65535 false true false) 4 28)
+    ∷ asks (0x08 ∷ 0x03 ∷ 0x00 ∷ 0x00 ∷ []) (request.Call kind.ReadSecurityKeys (settings 0 true true false) 4 28)
+    ∷ asks (0x08 ∷ 0x00 ∷ 0x00 ∷ 0x00 ∷ []) (request.Call kind.ReadSecurityKeys (settings 0 false false false) 4 28)
+    ∷ asks (0x08 ∷ 0x08 ∷ 0x06 ∷ 0x00 ∷ []) (request.Call kind.ReadSecurityKeys (settings 6 false false true) 4 28)
+    ∷ asks (0x08 ∷ 0x09 ∷ 0x00 ∷ 0x00 ∷ []) (request.Call kind.ReadSecurityKeys (settings 0 true false true) 4 28)
+    ∷ asks (0x08 ∷ 0x0A ∷ 0x00 ∷ 0x00 ∷ []) (request.Call kind.ReadSecurityKeys (settings 0 false true true) 4 28)
+    ∷ asks (0x08 ∷ 0x0B ∷ 0x00 ∷ 0x00 ∷ []) (request.Call kind.ReadSecurityKeys (settings 0 true true true) 4 28)
     -- retired by the first two characters, 0C or 0D, whatever follows; 0c, 0B, 0E, 1C and C0 are others, and one character is too few
     ∷ begins (0x30 ∷ 0x43 ∷ []) true
     ∷ begins (0x30 ∷ 0x44 ∷ []) true
@@ -135,5 +144,5 @@ Hold (says s t ∷ more) = (outcomeLine s ≡ t) × Hold more
 Hold (begins s t ∷ more) = (retiredKind s ≡ t) × Hold more
 
 pub figures-hold : Hold figures
-unfolding pairAt quadAt configOf calledOf exactOf askedOf requestLine retiredKind acknowledgedLine errorLine timeoutLine outcomeLine if_then_else_
-figures-hold = (refl, (refl, (refl, (refl, (refl, (refl, (refl, (refl, (refl, (refl, (refl, (refl, (refl, (refl, (refl, (refl, (refl, (refl, (refl, (refl, (refl, (refl, (refl, (refl, (refl, (refl, (refl, (refl, (refl, (refl, (refl, (refl, (refl, (refl, (refl, (refl, (refl, (refl, (refl, (refl, (refl, (refl, (refl, (refl, (refl, (refl, (refl, (refl, (refl, (refl, (refl, (refl, (refl, (refl, (refl, (refl, (refl, (refl, (refl, (refl, (refl, (refl, (refl, (refl, (refl, (refl, (refl, (refl, (refl, (refl, (refl, (refl, (refl, (refl, (refl, (refl, (refl, (refl, (refl, tt)))))))))))))))))))))))))))))))))))))))))))))))))))))))))))))))))))))))))))))))
+unfolding pairAt quadAt configOf unknownFlags calledOf exactOf askedOf requestLine retiredKind acknowledgedLine errorLine timeoutLine outcomeLine if_then_else_
+figures-hold = (refl, (refl, (refl, (refl, (refl, (refl, (refl, (refl, (refl, (refl, (refl, (refl, (refl, (refl, (refl, (refl, (refl, (refl, (refl, (refl, (refl, (refl, (refl, (refl, (refl, (refl, (refl, (refl, (refl, (refl, (refl, (refl, (refl, (refl, (refl, (refl, (refl, (refl, (refl, (refl, (refl, (refl, (refl, (refl, (refl, (refl, (refl, (refl, (refl, (refl, (refl, (refl, (refl, (refl, (refl, (refl, (refl, (refl, (refl, (refl, (refl, (refl, (refl, (refl, (refl, (refl, (refl, (refl, (refl, (refl, (refl, (refl, (refl, (refl, (refl, (refl, (refl, (refl, (refl, (refl, (refl, (refl, (refl, (refl, (refl, (refl, (refl, (refl, tt))))))))))))))))))))))))))))))))))))))))))))))))))))))))))))))))))))))))))))))))))))))))

@@ -1,6 +1,7 @@
 -- What a request line asks for: the kinds of docs/BENCH.md, one to a line. (01, The bench program)
 -- Assumes nothing.
 use Prim.Native.Nat.{ℕ, _+_, _-_, _/_, _%_}
+use mathlib.Core.Bool.{Bool, true}
 use mathlib.Core.List.{List}
 use lib.ListN.{length, drop, getD}
 use lib.Dec.{ltb, eqb}
@@ -13,13 +14,18 @@ use Rattle.requests.specs.Fields.{pairAt, quadAt}
 use Rattle.requests.specs.declared.request.Request.{Request}
 use Rattle.requests.specs.declared.request.Request.the-variants as request
 
--- flags: bit 0 pec_write, bit 1 pec_read; then the retries
+-- flags: bit 0 pec_write, bit 1 pec_read, bit 3 growing_waits (02, W-203); then the retries
 unfoldable pub configOf : List ℕ → Config
 configOf line = record {
   «max_bus_retries» = pairAt 2 line;
   «pec_write» = eqb (getD line 1 0 % 2) 1;
   «pec_read» = eqb (getD line 1 0 / 2 % 2) 1;
+  «growing_waits» = eqb (getD line 1 0 / 8 % 2) 1;
 }
+
+-- whether a flag is set that means nothing: bit 2, or one of bits 4 to 7
+unfoldable pub unknownFlags : ℕ → Bool
+unknownFlags flags = if ltb 15 flags then true else eqb (flags / 4 % 2) 1
 
 -- what asks for nothing
 abbrev pub bad : Request
@@ -57,6 +63,6 @@ askedOf k c args =
     if eqb k 0x14 then exactOf kind.WriteChargingVoltageOverride c 0 10 0 (length args) else
     if eqb k 0x15 then calledOf kind.WriteWithRetries c 0 0 (length args) else bad
 
--- kind, flags of bits 0 and 1 only, retries, arguments: what the kind asks for under those settings
+-- kind, flags of bits 0, 1 and 3 only, retries, arguments: what the kind asks for under those settings
 unfoldable pub requestLine : List ℕ → Request
-requestLine line = if ltb (length line) 4 then bad else if ltb 3 (getD line 1 0) then bad else askedOf (getD line 0 0) (configOf line) (drop 4 line)
+requestLine line = if ltb (length line) 4 then bad else if unknownFlags (getD line 1 0) then bad else askedOf (getD line 0 0) (configOf line) (drop 4 line)

@@ -12,7 +12,7 @@ use protocol::error::Answer;
 ghost use mathlib.Core.Path.{_≡_};
 ghost use Prim.Native.Nat.{_<_};
 ghost use lib.ListN.{length};
-ghost use Rattle.requests.specs.Request.{configOf, calledOf, exactOf, askedOf, requestLine};
+ghost use Rattle.requests.specs.Request.{configOf, unknownFlags, calledOf, exactOf, askedOf, requestLine};
 ghost use Rattle.requests.specs.Retired.{retiredKind};
 
 // A payload, an input, a buffer and a reply have at most so many bytes.
@@ -190,6 +190,13 @@ fn asked(kind: u8, config: Config, args: &[u8]) -> Request
     }
 }
 
+// Whether a flag is set that means nothing: bit 2, or one of bits 4 to 7.
+fn unknown_flags(flags: u8) -> bool
+    ensures { λ r. ⌜ r ≡ unknownFlags flags ⌝ }
+{
+    if 15 < flags { true } else { flags / 4 % 2 == 1 }
+}
+
 // The settings that a request line gives.
 fn config(line: &[u8]) -> Config
     ensures { λ r. ⌜ r ≡ configOf (now (line .entry)) ⌝ }
@@ -199,6 +206,7 @@ fn config(line: &[u8]) -> Config
         max_bus_retries: pair(line, 2),
         pec_write: flags % 2 == 1,
         pec_read: flags / 2 % 2 == 1,
+        growing_waits: flags / 8 % 2 == 1,
     }
 }
 
@@ -224,7 +232,7 @@ pub fn read(line: &[u8]) -> Request
     if line.len() < HEADER_BYTES {
         return Request::Refused(Answer::BadLine);
     }
-    if 3 < byte(line, 1) {
+    if unknown_flags(byte(line, 1)) {
         return Request::Refused(Answer::BadLine);
     }
     asked(byte(line, 0), config(line), rest(line, HEADER_BYTES))

@@ -90,5 +90,6 @@ pub(crate) fn settings(pec: bool) -> Config {
         max_bus_retries: 0,
         pec_write: pec,
         pec_read: pec,
+        growing_waits: false,
     }
 }

@@ -28,10 +28,11 @@ use Rattle.writing.specs.declared.call.WriteCall.{WriteCall}
 use Rattle.writing.specs.declared.call.WriteReported.{WriteReported}
 use Rattle.writing.specs.declared.call.WriteReported.the-variants as reported
 
--- by the settings' retries and `pec_write`
+-- by the settings' retries, waits and `pec_write`
 unfoldable pub planOf : Config → Limit → Frames → WritePlan
 planOf config limit frames = record {
   retries = config .«max_bus_retries»;
+  growing = config .«growing_waits»;
   pec = config .«pec_write»;
   limit = limit;
   frames = frames;
@@ -97,14 +98,14 @@ advanceOf call = record {
 unfoldable pub gaveUp : Frames → ℕ → Answer → Answer
 gaveUp fs sent why = if isFlash fs then (if eqb sent 0 then why else answer.PartialDataFlashWrite (blockStart sent)) else why
 
--- the same frame again, after a wait
-unfoldable pub retryOf : WriteCall → Budget → WriteCall
-retryOf call left = record {
+-- the same frame again, after a wait of so many milliseconds
+unfoldable pub retryOf : WriteCall → Budget → ℕ → WriteCall
+retryOf call left ms = record {
   task = call .task;
   phase = phase.Waiting;
   sent = call .sent;
   budget = left;
-  tally = waited (call .tally);
+  tally = waited (call .tally) ms;
 }
 
 -- the call gives up
@@ -119,7 +120,7 @@ endOf call why = record {
 
 unfoldable pub failOf : WriteCall → Answer → WriteCall
 failOf call why =
-    case failed (call .budget)
+    case failed (call .task .plan .retries) (call .task .plan .growing) (call .budget)
     retry retryOf call
     spent endOf call why
 

@@ -16,21 +16,23 @@ ghost use mathlib.Core.Path.{_≡_};
 ghost use lib.ListN.{length};
 ghost use Rattle.writing.specs.Writing.{planOf, startOf, ownBytes, shownOf, workShown, nextOf, workAfter, partOf, advanceOf, gaveUp, retryOf, endOf, failOf, settleOf, repliedOf, countedOf, reportOf};
 
-// What a writing call is: its retries, whether its frames carry a PEC, what it asks of the payload's length, and its frames.
+// What a writing call is: its retries and whether its waits grow, whether its frames carry a PEC, what it asks of the payload's length, and its frames.
 pub struct WritePlan {
     pub retries: u16,
+    pub growing: bool,
     pub pec: bool,
     pub limit: Limit,
     pub frames: Frames,
 }
 
 impl WritePlan {
-    // The frames of a call whose limit is this, by the settings' retries and `pec_write`.
+    // The frames of a call whose limit is this, by the settings' retries, waits and `pec_write`.
     pub fn new(config: Config, limit: Limit, frames: Frames) -> WritePlan
         ensures { λ r. ⌜ r ≡ planOf config limit frames ⌝ }
     {
         WritePlan {
             retries: config.max_bus_retries,
+            growing: config.growing_waits,
             pec: config.pec_write,
             limit,
             frames,
@@ -179,9 +181,9 @@ impl WriteCall {
         }
     }
 
-    // The same frame again, after a wait.
-    fn retry(self, budget: Budget) -> WriteCall
-        ensures { λ r. ⌜ r ≡ retryOf self budget ⌝ }
+    // The same frame again, after a wait of so many milliseconds.
+    fn retry(self, budget: Budget, ms: u32) -> WriteCall
+        ensures { λ r. ⌜ r ≡ retryOf self budget ms ⌝ }
     {
         let task = self.task;
         let tally = self.tally;
@@ -190,7 +192,7 @@ impl WriteCall {
             phase: Phase::Waiting,
             sent: self.sent,
             budget,
-            tally: tally.wait(),
+            tally: tally.wait(ms),
         }
     }
 
@@ -216,9 +218,11 @@ impl WriteCall {
     fn fail(self, why: Answer) -> WriteCall
         ensures { λ r. ⌜ r ≡ failOf self why ⌝ }
     {
+        let task = self.task;
+        let plan = task.plan;
         let budget = self.budget;
-        match budget.fail() {
-            Failed::Retry(left) => self.retry(left),
+        match budget.fail(plan.retries, plan.growing) {
+            Failed::Retry(left, ms) => self.retry(left, ms),
             Failed::Spent => self.end(why),
         }
     }

@@ -1,5 +1,7 @@
 //! Every length and address on each side of a line, and every sort of bad line.
 
+use std::collections::BTreeSet;
+
 use super::rng::Rng;
 use super::step::{Replies, Step};
 use super::{Sink, request, with_setting, words};
@@ -14,6 +16,7 @@ pub fn boundaries(sink: Sink<'_>) {
     window(sink);
     commands(sink);
     counts(sink);
+    growing_waits(sink);
     codes(sink);
     bad_requests(sink);
     retired_requests(sink);
@@ -182,15 +185,19 @@ fn counts(sink: Sink<'_>) {
         }
     }
     for kind in [Kind::PlainWrite, Kind::ReadRegister, Kind::ReadDataflash] {
-        last_allowed(&with_setting(&usual(kind), 0, u16::MAX), sink);
+        for flags in [0, 8] {
+            last_allowed(&with_setting(&usual(kind), flags, u16::MAX), sink);
+        }
     }
-    let two_blocks = with_setting(&usual(Kind::WriteDataflash), 0, u16::MAX);
     let spent = failures(usize::from(u16::MAX));
     let late = [&spent[..], &[Step::Good]].concat();
     let both_late = play("each block at its last attempt", &[&late[..], &late].concat(), None);
-    give("count 65535", &two_blocks, &both_late, sink);
-    let second_fails = [&late[..], &spent, &[Step::Timeout]].concat();
-    give("count 65535", &two_blocks, &play("the second block fails", &second_fails, None), sink);
+    let second_fails = play("the second block fails", &[&late[..], &spent, &[Step::Timeout]].concat(), None);
+    for flags in [0, 8] {
+        let two_blocks = with_setting(&usual(Kind::WriteDataflash), flags, u16::MAX);
+        give("count 65535", &two_blocks, &both_late, sink);
+        give("count 65535", &two_blocks, &second_fails, sink);
+    }
 }
 
 /// A call that spends its whole budget, and one that fails once more.
@@ -204,6 +211,49 @@ fn last_allowed(request: &Request, sink: Sink<'_>) {
 
 fn failures(count: usize) -> Vec<Step> {
     vec![Step::Error(0x33); count]
+}
+
+/// Waits that grow: a write of three blocks, other writes, reads with and without a frame in front. The budget is as large as the
+/// failures that come together, or one smaller, or suffices for all.
+fn growing_waits(sink: Sink<'_>) {
+    let calls = [
+        (Kind::WriteDataflash, 65),
+        (Kind::WriteMfgInfoC, 1),
+        (Kind::WriteRegister, 1),
+        (Kind::ReadRegister, 1),
+        (Kind::ReadDataflash, 65),
+        (Kind::ReadMfgInfoC, 1),
+    ];
+    for (kind, length) in calls {
+        let call = request(kind, usual_number(kind), length, &mut Rng::new(8, kind as u64));
+        for flags in [8, 9, 10, 11] {
+            for count in [0, 1, 3, 4, 6] {
+                for retries in BTreeSet::from([count.max(1) - 1, count, 3 * count]) {
+                    for play in growing_plays(usize::from(count)) {
+                        let section = format!("growing waits, {count} failures");
+                        give(&section, &with_setting(&call, flags, retries), &play, sink);
+                    }
+                }
+            }
+        }
+    }
+}
+
+/// So many failures together, at one place and at several, and the outcomes that end in between.
+fn growing_plays(count: usize) -> [Play; 7] {
+    let spell = failures(count);
+    let last = &spell[count.min(1)..];
+    let three = [&spell[..], &[Step::Good], &spell, &[Step::Good], &spell].concat();
+    let bad_reads = vec![[Step::Good, Step::BadPec]; count].concat();
+    [
+        play("at the start", &spell, Some(Step::Good)),
+        play("after the first", &[&[Step::Good], &spell[..]].concat(), Some(Step::Good)),
+        play("after the second", &[&[Step::Good, Step::Good], &spell[..]].concat(), Some(Step::Good)),
+        play("three times", &three, Some(Step::Good)),
+        play("at each second transfer, with a bad PEC", &bad_reads, Some(Step::Good)),
+        play("as bad PECs", &vec![Step::BadPec; count], Some(Step::Good)),
+        play("twice, then no outcomes", &[&spell[..], &[Step::Good], last].concat(), None),
+    ]
 }
 
 /// Bus error codes, and each sort of failure as the last.
@@ -247,7 +297,7 @@ fn bad_requests(sink: Sink<'_>) {
     }
     for kind in Kind::ALL {
         bad_texts(kind, sink);
-        bad_flags(kind, sink);
+        all_flags(kind, sink);
         if has_length(kind) {
             bad_lengths(kind, sink);
         }
@@ -330,9 +380,10 @@ fn turned<T: Copy>(items: &[T], kind: Kind) -> Vec<T> {
     turned
 }
 
-/// Flags with other bits, alone and with the good ones.
-fn bad_flags(kind: Kind, sink: Sink<'_>) {
-    for flags in turned(&[4, 5, 6, 7, 8, 16, 32, 64, 128, 129, 130, 131, 252, 255], kind) {
+/// Every flags byte, in an order that has the high bits in front.
+fn all_flags(kind: Kind, sink: Sink<'_>) {
+    let each: Vec<u8> = (0..=255).map(u8::reverse_bits).collect();
+    for flags in turned(&each, kind) {
         let mut bytes = usual(kind).to_bytes();
         bytes[1] = flags;
         give_request("flags", &kind.name(), Some(Line::of(&bytes)), sink);

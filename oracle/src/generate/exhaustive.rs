@@ -8,6 +8,9 @@ use crate::line::Line;
 use crate::list::Case;
 use crate::request::{Kind, Request};
 
+/// At this depth every list goes to the call's end.
+pub const DEPTH: usize = 11;
+
 /// Every call with every setting and every list of at most `depth` outcomes.
 pub fn exhaustive(depth: usize, sink: Sink<'_>) {
     for (number, request) in requests().into_iter().enumerate() {
@@ -53,13 +56,34 @@ fn choices(replies: &Replies, transfer: &Transfer<'_>, place: usize) -> Vec<Step
     choices
 }
 
-/// Every call at lengths that differ in their transfers, with every flag and 0 to 2 retries.
+/// Every call at lengths that differ in their transfers, with every flag and 0 to 2 retries; then those with more retries.
 fn requests() -> Vec<Request> {
     let mut requests = Vec::new();
     for (place, (kind, number, length)) in shapes().into_iter().enumerate() {
         let shape = request(kind, number, length, &mut Rng::new(1, place as u64));
-        for flags in 0..4 {
+        for flags in [0, 1, 2, 3, 8, 9, 10, 11] {
             requests.extend((0..3).map(|retries| with_setting(&shape, flags, retries)));
+        }
+    }
+    requests.extend(patient_requests());
+    requests
+}
+
+/// Calls of each sort with retries for the longer of the waits that grow.
+fn patient_requests() -> Vec<Request> {
+    let table: [(Kind, u32, usize, &[u16]); 6] = [
+        (Kind::WriteRegister, 0x0D, 1, &[3, 4, 5]),
+        (Kind::SendAccessKey, 0x3672_0414, 0, &[3, 4]),
+        (Kind::WriteDataflash, 0x4000, 33, &[3, 4]),
+        (Kind::ReadRegister, 0x0D, 1, &[3, 4, 5]),
+        (Kind::ReadMfgInfoC, 0, 1, &[3, 4]),
+        (Kind::ReadDataflash, 0x5F00, 33, &[3, 4]),
+    ];
+    let mut requests = Vec::new();
+    for (place, (kind, number, length, patience)) in table.into_iter().enumerate() {
+        let shape = request(kind, number, length, &mut Rng::new(2, place as u64));
+        for flags in [8, 11] {
+            requests.extend(patience.iter().map(|retries| with_setting(&shape, flags, *retries)));
         }
     }
     requests

@@ -44,15 +44,17 @@ fn any_request(rng: &mut Rng) -> Request {
     }
     request.pec_write = rng.percent(50);
     request.pec_read = rng.percent(50);
-    request.retries = any_retries(rng);
+    request.growing_waits = rng.percent(25);
+    request.retries = any_retries(request.growing_waits, rng);
     request
 }
 
-fn any_retries(rng: &mut Rng) -> u16 {
+/// Where waits grow, enough for some of the longest.
+fn any_retries(growing: bool, rng: &mut Rng) -> u16 {
     match rng.below(200) {
         0 => u16::MAX,
         1 => rng.below(1 << 16) as u16,
-        _ => rng.below(5) as u16,
+        _ => rng.below(if growing { 8 } else { 5 }) as u16,
     }
 }
 

@@ -2,15 +2,14 @@
 
 use std::collections::HashSet;
 
-use super::{Sink, boundaries, exhaustive, random};
+use super::{DEPTH, Sink, boundaries, exhaustive, random};
 use crate::bench::Report;
 use crate::list::Case;
 
 /// Longer cases are left out, but for a few that no short one can stand for.
 const LARGEST_CASE: usize = 600;
 
-/// The depth, the seed and the number of cases that the other generators are run with.
-const DEPTH: usize = 9;
+/// The seed and the number of cases that the random ones are taken from.
 const SEED: u64 = 1;
 const RANDOM_CASES: u64 = 20_000;
 
@@ -18,7 +17,7 @@ const RANDOM_CASES: u64 = 20_000;
 pub fn sample(sink: Sink<'_>) {
     let mut kept = Kept { seen: HashSet::new(), sink };
     exhaustive(DEPTH, &mut |case, report| {
-        let key = format!("exhaustive, {}, {} waits", setting(&case), report.waits);
+        let key = format!("exhaustive, {}, {} ms of waits", setting(&case), report.waited_ms);
         kept.offer(key, case, report);
     });
     boundaries(&mut |case, report| kept.offer(boundary(&case), case, report));
@@ -51,25 +50,38 @@ impl Kept<'_> {
 fn boundary(case: &Case) -> String {
     let (section, rest) = case.title.split_once(": ").unwrap_or_default();
     let word = section.split([' ', ',']).next().unwrap_or_default();
-    let both_or_none = rest.contains("flags 0") || rest.contains("flags 3");
     match word {
         "request" | "outcome" => format!("{section}, {}", call(case)),
-        _ if both_or_none && rest.ends_with("all good") => format!("{section}, {}", setting(case)),
+        "growing" if has_flags(case, &[8, 11]) => format!("{section}, {}", behind_sections(case, 2)),
+        _ if has_flags(case, &[0, 3]) && rest.ends_with("all good") => {
+            format!("{section}, {}", setting(case))
+        }
         _ => format!("{word}, {}", setting(case)),
     }
 }
 
-/// The call's name in a title, without and with the flags behind it.
+/// The call's name in a title, without and with the flags behind it; where waits grow, the other flags are left out.
 fn call(case: &Case) -> String {
     behind_sections(case, 1)
 }
 
 fn setting(case: &Case) -> String {
+    if has_flags(case, &[8, 9, 10, 11]) {
+        return format!("{}, growing waits", call(case));
+    }
     behind_sections(case, 2)
 }
 
+/// Whether a title's flags are one of these.
+fn has_flags(case: &Case, flags: &[u8]) -> bool {
+    let setting = behind_sections(case, 2);
+    flags.iter().any(|flags| setting.ends_with(&format!(", flags {flags}")))
+}
+
+/// So many words of a title, from the call's name on.
 fn behind_sections(case: &Case, parts: usize) -> String {
-    let words = case.title.split(": ").find(|part| part.contains("flags")).or(case.title.split(": ").last());
+    let words =
+        case.title.split(": ").find(|part| part.contains(", flags ")).or(case.title.split(": ").last());
     words.unwrap_or_default().split(", ").take(parts).collect::<Vec<_>>().join(", ")
 }
 
@@ -86,8 +98,8 @@ fn is_of_three_blocks(case: &Case) -> bool {
     has_65_bytes && starts.iter().any(|start| case.title.starts_with(start))
 }
 
-/// Runs of the largest length, a count of two bytes, a reply of one byte too many for a line, and retired lines that are
-/// longer than any line.
+/// Runs of the largest length, a count of two bytes, waits that grow from block to block, a reply of one byte too many for a line, and
+/// retired lines that are longer than any line.
 fn is_large(case: &Case) -> bool {
     let titles = [
         "length 8192: write_dataflash, flags 3, retries 1: all good",
@@ -96,6 +108,9 @@ fn is_large(case: &Case) -> bool {
         "length 8193: write_dataflash, flags 3, retries 1: all good",
         "count 257: send_access_key, flags 3, retries 257: as many as allowed",
         "count 257: send_access_key, flags 3, retries 257: one too many",
+        "growing waits, 4 failures: write_dataflash, flags 8, retries 4: three times",
+        "growing waits, 6 failures: write_dataflash, flags 11, retries 6: three times",
+        "growing waits, 6 failures: read_dataflash, flags 11, retries 6: at each second transfer, with a bad PEC",
         "outcome, a reply of 8193: send_access_key, flags 0, retries 2: the last line",
         "request, retired, 20,000 digits: 0C",
         "request, retired, 20,000 digits, no line feed: 0D",

@@ -5,7 +5,7 @@ use lib.ListN.{drop, getD}
 use borrow.Author.Needs.{needs}
 use Rattle.protocol.proofs.Cases.{cases}
 use Rattle.requests.specs.Request.{configOf, askedOf, requestLine}
-use Rattle.requests.proofs.Laws.{yes-lt-of, not-lt-of}
+use Rattle.requests.proofs.Laws.{same-flags}
 use Rattle.requests.proofs.request.read.Statement.{statement}
 use Rattle.requests.proofs.request.read.Tie as tie
 
@@ -16,9 +16,12 @@ returns c = search cases
 byte-requires : tie.Need-byte-requires
 byte-requires c κs = search needs
 
+unknown-flags-requires : tie.Need-unknown-flags-requires
+unknown-flags-requires c κs = search needs
+
 returns-2 : tie.Need-returns-2
 unfolding requestLine
-returns-2 c = search (cases, yes-lt-of)
+returns-2 c = search (cases, same-flags)
 
 byte-requires-2 : tie.Need-byte-requires-2
 byte-requires-2 c κs = search needs
@@ -35,9 +38,9 @@ asked-requires c κs = search needs
 returns-3 : tie.Need-returns-3
 unfolding requestLine
 returns-3 c =
-    let line = c .before .before .before .before .before .before .before .before .args .line .now in
+    let line = c .before .before .before .before .before .before .before .before .before .args .line .now in
     let same : c .asked .result ≡ askedOf (getD line 0 0) (configOf line) (drop 4 line) = c .asked .ensures ∙ rw (c .before .rest .ensures, c .before .before .config .ensures, c .before .before .before .byte2 .ensures) in
-    search (cases, not-lt-of)
+    search (cases, same-flags)
 
 pub read-spec : {M : Type 1} → statement M
 read-spec =
@@ -45,6 +48,7 @@ read-spec =
     (tie.spec
     returns
     byte-requires
+    unknown-flags-requires
     returns-2
     byte-requires-2
     config-requires

@@ -1,0 +1,9 @@
+pub mod Costs
+pub mod Failed
+pub mod Writing
+pub mod Reading
+pub mod Calls
+pub mod Plans
+pub mod Starts
+pub mod Alike
+pub mod Waits

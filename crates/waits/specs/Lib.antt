@@ -1,0 +1,3 @@
+pub mod Costs
+pub mod Waits
+pub mod Worked
