@@ -16,13 +16,13 @@ use Rattle.calls.specs.declared.call.Call.{Call}
 use Rattle.calls.specs.declared.call.Reported.{Reported}
 use Rattle.calls.specs.declared.call.Reported.the-variants as reported
 use Rattle.requests.specs.Outcome.{outcomeLine}
-use Rattle.requests.specs.Request.{bad, requestLine}
+use Rattle.requests.specs.Request.{bad, longestRequest, requestLine}
 use Rattle.requests.specs.Retired.{retiredKind}
 use Rattle.requests.specs.declared.outcome.Told.{Told}
 use Rattle.requests.specs.declared.outcome.Told.the-variants as told
 use Rattle.requests.specs.declared.request.Request.{Request}
 use Rattle.requests.specs.declared.request.Request.the-variants as request
-use Rattle.requests.proofs.Long.{long-request, long-outcome}
+use Rattle.requests.proofs.Long.{empty-request, long-request, long-outcome}
 use Rattle.requests.proofs.Small.{Small, small-request}
 use Rattle.dialogue.specs.Dialogue as dialogue
 use Rattle.dialogue.specs.declared.Place.{Place}
@@ -97,12 +97,11 @@ call-lines (line ∷ lines) R Y B call place rest h fits =
     (dialogue.bytesIn line Y) (lineBytes line) (heard-line line Y h)
 
 -- a request line is decoded to its bytes, or is bad either way
-asked-line : (line R : List ℕ) → 8202 ≤ length R
+asked-line : (line R : List ℕ) → longestRequest ≤ length R
     → (dialogue.bytesIn line R ≡ lineBytes line) ⊎ ((requestLine (dialogue.bytesIn line R) ≡ bad) × (requestLine (lineBytes line) ≡ bad))
-unfolding requestLine if_then_else_
 asked-line line R h =
     ⊎-elim (λ e. inl e)
-    (λ p. inr (ap requestLine (p .0), long-request (lineBytes line) (omega (arith, p .1))))
+    (λ p. inr (ap requestLine (p .0) ∙ empty-request, long-request (lineBytes line) (omega (arith, p .1))))
     (decoded-line line R)
 
 room-enough : (call : Call) (n room : ℕ) → n ≤ room → dialogue.roomFor call n room ≡ reported.Taken call
@@ -140,7 +139,7 @@ begin-on-line l m R Y B lines rest payload y b (inr q) =
     rw (q .0, q .1) (begin-on bad l R Y B lines rest tt payload y b)
 
 -- the whole bench: whatever the lent bytes hold at first
-pub whole : (lines : List (List ℕ)) (rest request outcome buffer : List ℕ) → 8202 ≤ length request → 8193 ≤ length outcome → 8192 ≤ length buffer
+pub whole : (lines : List (List ℕ)) (rest request outcome buffer : List ℕ) → longestRequest ≤ length request → 8193 ≤ length outcome → 8192 ≤ length buffer
     → machineOf run.Fresh request outcome buffer lines rest ≡ benchOf lines rest
 unfolding machineOf benchOf requestOf requestThen thenSay dialogue.closeOf dialogue.answerOf dialogue.requestAfter dialogue.outcomeAfter dialogue.bufferAfter
     dialogue.firstOf dialogue.firstRequest dialogue.firstBuffer dialogue.refusedOf onward if_then_else_

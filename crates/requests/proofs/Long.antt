@@ -1,9 +1,9 @@
--- A line that is longer than any valid one is bad, whatever it says.
+-- A line that is longer than any valid one is bad, whatever it says; and so is a request line with nothing on it.
 -- Assumes nothing.
 use Prim.Native.Nat.{ℕ, _+_, _-_, _≤_, _<_}
 use mathlib.Core.Path.{_≡_, refl, sym}
 use mathlib.Core.Bool.{Bool, true, false}
-use mathlib.Core.List.{List}
+use mathlib.Core.List.{List, []}
 use native.Mathlib.Omega.{arith}
 use lib.ListN.{length, drop, getD, length-drop}
 use lib.Dec.{ltb}
@@ -11,7 +11,7 @@ use Rattle.protocol.specs.Pick.{if_then_else_}
 use Rattle.protocol.proofs.Cases.{cases}
 use Rattle.calls.specs.declared.kind.Kind.{Kind}
 use Rattle.requests.specs.Outcome.{acknowledgedLine, errorLine, timeoutLine, outcomeLine}
-use Rattle.requests.specs.Request.{configOf, bad, calledOf, requestLine}
+use Rattle.requests.specs.Request.{configOf, bad, calledOf, longestRequest, requestLine}
 use Rattle.requests.specs.declared.outcome.Told.the-variants as told
 use Rattle.requests.specs.declared.request.Request.the-variants as request
 use Rattle.requests.proofs.Every.{every-request}
@@ -22,8 +22,11 @@ unfolding if_then_else_
 either true x y z p q = p
 either false x y z p q = q
 
--- the longest request line is that of a command, of 8,202 bytes
-pub long-request : (line : List ℕ) → 8202 < length line → requestLine line ≡ bad
+pub empty-request : requestLine [] ≡ bad
+unfolding requestLine if_then_else_
+empty-request = refl
+
+pub long-request : (line : List ℕ) → longestRequest < length line → requestLine line ≡ bad
 unfolding calledOf
 long-request line h = every-request (λ r. r ≡ bad) refl line (λ k at size few. long k at size few)
   where

@@ -39,6 +39,10 @@ calledOf k c at size n = if ltb 8192 size then bad else if ltb n at then bad els
 unfoldable pub exactOf : Kind → Config → ℕ → ℕ → ℕ → ℕ → Request
 exactOf k c at payload size n = if eqb n (at + payload) then calledOf k c at size n else bad
 
+-- the longest request line, a command's: a header, the arguments before its input, and its input
+abbrev pub longestRequest : ℕ
+longestRequest = 4 + 6 + 8192
+
 -- the kinds by their numbers: the arguments before the payload, the payload where its length is fixed, and the buffer. 0C and 0D are retired and never given
 -- out again
 unfoldable pub askedOf : ℕ → Config → List ℕ → Request

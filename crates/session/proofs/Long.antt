@@ -14,9 +14,9 @@ use Rattle.hex.specs.Hex.{decodedOf, bytesOf, outDecoded}
 use Rattle.hex.specs.declared.Decoded.the-variants as decoded
 use Rattle.protocol.specs.Pick.{if_then_else_}
 use Rattle.requests.specs.Outcome.{outcomeLine}
-use Rattle.requests.specs.Request.{requestLine}
 use Rattle.requests.specs.Retired.{retiredKind}
 use Rattle.requests.proofs.Front.{retired-front}
+use Rattle.requests.proofs.Long.{empty-request}
 use Rattle.lines.specs.Input.{linesFrom, restFrom}
 use Rattle.lines.specs.Lines.{beforeFeed}
 use Rattle.lines.proofs.Laws.{take-before}
@@ -46,12 +46,12 @@ no-bytes line out h = by (eqb (length line % 2) 1) refl
 pub long-says : (r : Run) (line R Y B : List ℕ) → length R * 2 < length line → length Y * 2 < length line
     → dialogue.answerOf r line R Y B .saying ≡ dialogue.last (dialogue.closeOf r line B)
 unfolding dialogue.answerOf dialogue.firstOf dialogue.refusedOf dialogue.unfinishedOf dialogue.closeOf dialogue.lastOf dialogue.beginOf dialogue.beginBy
-    dialogue.goOn dialogue.hearOf dialogue.hearBy dialogue.hearBuffer dialogue.hearBufferBy dialogue.sayOf requestLine outcomeLine if_then_else_
+    dialogue.goOn dialogue.hearOf dialogue.hearBy dialogue.hearBuffer dialogue.hearBufferBy dialogue.sayOf outcomeLine if_then_else_
 long-says run.Fresh line R Y B x y = by (retiredKind line) refl
   where
     by : (t : Bool) → retiredKind line ≡ t → dialogue.firstOf line R B .saying ≡ dialogue.last (dialogue.closeOf run.Fresh line B)
     by true e = rw e
-    by false e = rw (e, no-bytes line R x)
+    by false e = rw (e, no-bytes line R x, empty-request)
 long-says (run.Call call place) line R Y B x y =
     let some : length line ≡ 0 → ⊥ = λ e. omega arith in
     rw (no-bytes line Y y, ne-eqb (length line) 0 some)

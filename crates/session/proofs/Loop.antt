@@ -12,6 +12,7 @@ use Rattle.protocol.specs.Pick.{if_then_else_}
 use Rattle.lines.specs.declared.Took.{Took}
 use Rattle.lines.specs.declared.Took.the-variants as took
 use Rattle.hex.specs.Line.{feedBytes}
+use Rattle.requests.specs.Request.{longestRequest}
 use Rattle.printing.proofs.Laws.{length-feed}
 use Rattle.dialogue.specs.Dialogue.{last, bytesSaid, saidOf, closeOf}
 use Rattle.dialogue.proofs.Room.{short-close}
@@ -274,13 +275,13 @@ chunk-begins (suc takes) chunk d none more n = by (d .session .on) (ltb (d .sess
 
 -- arrays of zeros
 zeros : Desk
-zeros = desk startOf (replicate heldBytes 0) (replicate 8202 0) (replicate 8193 0) (replicate 8192 0) (replicate outBytes 0)
+zeros = desk startOf (replicate heldBytes 0) (replicate longestRequest 0) (replicate 8193 0) (replicate 8192 0) (replicate outBytes 0)
 
 zeros-sized : Sized zeros
 unfolding zeros
 zeros-sized = record {
   held = length-replicate {A = ℕ} heldBytes 0;
-  request = length-replicate {A = ℕ} 8202 0;
+  request = length-replicate {A = ℕ} longestRequest 0;
   outcome = length-replicate {A = ℕ} 8193 0;
   buffer = length-replicate {A = ℕ} 8192 0;
   out = length-replicate {A = ℕ} outBytes 0;

@@ -4,6 +4,7 @@ use Prim.Native.Nat.{ℕ, _+_, _*_}
 use mathlib.Core.Path.{_≡_}
 use mathlib.Core.List.{List}
 use lib.ListN.{length}
+use Rattle.requests.specs.Request.{longestRequest}
 use Rattle.printing.specs.Printing.{longestSaid}
 use Rattle.session.specs.declared.Session.{Session}
 
@@ -19,9 +20,9 @@ pub record Desk : Type 0 where
 abbrev pub desk : Session → List ℕ → List ℕ → List ℕ → List ℕ → List ℕ → Desk
 desk s held request outcome buffer out = record { session = s; held = held; request = request; outcome = outcome; buffer = buffer; out = out }
 
--- the digits of the longest line that is valid, a request's of 8,202 bytes
+-- the digits of the longest line that is valid, a request's
 abbrev pub heldBytes : ℕ
-heldBytes = 16404
+heldBytes = longestRequest * 2
 
 -- the longest line that is printed, as digits, and its line feed
 abbrev pub longestLine : ℕ
@@ -34,7 +35,7 @@ outBytes = 65536
 -- the sizes of what is lent, which the types of `take` have
 pub record Sized (d : Desk) : Type 0 where
   pub held : length (d .held) ≡ heldBytes
-  pub request : length (d .request) ≡ 8202
+  pub request : length (d .request) ≡ longestRequest
   pub outcome : length (d .outcome) ≡ 8193
   pub buffer : length (d .buffer) ≡ 8192
   pub out : length (d .out) ≡ outBytes
