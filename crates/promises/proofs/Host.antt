@@ -30,7 +30,7 @@ use Rattle.promises.specs.Events.{each}
 use Rattle.promises.specs.Host.{Doing, transfers, reports, events, Misplaced, has-ended, wrong-buffer, wrong-reply, Allowed}
 use Rattle.promises.specs.Writes.{WriteWorld, began, holding, shows, step, run, does, May, hosted, Alike}
 use Rattle.promises.specs.Demand3.{Accepted}
-use Rattle.promises.proofs.Machine.{worldAt, callAt, frameOf, shows-block, laid-long, made-sent, made-ended}
+use Rattle.promises.proofs.Machine.{blockBudget, worldAt, callAt, frameOf, shows-block, laid-long, made-sent, made-ended}
 use Rattle.promises.proofs.Stopped.{Going, going-step, going, run-empty}
 use Rattle.promises.proofs.Hosted.{answers, not-fits, hosted-run}
 
@@ -115,7 +115,7 @@ module _ (config : Config) (address : ℕ) (payload work flash : List ℕ) (a : 
   unfolding each
   host-empty none =
       let done : WriteWorld =
-      worldAt config address payload (length work) (phase.Ended answer.Done) 0 (record { left = config .«max_bus_retries» }) nothing work flash in
+      worldAt config address payload (length work) (phase.Ended answer.Done) 0 (blockBudget config) nothing work flash in
       let r = hosted-run (step payload) (does payload) (May payload (length work)) (λ w. w ≡ done) (Like (length work))
       (λ e w k. ap (step payload e) k ∙ made-ended config address payload (length work) e [] answer.Done 0 _ nothing work flash)
       (λ d v w may k like. does-like config address payload (length work) (a .room) d v w (phase.Ended answer.Done) 0 _ nothing work flash k refl may like)

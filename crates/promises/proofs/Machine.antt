@@ -36,6 +36,10 @@ use Rattle.promises.specs.Events.{Cause, busError, timedOut, Event, ackn
 use Rattle.promises.specs.Host.{makes}
 use Rattle.promises.specs.Writes.{WriteWorld, sent, transferMade, step}
 
+-- the whole budget of a block
+abbrev pub blockBudget : Config → Budget
+blockBudget config = record { left = config .«max_bus_retries» }
+
 -- a failed transfer, with the answer that it would end the call with
 abbrev pub whyOf : Cause → Answer
 whyOf (busError code) = answer.I2c code
@@ -127,7 +131,7 @@ module _ (config : Config) (address : ℕ) (payload : List ℕ) (n : ℕ) where
     -- acknowledged: the next block is due, with a budget of its own, or the call is done
     pub step-acknowledged : (flash : List ℕ) → i < 4294967295
         → step payload (acknowledged) (worldAt phase.Waiting i b t work flash)
-        ≡ worldAt (phaseAfter (blocksOf (length payload)) (suc i)) (suc i) (record { left = config .«max_bus_retries» }) (tallied t) (over (frameOf i) work) (flashAfter (acknowledged) (frameOf i) flash)
+        ≡ worldAt (phaseAfter (blocksOf (length payload)) (suc i)) (suc i) (blockBudget config) (tallied t) (over (frameOf i) work) (flashAfter (acknowledged) (frameOf i) flash)
     unfolding settleOf advanceOf frameCount case_acknowledged_error_timeout_ planOf writeDataflash
     step-acknowledged flash h =
         let more : min (i + 1) 4294967295 ≡ suc i = omega arith in

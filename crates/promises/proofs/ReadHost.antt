@@ -39,7 +39,7 @@ use Rattle.promises.specs.Host.{Doing, transfers, reports, events, Mispl
 use Rattle.promises.specs.Reads.{ReadWorld, readBegan, lending, readShows, readStep, readRun, readDoes, ReadMay, readHosted, ReadAlike}
 use Rattle.promises.specs.Demand3.{Accepted}
 use Rattle.promises.proofs.Hosted.{answers, not-fits, hosted-run}
-use Rattle.promises.proofs.ReadSteps.{pointedBy, readAt, readWorld, headOf, shows-head, shows-read, head-long, made-head, broughtAt, made-read, heard-same, made-over}
+use Rattle.promises.proofs.ReadSteps.{readBudget, pointedBy, readAt, readWorld, headOf, shows-head, shows-read, head-long, made-head, broughtAt, made-read, heard-same, made-over}
 use Rattle.promises.proofs.Reading.{Reading, buffer-long, reading-step}
 use Rattle.promises.proofs.ReadStopped.{start, read-empty, reading}
 
@@ -172,7 +172,7 @@ module _ (config : Config) (address : ℕ) (buffer work flash : List ℕ) (a : A
   unfolding each
   host-empty none =
       let done : ReadWorld =
-      readWorld config address (length buffer) (length work) (phase.Ended answer.Done) true 0 (record { left = config .«max_bus_retries» }) nothing gauge buffer work flash in
+      readWorld config address (length buffer) (length work) (phase.Ended answer.Done) true 0 (readBudget config) nothing gauge buffer work flash in
       let r = hosted-run readStep readDoes (ReadMay (length buffer) (length work)) (λ w. w ≡ done) (Like (length work))
       (λ e w k. ap (readStep e) k ∙ made-over config address (length buffer) (length work) e [] answer.Done true 0 _ nothing gauge buffer work flash)
       (λ d v w may k like. does-like config address (length buffer) (length work) (a .room) d v w (phase.Ended answer.Done) true 0 _ nothing gauge buffer work flash k refl refl may like)

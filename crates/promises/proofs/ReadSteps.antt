@@ -47,6 +47,10 @@ use Rattle.promises.specs.Reads.{ReadWorld, heard, headSent, asked, lend
 use Rattle.promises.proofs.Machine.{whyOf}
 use Rattle.promises.proofs.Replies.{count-of, reply-damaged}
 
+-- the whole budget of a read
+abbrev pub readBudget : Config → Budget
+readBudget config = record { left = config .«max_bus_retries» }
+
 drop-take : (a b : ℕ) (l : List ℕ) → drop a (take b l) ≡ take (b - a) (drop a l)
 drop-take zero b l = rw sub-zero
 drop-take (suc a) zero l = rw zero-sub

@@ -30,7 +30,7 @@ use Rattle.promises.specs.Reads.{ReadWorld, readBegan, readShows, readSt
 use Rattle.promises.specs.Reading.{all-got, ReadTold, ReadPromised}
 use Rattle.promises.specs.Demand3.{Accepted}
 use Rattle.promises.proofs.Stopped.{stays}
-use Rattle.promises.proofs.ReadSteps.{readWorld, shows-head, shows-read, made-over, damaged-over}
+use Rattle.promises.proofs.ReadSteps.{readBudget, readWorld, shows-head, shows-read, made-over, damaged-over}
 use Rattle.promises.proofs.Reading.{Kept, Reading, buffer-long, reading-run, reading-noise}
 
 -- an ended call stays as it is over every list of events
@@ -55,13 +55,13 @@ module _ (config : Config) (address : ℕ) (buffer work flash : List ℕ) (a : A
 
   -- an accepted read waits with its head due, or is done where nothing is to be read
   pub start-is : (t : Bool) → eqb (length buffer) 0 ≡ t
-      → start ≡ readWorld config address (length buffer) (length work) (if t then phase.Ended answer.Done else phase.Waiting) true 0 (record { left = config .«max_bus_retries» }) nothing gauge buffer work flash
+      → start ≡ readWorld config address (length buffer) (length work) (if t then phase.Ended answer.Done else phase.Waiting) true 0 (readBudget config) nothing gauge buffer work flash
   unfolding readBegan startOf admitted measured windowed readDataflash hasHead firstAddress if_then_else_
   start-is t e = rw (le-ltb (length work) 39 (a .room), a .window, e)
 
   -- nothing is to be read: it has ended before its first transfer
   pub read-empty : length buffer ≡ 0 → (es : List Event)
-      → readRun es start ≡ readWorld config address (length buffer) (length work) (phase.Ended answer.Done) true 0 (record { left = config .«max_bus_retries» }) nothing gauge buffer work flash
+      → readRun es start ≡ readWorld config address (length buffer) (length work) (phase.Ended answer.Done) true 0 (readBudget config) nothing gauge buffer work flash
   unfolding if_then_else_
   read-empty none es =
       rw (start-is true (eq-eqb (length buffer) 0 none)) (read-ended config address (length buffer) (length work) es answer.Done true 0 _ nothing gauge buffer work flash)
@@ -74,7 +74,7 @@ module _ (config : Config) (address : ℕ) (buffer work flash : List ℕ) (a : A
     at = phase.Waiting;
     head = true;
     i = 0;
-    b = record { left = config .«max_bus_retries» };
+    b = readBudget config;
     t = nothing;
     gauge = gauge;
     buffer = buffer;
@@ -112,14 +112,14 @@ module _ (config : Config) (address : ℕ) (buffer work flash : List ℕ) (a : A
 
   -- nothing is to be read
   promised-empty : (noisy : Bool) → length buffer ≡ 0 → (w : ReadWorld)
-      → w ≡ readWorld config address (length buffer) (length work) (phase.Ended answer.Done) true 0 (record { left = config .«max_bus_retries» }) nothing gauge buffer work flash
+      → w ≡ readWorld config address (length buffer) (length work) (phase.Ended answer.Done) true 0 (readBudget config) nothing gauge buffer work flash
       → ReadPromised noisy address buffer flash w
   unfolding over nextOf case_waiting_ended_
   promised-empty noisy none w is = rw is (record { kept = refl; front = refl; told = all-got refl (omega arith) })
 
   -- whatever has become of a read, where it keeps what every event keeps
   stops : (noisy : Bool) (w : ReadWorld)
-      → (length buffer ≡ 0 → w ≡ readWorld config address (length buffer) (length work) (phase.Ended answer.Done) true 0 (record { left = config .«max_bus_retries» }) nothing gauge buffer work flash)
+      → (length buffer ≡ 0 → w ≡ readWorld config address (length buffer) (length work) (phase.Ended answer.Done) true 0 (readBudget config) nothing gauge buffer work flash)
       → (0 < length buffer → (low : 0x4000 ≤ address) (high : address + length buffer ≤ 0x6000) → Reading noisy config address (length work) buffer flash (a .room) (a .whole) low high w)
       → ReadPromised noisy address buffer flash w
   stops noisy w empty reads = by (eqb (length buffer) 0) refl

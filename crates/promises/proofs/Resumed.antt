@@ -39,7 +39,7 @@ use Rattle.promises.specs.Demand3.{clean, Answered, all-acked, some-acke
 use Rattle.promises.proofs.Overlay.{overlaid-all, overlaid-rest}
 use Rattle.promises.proofs.Store.{store-empty}
 use Rattle.promises.proofs.Bytes.{nothing-over}
-use Rattle.promises.proofs.Machine.{worldAt, frameOf, laid-long, step-acknowledged}
+use Rattle.promises.proofs.Machine.{blockBudget, worldAt, frameOf, laid-long, step-acknowledged}
 use Rattle.promises.proofs.Stopped.{began-is, run-ended, run-empty, stopped}
 
 -- the count that is given is of acknowledged bytes
@@ -152,11 +152,11 @@ module _ (config : Config) (address : ℕ) (payload : List ℕ) (n : ℕ) (room 
   all-heard (suc m) i b t work flash long h l =
       ap (λ (w : WriteWorld). run payload (replicate m acknowledged) w .call .phase) (step-acknowledged config address payload n i b t work long room flash (omega arith))
       ∙ (by (leb (blocksOf (length payload)) (suc i)) refl
-      (λ k. all-heard m (suc i) (record { left = config .«max_bus_retries» }) (tallied t) (over (frameOf config address payload n i) work) (stored (frameOf config address payload n i) flash)
+      (λ k. all-heard m (suc i) (blockBudget config) (tallied t) (over (frameOf config address payload n i) work) (stored (frameOf config address payload n i) flash)
       (laid-long config address payload n i b t work long room) (omega arith) (omega arith)))
     where
       next : Phase → WriteWorld
-      next p = worldAt config address payload n p (suc i) (record { left = config .«max_bus_retries» }) (tallied t) (over (frameOf config address payload n i) work) (stored (frameOf config address payload n i) flash)
+      next p = worldAt config address payload n p (suc i) (blockBudget config) (tallied t) (over (frameOf config address payload n i) work) (stored (frameOf config address payload n i) flash)
 
       by : (z : Bool) → leb (blocksOf (length payload)) (suc i) ≡ z
           → (suc i < blocksOf (length payload) → run payload (replicate m acknowledged) (next phase.Waiting) .call .phase ≡ phase.Ended answer.Done)

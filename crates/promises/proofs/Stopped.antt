@@ -36,7 +36,7 @@ use Rattle.promises.proofs.Overlay.{overlaid-long, overlaid-none, lande
 use Rattle.promises.proofs.Store.{store-nothing}
 use Rattle.promises.proofs.Bytes.{agree}
 use Rattle.promises.proofs.Frames.{stores-block}
-use Rattle.promises.proofs.Machine.{whyOf, why-number, worldAt, callAt, frameOf, shows-block, shows-ended, laid-long, step-acknowledged, step-failed, step-unheard, made-ended}
+use Rattle.promises.proofs.Machine.{blockBudget, whyOf, why-number, worldAt, callAt, frameOf, shows-block, shows-ended, laid-long, step-acknowledged, step-failed, step-unheard, made-ended}
 
 -- ---- what the phases say
 
@@ -119,7 +119,7 @@ module _ (config : Config) (address : ℕ) (payload old : List ℕ) (n : ℕ) (r
       (record {
         at = phaseAfter (blocksOf (length payload)) (suc i);
         i = suc i;
-        b = record { left = config .«max_bus_retries» };
+        b = blockBudget config;
         t = tallied t;
         work = over (frameOf config address payload n i) work;
         flash = stored (frameOf config address payload n i) flash;
@@ -158,7 +158,7 @@ module _ (config : Config) (address : ℕ) (payload old : List ℕ) (n : ℕ) (r
 -- an accepted write waits with its first block due, or is done where there is none
 pub began-is : (config : Config) (address : ℕ) (payload work flash : List ℕ) → Accepted address payload work flash → (t : Bool) → eqb (length payload) 0 ≡ t
     → began config address payload work flash
-    ≡ worldAt config address payload (length work) (if t then phase.Ended answer.Done else phase.Waiting) 0 (record { left = config .«max_bus_retries» }) nothing work flash
+    ≡ worldAt config address payload (length work) (if t then phase.Ended answer.Done else phase.Waiting) 0 (blockBudget config) nothing work flash
 unfolding began startOf admitted measured windowed planOf writeDataflash firstAddress if_then_else_
 began-is config address payload work flash a t e = rw (le-ltb (length work) 39 (a .room), a .window, e)
 
@@ -177,7 +177,7 @@ run-ended config address payload n es a i b t work flash =
 -- an empty write has ended before its first transfer
 pub run-empty : (config : Config) (address : ℕ) (payload work flash : List ℕ) → Accepted address payload work flash → length payload ≡ 0 → (es : List Event)
     → run payload es (began config address payload work flash)
-    ≡ worldAt config address payload (length work) (phase.Ended answer.Done) 0 (record { left = config .«max_bus_retries» }) nothing work flash
+    ≡ worldAt config address payload (length work) (phase.Ended answer.Done) 0 (blockBudget config) nothing work flash
 unfolding if_then_else_
 run-empty config address payload work flash a none es =
     rw (began-is config address payload work flash a true (eq-eqb (length payload) 0 none)) (run-ended config address payload (length work) es answer.Done 0 _ _ work flash)
@@ -187,7 +187,7 @@ kept-empty : (config : Config) (address : ℕ) (payload work flash : List ℕ) �
 kept-empty config address payload work flash a none es =
     rw (run-empty config address payload work flash a none es) (
       inl (sym (store-nothing flash (placeOf address))),
-      rw (shows-ended config address payload (length work) answer.Done 0 (record { left = config .«max_bus_retries» }) nothing (length work))
+      rw (shows-ended config address payload (length work) answer.Done 0 (blockBudget config) nothing (length work))
           (all-acked refl (omega arith)),
     )
 
@@ -203,7 +203,7 @@ module _ (config : Config) (address : ℕ) (payload work flash : List ℕ) (a : 
       (record {
         at = phase.Waiting;
         i = 0;
-        b = record { left = config .«max_bus_retries» };
+        b = blockBudget config;
         t = nothing;
         work = work;
         flash = flash;
