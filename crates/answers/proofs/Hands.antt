@@ -9,6 +9,7 @@ use lib.Dec.{ltb}
 use lib.ListN.{length, take}
 use lib.Seq.{take-length}
 use borrow.Author.Tests.{ltb-true}
+use Rattle.protocol.specs.Common.{TwoByteBudgets}
 use Rattle.protocol.specs.Pick.{if_then_else_}
 use Rattle.protocol.specs.Bytes.{over, sendOf}
 use Rattle.protocol.specs.Frame.{sealed, laidOf, workLaid}
@@ -136,7 +137,7 @@ module _ (call : WriteCall) (payload work : List ℕ) where
       by phase.Waiting q = q
       by (phase.Ended a) q = let z : _≡_ {A = ℕ} 0 1 = cc (rw q at e) in absurd (omega arith)
 
-pub hands-w : (config : Config) → config .«max_bus_retries» ≤ 65535 → (plan : WritePlan) (name : WritesBy config plan) (n w : ℕ) (es : List WriteReport)
+pub hands-w : (config : Config) → TwoByteBudgets config → (plan : WritePlan) (name : WritesBy config plan) (n w : ℕ) (es : List WriteReport)
     → (payload work : List ℕ) → HandsW (builds config plan name) (record { length = n; work = w }) (feedW (writing.startOf plan n w) es) payload work
 hands-w config r plan name n w es payload work = record {
   refuses = (λ e. (refused-write call payload work e, differs e), λ (e, other). other-write call payload work e (fits-other (call .task .lent) _ _ (λ same. other (subst At lent same))));
@@ -205,7 +206,7 @@ task-lent-read : (plan : ReadPlan) (n w : ℕ) (call : ReadCall) → call .task 
 unfolding reading.startOf
 task-lent-read plan n w call t = rw t
 
-pub hands-r : (config : Config) → config .«max_bus_retries» ≤ 65535 → (start : List ℕ) (plan : ReadPlan) → ReadsBy config (length start) plan
+pub hands-r : (config : Config) → TwoByteBudgets config → (start : List ℕ) (plan : ReadPlan) → ReadsBy config (length start) plan
     → (w : ℕ) (es : List ReadReport) (buffer work : List ℕ)
     → HandsR (record { length = length start; work = w }) (feedR (record { call = reading.startOf plan (length start) w; buffer = start }) es .call) buffer work
 hands-r config r start plan name w es buffer work = record {

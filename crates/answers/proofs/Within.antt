@@ -9,6 +9,7 @@ use native.Mathlib.Omega.{arith}
 use lib.Dec.{ltb, eqb}
 use lib.ListN.{length, length-take}
 use borrow.Author.Tests.{lt-ltb, eq-eqb}
+use Rattle.protocol.specs.Common.{TwoByteBudgets}
 use Rattle.protocol.specs.Pick.{if_then_else_}
 use Rattle.protocol.specs.Frame.{pairOf, macBytes, fixedPair, commandBytes, registerBytes, infoBytes, sealed, laidOf}
 use Rattle.protocol.specs.Reply as reply
@@ -177,7 +178,7 @@ retries-write config plan (write-mfg-info-c lower upper) = refl
 retries-write config plan (write-mfg-info) = refl
 retries-write config plan (write-dataflash start) = refl
 
-pub writes-within : (config : Config) → config .«max_bus_retries» ≤ 65535 → (plan : WritePlan) → WritesBy config plan → (payload : List ℕ) (w : ℕ) (es : List WriteReport)
+pub writes-within : (config : Config) → TwoByteBudgets config → (plan : WritePlan) → WritesBy config plan → (payload : List ℕ) (w : ℕ) (es : List WriteReport)
     → WritesWithin plan payload w (feedW (writing.startOf plan (length payload) w) es)
 writes-within config r plan name payload w es = by (writing.startOf plan (length payload) w .phase) refl
   where
@@ -320,7 +321,7 @@ idle-read plan buffer w a r q e =
       untouched = λ one h. rw q;
     }
 
-pub reads-within : (config : Config) → config .«max_bus_retries» ≤ 65535 → (buffer : List ℕ) (plan : ReadPlan) → ReadsBy config (length buffer) plan → (w : ℕ) (es : List ReadReport)
+pub reads-within : (config : Config) → TwoByteBudgets config → (buffer : List ℕ) (plan : ReadPlan) → ReadsBy config (length buffer) plan → (w : ℕ) (es : List ReadReport)
     → ReadsWithin plan buffer w (feedR (record { call = reading.startOf plan (length buffer) w; buffer = buffer }) es)
 reads-within config r buffer plan name w es = by (reading.startOf plan (length buffer) w .phase) refl
   where

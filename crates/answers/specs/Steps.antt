@@ -1,11 +1,12 @@
 -- What a step does to what is lent, and what it costs. (01, The step machine; Frames and retries; 02, W-203)
 -- Assumes nothing.
-use Prim.Native.Nat.{ℕ, _+_, _-_, _*_, _≤_}
+use Prim.Native.Nat.{ℕ, _+_, _-_, _*_}
 use mathlib.Core.Path.{_≡_}
 use mathlib.Core.Bool.{Bool, true, false}
 use mathlib.Core.List.{List}
 use mathlib.Core.Logic.{_⊎_, _↔_}
 use lib.ListN.{length, take, drop}
+use Rattle.protocol.specs.Common.{TwoByteBudgets}
 use Rattle.protocol.specs.Pick.{if_then_else_}
 use Rattle.protocol.specs.Answer.{numberOf}
 use Rattle.protocol.specs.declared.common.Config.{Config}
@@ -103,9 +104,9 @@ HandsR lent call buffer work =
 
 -- each call, started at any lengths and however it is fed, whatever is lent then
 pub record HandsOut : Type 0 where
-  pub writing : (config : Config) → config .«max_bus_retries» ≤ 65535 → (plan : WritePlan) (name : WritesBy config plan) (n w : ℕ) (es : List WriteReport)
+  pub writing : (config : Config) → TwoByteBudgets config → (plan : WritePlan) (name : WritesBy config plan) (n w : ℕ) (es : List WriteReport)
       → (payload work : List ℕ) → HandsW (builds config plan name) (record { length = n; work = w }) (feedW (writing.startOf plan n w) es) payload work
-  pub reading : (config : Config) → config .«max_bus_retries» ≤ 65535 → (start : List ℕ) (plan : ReadPlan) → ReadsBy config (length start) plan
+  pub reading : (config : Config) → TwoByteBudgets config → (start : List ℕ) (plan : ReadPlan) → ReadsBy config (length start) plan
       → (w : ℕ) (es : List ReadReport) (buffer work : List ℕ)
       → HandsR (record { length = length start; work = w }) (feedR (record { call = reading.startOf plan (length start) w; buffer = start }) es .call) buffer work
 

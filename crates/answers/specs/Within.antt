@@ -7,6 +7,7 @@ use mathlib.Core.Bool.{true, false}
 use mathlib.Core.List.{List}
 use mathlib.Core.Logic.{_⊎_}
 use lib.ListN.{length, drop}
+use Rattle.protocol.specs.Common.{TwoByteBudgets}
 use Rattle.protocol.specs.Reply as reply
 use Rattle.protocol.specs.declared.common.Config.{Config}
 use Rattle.protocol.specs.declared.error.Answer.the-variants as answer
@@ -91,7 +92,7 @@ pub record ReadsWithin (plan : ReadPlan) (buffer : List ℕ) (w : ℕ) (now : Re
 -- ---- for each of them, however it is fed
 
 pub record Within : Type 0 where
-  pub writing : (config : Config) → config .«max_bus_retries» ≤ 65535 → (plan : WritePlan) → WritesBy config plan → (payload : List ℕ) (w : ℕ) (es : List WriteReport)
+  pub writing : (config : Config) → TwoByteBudgets config → (plan : WritePlan) → WritesBy config plan → (payload : List ℕ) (w : ℕ) (es : List WriteReport)
       → WritesWithin plan payload w (feedW (writing.startOf plan (length payload) w) es)
-  pub reading : (config : Config) → config .«max_bus_retries» ≤ 65535 → (buffer : List ℕ) (plan : ReadPlan) → ReadsBy config (length buffer) plan → (w : ℕ) (es : List ReadReport)
+  pub reading : (config : Config) → TwoByteBudgets config → (buffer : List ℕ) (plan : ReadPlan) → ReadsBy config (length buffer) plan → (w : ℕ) (es : List ReadReport)
       → ReadsWithin plan buffer w (feedR (record { call = reading.startOf plan (length buffer) w; buffer = buffer }) es)

@@ -3,6 +3,7 @@
 use Prim.Native.Nat.{ℕ, suc, _≤_, _<_}
 use mathlib.Core.Path.{_≡_, sym, ap, subst, _∙_}
 use mathlib.Core.List.{List}
+use Rattle.protocol.specs.Common.{TwoByteBudgets}
 use Rattle.protocol.specs.declared.common.Config.{Config}
 use Rattle.engine.specs.declared.bus.Outcome.{Outcome}
 use Rattle.engine.specs.declared.bus.Phase.the-variants as phase
@@ -47,6 +48,6 @@ counts m v call next (k, s) o reply p n w e =
     counted (suc k) (after .0) v next (after .2) ∙ ap suc (sym (counted k m v call s))
 
 -- a call by its name starts with its ceiling
-pub good-named : (config : Config) → config .«max_bus_retries» ≤ 65535 → (kind : Kind) (p n w most waits : ℕ)
+pub good-named : (config : Config) → TwoByteBudgets config → (kind : Kind) (p n w most waits : ℕ)
     → CeilingOf (config .«max_bus_retries») p n kind most waits → Good most waits (startOf kind config p n w)
 good-named config few kind p n w most waits name = (0, sound-named config few p n w kind most waits name)

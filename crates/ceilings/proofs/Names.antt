@@ -7,6 +7,7 @@ use native.Mathlib.Omega.{arith}
 use native.Mathlib.Nat.{mul-le-mul-left, mul-le-mul-right}
 use lib.Dec.{ltb, eqb}
 use borrow.Author.Tests.{eqb-false, ne-eqb}
+use Rattle.protocol.specs.Common.{TwoByteBudgets}
 use Rattle.protocol.specs.Pick.{if_then_else_}
 use Rattle.protocol.specs.Bytes.{blocksOf}
 use Rattle.protocol.specs.Window.{inWindow}
@@ -106,7 +107,7 @@ module _ (p n w : ℕ) where
 
 -- ---- by name
 
-module _ (config : Config) (few : config .«max_bus_retries» ≤ 65535) (p n w : ℕ) where
+module _ (config : Config) (few : TwoByteBudgets config) (p n w : ℕ) where
   writes-blocks : (address b : ℕ) → 0 < b → Blocks 32 p b
       → Shape p n w (plan.Write (writeDataflash config address)) (b * (config .«max_bus_retries» + 1)) (b * config .«max_bus_retries»)
   unfolding startWith phaseOf writing.startOf writing.planOf writeDataflash frames.firstAddress frames.frameCount

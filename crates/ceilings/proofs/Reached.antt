@@ -1,8 +1,9 @@
 -- Every call that waits at its start can be made to reach its ceiling, by the shape of its plan.
 -- Assumes nothing.
-use Prim.Native.Nat.{ℕ, _≤_}
+use Prim.Native.Nat.{ℕ}
 use mathlib.Core.Path.{_≡_}
 use native.Mathlib.Omega.{arith}
+use Rattle.protocol.specs.Common.{TwoByteBudgets}
 use Rattle.protocol.specs.declared.common.Config.{Config}
 use Rattle.engine.specs.declared.bus.Phase.the-variants as phase
 use Rattle.calls.specs.Kind.{planOf}
@@ -23,7 +24,7 @@ reached-shaped p n w its most waits (of-head some b first whole bounded) e = let
 reached-shaped p n w its most waits (of-head-alone some first none few) e = reach-alone some p n w (omega (arith, few)) e
 
 -- and by name
-pub reached : (config : Config) → config .«max_bus_retries» ≤ 65535 → (kind : Kind) (p n w most waits : ℕ) → CeilingOf (config .«max_bus_retries») p n kind most waits
+pub reached : (config : Config) → TwoByteBudgets config → (kind : Kind) (p n w most waits : ℕ) → CeilingOf (config .«max_bus_retries») p n kind most waits
     → phaseOf (startOf kind config p n w) ≡ phase.Waiting → Reached most waits (startOf kind config p n w)
 unfolding startOf
 reached config few kind p n w most waits name e = reached-shaped p n w (planOf kind config p n) most waits (shape-named config few p n w kind most waits name) e

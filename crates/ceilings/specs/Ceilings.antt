@@ -4,6 +4,7 @@ use Prim.Native.Nat.{ℕ, _+_, _*_, _≤_, _<_}
 use mathlib.Core.Path.{_≡_}
 use mathlib.Core.Bool.{true, false}
 use mathlib.Core.List.{List}
+use Rattle.protocol.specs.Common.{TwoByteBudgets}
 use Rattle.protocol.specs.declared.common.Config.{Config}
 use Rattle.protocol.specs.declared.error.Answer.{Answer}
 use Rattle.engine.specs.declared.bus.Phase.the-variants as phase
@@ -93,10 +94,10 @@ pub data CeilingOf (r p n : ℕ) : Kind → (most waits : ℕ) → Type 0 where
 pub record Ceilings : Type 0 where
   pub shapes : Shapes
   -- each call by its name, started with a payload of p bytes, a buffer of n and a work buffer of w
-  pub named : (config : Config) → config .«max_bus_retries» ≤ 65535 → (kind : Kind) (p n w most waits : ℕ) → CeilingOf (config .«max_bus_retries») p n kind most waits
+  pub named : (config : Config) → TwoByteBudgets config → (kind : Kind) (p n w most waits : ℕ) → CeilingOf (config .«max_bus_retries») p n kind most waits
       → (es : List Report) → Ceiling most waits (startOf kind config p n w) es
   -- and no lower: some list of reports reaches it, where the call is not refused or done at its start
-  pub reached : (config : Config) → config .«max_bus_retries» ≤ 65535 → (kind : Kind) (p n w most waits : ℕ) → CeilingOf (config .«max_bus_retries») p n kind most waits
+  pub reached : (config : Config) → TwoByteBudgets config → (kind : Kind) (p n w most waits : ℕ) → CeilingOf (config .«max_bus_retries») p n kind most waits
       → phaseOf (startOf kind config p n w) ≡ phase.Waiting → Reached most waits (startOf kind config p n w)
   -- a call that is refused at its start, or done at once, makes none
   pub none : (config : Config) (kind : Kind) (p n w : ℕ) (a : Answer) → phaseOf (startOf kind config p n w) ≡ phase.Ended a

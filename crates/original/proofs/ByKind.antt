@@ -5,6 +5,7 @@ use mathlib.Core.Path.{_≡_, refl, sym, ap, _∙_}
 use mathlib.Core.List.{List, [], _∷_, _++_}
 use lib.ListN.{length, take}
 use borrow.Author.Tests.{le-ltb, ne-eqb}
+use Rattle.protocol.specs.Common.{TwoByteBudgets}
 use Rattle.protocol.specs.Pick.{if_then_else_}
 use Rattle.protocol.specs.declared.common.Config.{Config}
 use Rattle.protocol.specs.declared.error.Answer.{Answer}
@@ -106,7 +107,7 @@ module _ (payload : List ℕ) (lent : ℕ → Lending) where
       by on (transfer.Ended a) e = rw e
 
 -- DEMAND 2 BY KIND
-pub equal-by-kind : (config : Config) → config .«max_bus_retries» ≤ 65535 → (w : ℕ) → 39 ≤ w → (lent : ℕ → Lending) → Lends w lent → (outcomes : List BusOutcome) → EqualByKind config w lent outcomes
+pub equal-by-kind : (config : Config) → TwoByteBudgets config → (w : ℕ) → 39 ≤ w → (lent : ℕ → Lending) → Lends w lent → (outcomes : List BusOutcome) → EqualByKind config w lent outcomes
 unfolding startOf startWith planOf macRead macWrite sendAccessKey writing.planOf reading.macPlan parts.firstAddress frames.firstAddress measured admitted answered if_then_else_
 equal-by-kind config small w roomy lent steady os = record { same = by; added = instead }
   where

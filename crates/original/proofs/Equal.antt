@@ -3,6 +3,7 @@
 use Prim.Native.Nat.{ℕ, _≤_}
 use mathlib.Core.Path.{sym}
 use mathlib.Core.List.{List}
+use Rattle.protocol.specs.Common.{TwoByteBudgets}
 use Rattle.protocol.specs.declared.common.Config.{Config}
 use Rattle.original.specs.Bus.{BusOutcome}
 use Rattle.original.specs.Fed.{Lending, Lends}
@@ -12,7 +13,7 @@ use Rattle.original.proofs.WriteCalls as write-calls
 use Rattle.original.proofs.ReadCalls as read-calls
 
 -- `max_bus_retries` is 0 to 65,535, and every work buffer has the same length, of at least 39 bytes
-pub equal : (config : Config) → config .«max_bus_retries» ≤ 65535 → (w : ℕ) → 39 ≤ w → (lent : ℕ → Lending) → Lends w lent → (outcomes : List BusOutcome) → Equal config w lent outcomes
+pub equal : (config : Config) → TwoByteBudgets config → (w : ℕ) → 39 ≤ w → (lent : ℕ → Lending) → Lends w lent → (outcomes : List BusOutcome) → Equal config w lent outcomes
 equal config small w roomy lent steady outcomes = record {
   check-df-range = λ start len. sym (range-window start len);
   plain-write = write-calls.plain-write config small w roomy lent steady outcomes;

@@ -8,6 +8,7 @@ use native.Mathlib.Omega.{arith}
 use lib.ListN.{length, replicate}
 use lib.Dec.{ltb, eqb}
 use borrow.Author.Tests.{ltb-false, eqb-true, eqb-false}
+use Rattle.protocol.specs.Common.{TwoByteBudgets}
 use Rattle.protocol.specs.Pick.{if_then_else_}
 use Rattle.protocol.specs.Bytes.{over}
 use Rattle.protocol.specs.declared.common.Config.{Config}
@@ -130,7 +131,7 @@ module _ (config : Config) (outcomes : List BusOutcome) where
           flash-comes start (config .«pec_read») buffer (far .1) outcomes true (config .«max_bus_retries») [] begun some refl
 
 -- `max_bus_retries` is 0 to 65,535, and every work buffer has the same length, of at least 39 bytes
-pub fronts : (config : Config) → config .«max_bus_retries» ≤ 65535 → (w : ℕ) → 39 ≤ w → (lent : ℕ → Lending) → Lends w lent → (outcomes : List BusOutcome) → Fronts config w lent outcomes
+pub fronts : (config : Config) → TwoByteBudgets config → (w : ℕ) → 39 ≤ w → (lent : ℕ → Lending) → Lends w lent → (outcomes : List BusOutcome) → Fronts config w lent outcomes
 unfolding rust.bufferRead rust-r5.readSecurityKeys rust-r5.readAuthenticationKey rust-r5.readChargingVoltageOverride
 fronts config small w roomy lent steady outcomes = record {
   read-register = λ address buffer. carried _ buffer outcomes (same .read-register address buffer) (register-front config outcomes address buffer);

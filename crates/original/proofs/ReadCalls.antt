@@ -8,6 +8,7 @@ use native.Mathlib.Omega.{arith}
 use lib.ListN.{length, replicate}
 use lib.Dec.{ltb, eqb}
 use borrow.Author.Tests.{le-ltb, eq-eqb, ltb-false, eqb-true, eqb-false}
+use Rattle.protocol.specs.Common.{TwoByteBudgets}
 use Rattle.protocol.specs.Pick.{if_then_else_}
 use Rattle.protocol.specs.Frame.{macBytes, fixedPair, commandBytes, sealed}
 use Rattle.protocol.specs.Reply.{plainAsk, macAsk}
@@ -65,7 +66,7 @@ unfolding flash-read.loop if_then_else_ rust.macReadFromDfWithRetries rust.macRe
 read-dataflash-by config outcomes start buffer true p = rw p
 read-dataflash-by config outcomes start buffer false p = rw p
 
-module _ (config : Config) (small : config .«max_bus_retries» ≤ 65535) (w : ℕ) (roomy : 39 ≤ w) (lent : ℕ → Lending) (steady : Lends w lent) (outcomes : List BusOutcome) where
+module _ (config : Config) (small : TwoByteBudgets config) (w : ℕ) (roomy : 39 ≤ w) (lent : ℕ → Lending) (steady : Lends w lent) (outcomes : List BusOutcome) where
   -- a plain read that is admitted, into bytes of its own that are copied
   plain : (l : Limit) (command : ℕ) (buffer inner : List ℕ) (pec : Bool) → measured l 0 (length buffer) ≡ phase.Waiting → length buffer ≤ length inner → (if pec then length inner + 1 else length inner) ≤ 18446744073709551615
       → reads (reading.plainPlan config l (plainAsk command (length inner) pec)) buffer w lent outcomes ≡ copied buffer (rust.readWithRetries config command inner pec begun outcomes)

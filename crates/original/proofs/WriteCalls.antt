@@ -9,6 +9,7 @@ use lib.IntN.{ℤ, pos, negsuc}
 use lib.ListN.{length, drop, length-append, length-take}
 use lib.Dec.{ltb, eqb}
 use borrow.Author.Tests.{le-ltb, eq-eqb, ltb-false, eqb-true, eqb-false}
+use Rattle.protocol.specs.Common.{TwoByteBudgets}
 use Rattle.protocol.specs.Pick.{if_then_else_}
 use Rattle.protocol.specs.Frame.{sealed, registerBytes, macBytes, infoBytes, fixedPair, pairOf}
 use Rattle.r5.specs.Voltage.{bitsOf, overrideBytes}
@@ -84,7 +85,7 @@ block-length : (start i : ℕ) (bytes : List ℕ) → length (blockBytes start i
 unfolding blockBytes macBytes pairOf
 block-length start i bytes = omega (arith, length-take 32 (drop (i * 32) bytes))
 
-module _ (config : Config) (small : config .«max_bus_retries» ≤ 65535) (w : ℕ) (roomy : 39 ≤ w) (lent : ℕ → Lending) (steady : Lends w lent) (outcomes : List BusOutcome) where
+module _ (config : Config) (small : TwoByteBudgets config) (w : ℕ) (roomy : 39 ≤ w) (lent : ℕ → Lending) (steady : Lends w lent) (outcomes : List BusOutcome) where
   plain-write-by : (t : Bool) → config .«pec_write» ≡ t → (bytes : List ℕ) → rust.writePanics (config .«pec_write») bytes ≡ false
       → writes (machine.writeWithRetries config) bytes w lent outcomes ≡ rust.writeWithRetries config bytes (config .«pec_write») begun outcomes
   unfolding machine.writeWithRetries machine.plainLimit writing.planOf writing.ownBytes isPlain frameCount bytesAt frameAt sealed firstAddress measured if_then_else_ rust.writeWithRetries rust.withPec

@@ -8,6 +8,7 @@ use native.Mathlib.Omega.{arith}
 use lib.Dec.{eqb, ltb}
 use lib.ListN.{length, take}
 use borrow.Author.Tests.{eqb-true, eqb-false}
+use Rattle.protocol.specs.Common.{TwoByteBudgets}
 use Rattle.protocol.specs.Pick.{if_then_else_}
 use Rattle.protocol.specs.declared.common.Config.{Config}
 use Rattle.protocol.specs.declared.error.Answer.{Answer}
@@ -120,7 +121,7 @@ record Drives (payload : List ℕ) (m v : ℕ) (fs : List Fate) (w : World) : Ty
       → fitsOf (driveOf payload fs w .link .call) (length payload) (length (driveOf payload fs w .buffer)) (length (driveOf payload fs w .work)) ≡ true
       → (made ≡ length fs) × (length fs < m)
 
-module _ (config : Config) (few : config .«max_bus_retries» ≤ 65535) (payload old : List ℕ) (n : ℕ) where
+module _ (config : Config) (few : TwoByteBudgets config) (payload old : List ℕ) (n : ℕ) where
   abbrev Goes : List Fate → Type 0
   Goes fs = (m v : ℕ) (w : World) → Good m v (w .link .call) → Live config payload old n (w .link .call) (w .buffer) → Drives payload m v fs w
 
@@ -222,7 +223,7 @@ cut-only (phase.Ended a) fits e = let z : _≡_ {A = ℕ} 0 1 = cc in absurd (om
 not-cut : (a : Answer) → end.Answered a ≡ end.Cut → ⊥
 not-cut a e = let z : _≡_ {A = ℕ} 0 1 = cc in absurd (omega arith)
 
-module _ (config : Config) (few : config .«max_bus_retries» ≤ 65535) (kind : Kind) (payload buffer work flash : List ℕ) (gauge : Gauge) (course : List ℕ) (most waits : ℕ)
+module _ (config : Config) (few : TwoByteBudgets config) (kind : Kind) (payload buffer work flash : List ℕ) (gauge : Gauge) (course : List ℕ) (most waits : ℕ)
     (name : CeilingOf (config .«max_bus_retries») (length payload) (length buffer) kind most waits) where
   abbrev begun : World
   begun = begins kind config payload buffer work flash gauge

@@ -7,6 +7,7 @@ use mathlib.Core.List.{List, [], _∷_, _++_}
 use native.Mathlib.Omega.{arith}
 use lib.Dec.{eqb}
 use lib.ListN.{length, length-append, replicate}
+use Rattle.protocol.specs.Common.{TwoByteBudgets}
 use Rattle.protocol.specs.Pick.{if_then_else_}
 use Rattle.protocol.specs.Answer.{numberOf}
 use Rattle.protocol.specs.declared.common.Config.{Config}
@@ -151,7 +152,7 @@ module _ (payload : List ℕ) (lent : ℕ → Lending) where
 
   -- ---- where the lengths of the start are lent
 
-  module _ (config : Config) (few : config .«max_bus_retries» ≤ 65535) (old : List ℕ) (w : ℕ) (steady : Lends w lent) where
+  module _ (config : Config) (few : TwoByteBudgets config) (old : List ℕ) (w : ℕ) (steady : Lends w lent) where
     abbrev EndsFed : List BusOutcome → Type 0
     EndsFed os = (m v : ℕ) (call : Call) → Good m v call → (buffer : List ℕ) → Live config payload old w call buffer → length buffer ≡ length old → (i : ℕ)
         → m ≤ length os → phaseOf (fedCall call payload buffer lent i os) ≡ phase.Waiting → ⊥
@@ -202,14 +203,14 @@ module _ (payload : List ℕ) (lent : ℕ → Lending) where
     ends-fed (o ∷ os) = ends-turn o os (ends-fed os)
 
 -- a call starts with nothing counted
-pub none-counted : (config : Config) → config .«max_bus_retries» ≤ 65535 → (kind : Kind) (p n w : ℕ) → tallyOf (startOf kind config p n w) .transfers ≡ 0
+pub none-counted : (config : Config) → TwoByteBudgets config → (kind : Kind) (p n w : ℕ) → tallyOf (startOf kind config p n w) .transfers ≡ 0
 unfolding feed accepted
 none-counted config few kind p n w =
     let name = ceilings .some (config .«max_bus_retries») p n kind in
     ceilings .named config few kind p n w (name .0) (name .1) (name .2) [] .counts
 
 -- a call by its name, from its start
-module _ (config : Config) (few : config .«max_bus_retries» ≤ 65535) (kind : Kind) (payload buffer : List ℕ) (w : ℕ) (lent : ℕ → Lending) (os : List BusOutcome) where
+module _ (config : Config) (few : TwoByteBudgets config) (kind : Kind) (payload buffer : List ℕ) (w : ℕ) (lent : ℕ → Lending) (os : List BusOutcome) where
   abbrev begun : Call
   begun = startOf kind config (length payload) (length buffer) w
 
@@ -258,7 +259,7 @@ fed-ends = record {
 }
 
 -- THE COUNT IS THE ORIGINAL'S
-pub count-by-kind : (config : Config) → config .«max_bus_retries» ≤ 65535 → (w : ℕ) → 39 ≤ w → (lent : ℕ → Lending) → Lends w lent → (os : List BusOutcome)
+pub count-by-kind : (config : Config) → TwoByteBudgets config → (w : ℕ) → 39 ≤ w → (lent : ℕ → Lending) → Lends w lent → (os : List BusOutcome)
     → CountByKind config w lent os
 unfolding answeredIn waitsIn
 count-by-kind config few w roomy lent steady os = record {
@@ -273,7 +274,7 @@ count-by-kind config few w roomy lent steady os = record {
 }
 
 -- AND SO ARE THE CEILINGS
-pub rust-ceilings : (config : Config) → config .«max_bus_retries» ≤ 65535 → (kind : Kind) (payload buffer : List ℕ) → Defined kind config payload buffer → (most waits : ℕ)
+pub rust-ceilings : (config : Config) → TwoByteBudgets config → (kind : Kind) (payload buffer : List ℕ) → Defined kind config payload buffer → (most waits : ℕ)
     → CeilingOf (config .«max_bus_retries») (length payload) (length buffer) kind most waits → (os : List BusOutcome)
     → NoMore most waits (rustOf kind config payload buffer os) × (most ≤ length os → Over (rustOf kind config payload buffer os))
 rust-ceilings config few kind payload buffer defined most waits name os =

@@ -1,10 +1,11 @@
 -- A call that was started by its kind and fed any reports: while it waits, it shows a transfer to whoever lends the lengths of its start.
 -- Assumes nothing.
-use Prim.Native.Nat.{ℕ, _≤_}
+use Prim.Native.Nat.{ℕ}
 use mathlib.Core.Path.{_≡_, refl, sym, ap, subst, _∙_}
 use mathlib.Core.Bool.{Bool, true, false}
 use mathlib.Core.List.{List, [], _∷_, _++_}
 use lib.ListN.{length}
+use Rattle.protocol.specs.Common.{TwoByteBudgets}
 use Rattle.protocol.specs.Reply.{bytesAsked}
 use Rattle.protocol.specs.declared.common.Config.{Config}
 use Rattle.engine.specs.Made.{Made, write, read}
@@ -132,7 +133,7 @@ module _ (config : Config) (payload old : List ℕ) (w : ℕ) where
       same-fits (c .task .lent) (length buffer) (length work) (size ∙ sym (ap (λ x. x .length) task), long ∙ sym (ap (λ x. x .work) task))
 
   -- A CALL THAT WAITS SHOWS A TRANSFER
-  pub shows-one : config .«max_bus_retries» ≤ 65535 → (c : Call) (buffer work : List ℕ) → Live c buffer → phaseOf c ≡ phase.Waiting
+  pub shows-one : TwoByteBudgets config → (c : Call) (buffer work : List ℕ) → Live c buffer → phaseOf c ≡ phase.Waiting
       → fitsOf c (length payload) (length buffer) (length work) ≡ true → (made : Made) × Shows c payload buffer work made
   unfolding phaseOf fitsOf nextOf writing.startOf reading.startOf
   shows-one few (call.Write c) buffer work (writes its name es _ _ e) waits fits =

@@ -8,6 +8,7 @@ use native.Mathlib.Omega.{arith}
 use lib.Dec.{eqb}
 use lib.ListN.{length}
 use borrow.Author.Tests.{eqb-true, eqb-false}
+use Rattle.protocol.specs.Common.{TwoByteBudgets}
 use Rattle.protocol.specs.Pick.{if_then_else_}
 use Rattle.protocol.specs.Answer.{numberOf}
 use Rattle.protocol.specs.declared.common.Config.{Config}
@@ -162,7 +163,7 @@ module _ (config : Config) (address : ℕ) (payload : List ℕ) (work : List ℕ
         (subst (λ v. (done : List Made) → Follows es (step payload e v) done) (g .is)
         (follows es (step payload e w) (going-step config address payload flash (length work) room whole low high e w g))) done)
 
-module _ (config : Config) (address : ℕ) (payload work flash : List ℕ) (few : config .«max_bus_retries» ≤ 65535) (a : Accepted address payload work flash) (es : List Event) where
+module _ (config : Config) (address : ℕ) (payload work flash : List ℕ) (few : TwoByteBudgets config) (a : Accepted address payload work flash) (es : List Event) where
   abbrev start : WriteWorld
   start = began config address payload work flash
 
@@ -193,7 +194,7 @@ module _ (config : Config) (address : ℕ) (payload work flash : List ℕ) (few 
           follows config address payload work (a .room) flash (a .whole) (w .0) (w .1) es start (going config address payload work flash a some (w .0) (w .1) []) []
 
 -- DEMAND 2'S TRANSFERS
-pub over-original : (config : Config) (address : ℕ) (payload work flash : List ℕ) → config .«max_bus_retries» ≤ 65535 → Accepted address payload work flash
+pub over-original : (config : Config) (address : ℕ) (payload work flash : List ℕ) → TwoByteBudgets config → Accepted address payload work flash
     → (es : List Event)
     → (run payload es (began config address payload work flash) .flash
     ≡ laidOver es (madeIn (rust.writeDataflash config address payload begun (outcomesIn es))) flash)

@@ -8,6 +8,7 @@ use mathlib.Core.Bool.{true}
 use mathlib.Core.List.{List}
 use mathlib.Core.Logic.{_↔_}
 use lib.ListN.{length}
+use Rattle.protocol.specs.Common.{TwoByteBudgets}
 use Rattle.protocol.specs.declared.common.Config.{Config}
 use Rattle.engine.specs.Limit.{admitted}
 use Rattle.engine.specs.declared.bus.Outcome.{Outcome}
@@ -57,7 +58,7 @@ pub record Demand1 : Type 1 where
   -- what a report leaves in the caller's buffer
   pub delivers : (call : ReadCall) (buffer : List ℕ) (o : Outcome) (bytes : List ℕ) (w : ℕ) → Delivers call o bytes buffer (reading.bufferAfter call o bytes buffer w)
   -- wherever a reading call stops, ended well, failed or cut, the front of the buffer is the data of the replies that were believed, and the rest is as it was
-  pub fronts : (config : Config) → config .«max_bus_retries» ≤ 65535 → (w : ℕ) → 39 ≤ w → (lent : ℕ → Lending) → Lends w lent → (outcomes : List BusOutcome)
+  pub fronts : (config : Config) → TwoByteBudgets config → (w : ℕ) → 39 ≤ w → (lent : ℕ → Lending) → Lends w lent → (outcomes : List BusOutcome)
       → Fronts config w lent outcomes
   -- what is shown, and when the work buffer is spared: a writing call shows frames alone, a reading call its head where that is due, else what it asks for
   pub shown-w : (call : WriteCall) (payload work : List ℕ)

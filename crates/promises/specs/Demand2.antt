@@ -8,6 +8,7 @@ use Prim.Native.Nat.{ℕ, _≤_}
 use mathlib.Core.Bool.{true, false}
 use mathlib.Core.List.{List}
 use lib.ListN.{length}
+use Rattle.protocol.specs.Common.{TwoByteBudgets}
 use Rattle.protocol.specs.declared.common.Config.{Config}
 use Rattle.calls.specs.Call.{startOf}
 use Rattle.calls.specs.declared.kind.Kind.{Kind}
@@ -21,17 +22,17 @@ use Rattle.original.specs.ByKind.{rustOf, Defined, EqualByKind}
 use Rattle.promises.specs.CountByKind.{CountByKind}
 
 pub record Demand2 : Type 0 where
-  pub equal : (config : Config) → config .«max_bus_retries» ≤ 65535 → (w : ℕ) → 39 ≤ w → (lent : ℕ → Lending) → Lends w lent → (outcomes : List BusOutcome)
+  pub equal : (config : Config) → TwoByteBudgets config → (w : ℕ) → 39 ≤ w → (lent : ℕ → Lending) → Lends w lent → (outcomes : List BusOutcome)
       → Equal config w lent outcomes
   -- and as a host has it: a call started by its kind
-  pub by-kind : (config : Config) → config .«max_bus_retries» ≤ 65535 → (w : ℕ) → 39 ≤ w → (lent : ℕ → Lending) → Lends w lent → (outcomes : List BusOutcome)
+  pub by-kind : (config : Config) → TwoByteBudgets config → (w : ℕ) → 39 ≤ w → (lent : ℕ → Lending) → Lends w lent → (outcomes : List BusOutcome)
       → EqualByKind config w lent outcomes
   -- the transfers that the call counts are those that the Rust's function lists and has had an outcome for, and its waits are the Rust's, of
   -- 10 ms each where they do not grow
-  pub counts : (config : Config) → config .«max_bus_retries» ≤ 65535 → (w : ℕ) → 39 ≤ w → (lent : ℕ → Lending) → Lends w lent → (outcomes : List BusOutcome)
+  pub counts : (config : Config) → TwoByteBudgets config → (w : ℕ) → 39 ≤ w → (lent : ℕ → Lending) → Lends w lent → (outcomes : List BusOutcome)
       → CountByKind config w lent outcomes
   -- so the ceilings, of transfers and of waits, are the Rust's too, and its functions end
-  pub ceilings : (config : Config) → config .«max_bus_retries» ≤ 65535 → (kind : Kind) (payload buffer : List ℕ) → Defined kind config payload buffer → (most waits : ℕ)
+  pub ceilings : (config : Config) → TwoByteBudgets config → (kind : Kind) (payload buffer : List ℕ) → Defined kind config payload buffer → (most waits : ℕ)
       → CeilingOf (config .«max_bus_retries») (length payload) (length buffer) kind most waits → (outcomes : List BusOutcome)
       → NoMore most waits (rustOf kind config payload buffer outcomes) × (most ≤ length outcomes → Over (rustOf kind config payload buffer outcomes))
   -- and whatever is reported, no transfer, answer or buffer, and no count but that of the milliseconds, depends on whether waits grow

@@ -12,6 +12,7 @@ use mathlib.Core.Logic.{_⊎_}
 use mathlib.Core.List.{List}
 use lib.ListN.{length, drop, replicate}
 use lib.Dec.{eqb}
+use Rattle.protocol.specs.Common.{TwoByteBudgets}
 use Rattle.protocol.specs.Pick.{if_then_else_}
 use Rattle.protocol.specs.Answer.{numberOf, detailOf}
 use Rattle.protocol.specs.Window.{inWindow}
@@ -115,7 +116,7 @@ pub record Demand3 : Type 0 where
       ≡ blockFrame (config .«pec_write») address (run payload es (began config address payload work flash) .acked) payload
   -- demand 2's transfers: for the outcomes of these events the flash is what becomes of the transfers that the Rust makes, and the machine stands where
   -- the Rust's call does, cut or with its answer
-  pub over-original : (config : Config) (address : ℕ) (payload work flash : List ℕ) → config .«max_bus_retries» ≤ 65535 → Accepted address payload work flash
+  pub over-original : (config : Config) (address : ℕ) (payload work flash : List ℕ) → TwoByteBudgets config → Accepted address payload work flash
       → (es : List Event)
       → (run payload es (began config address payload work flash) .flash
       ≡ laidOver es (madeIn (rust.writeDataflash config address payload begun (outcomesIn es))) flash)

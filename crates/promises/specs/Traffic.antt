@@ -7,6 +7,7 @@ use mathlib.Core.Path.{_≡_}
 use mathlib.Core.Bool.{true}
 use mathlib.Core.List.{List, [], map}
 use lib.ListN.{length, take}
+use Rattle.protocol.specs.Common.{TwoByteBudgets}
 use Rattle.protocol.specs.declared.common.Config.{Config}
 use Rattle.engine.specs.declared.budget.Tally.{Tally}
 use Rattle.engine.specs.declared.bus.Phase.the-variants as phase
@@ -28,15 +29,15 @@ use Rattle.original.specs.Fed.{Lending, Lends, fed, fedCall}
 -- each call by its name, whatever the bus does
 pub record Ends : Type 0 where
   -- EVERY CALL ENDS: with as many outcomes as its ceiling a call that is fed has its answer
-  pub answers : (config : Config) → config .«max_bus_retries» ≤ 65535 → (kind : Kind) (payload buffer : List ℕ) (w most waits : ℕ)
+  pub answers : (config : Config) → TwoByteBudgets config → (kind : Kind) (payload buffer : List ℕ) (w most waits : ℕ)
       → CeilingOf (config .«max_bus_retries») (length payload) (length buffer) kind most waits → (lent : ℕ → Lending) (outcomes : List BusOutcome)
       → most ≤ length outcomes → Over (fed (startOf kind config (length payload) (length buffer) w) payload buffer lent [] outcomes)
   -- and that is its own: where the lengths of the start are lent at each step, it does not wait any more
-  pub ends : (config : Config) → config .«max_bus_retries» ≤ 65535 → (kind : Kind) (payload buffer : List ℕ) (w most waits : ℕ)
+  pub ends : (config : Config) → TwoByteBudgets config → (kind : Kind) (payload buffer : List ℕ) (w most waits : ℕ)
       → CeilingOf (config .«max_bus_retries») (length payload) (length buffer) kind most waits → (lent : ℕ → Lending) → Lends w lent → (outcomes : List BusOutcome)
       → most ≤ length outcomes → phaseOf (fedCall (startOf kind config (length payload) (length buffer) w) payload buffer lent 0 outcomes) ≡ phase.Waiting → ⊥
   -- whatever work buffers are lent (at the first of another length 8 is shown, and the host stops), no more transfers than that are made, and no more waits
-  pub makes : (config : Config) → config .«max_bus_retries» ≤ 65535 → (kind : Kind) (payload buffer : List ℕ) (w most waits : ℕ)
+  pub makes : (config : Config) → TwoByteBudgets config → (kind : Kind) (payload buffer : List ℕ) (w most waits : ℕ)
       → CeilingOf (config .«max_bus_retries») (length payload) (length buffer) kind most waits → (lent : ℕ → Lending) (outcomes : List BusOutcome)
       → NoMore most waits (fed (startOf kind config (length payload) (length buffer) w) payload buffer lent [] outcomes)
 
@@ -68,6 +69,6 @@ pub record RunWithin (payload course : List ℕ) (most waits : ℕ) (from : Worl
   pub cut : runOf payload course from .run .end ≡ end.Cut → (tallyLeft (runOf payload course from) .transfers ≡ length course) × (length course < most)
 
 pub record CourseTraffic : Type 0 where
-  pub runs : (config : Config) → config .«max_bus_retries» ≤ 65535 → (kind : Kind) (payload buffer work flash : List ℕ) (gauge : Gauge) (course : List ℕ) (most waits : ℕ)
+  pub runs : (config : Config) → TwoByteBudgets config → (kind : Kind) (payload buffer work flash : List ℕ) (gauge : Gauge) (course : List ℕ) (most waits : ℕ)
       → CeilingOf (config .«max_bus_retries») (length payload) (length buffer) kind most waits
       → RunWithin payload course most waits (begins kind config payload buffer work flash gauge)

@@ -7,6 +7,7 @@ use mathlib.Core.Logic.{inl}
 use mathlib.Core.List.{[]}
 use native.Mathlib.Omega.{arith}
 use native.Mathlib.Nat.{mul-le-mul-right}
+use Rattle.protocol.specs.Common.{TwoByteBudgets}
 use Rattle.protocol.specs.declared.common.Config.{Config}
 use Rattle.engine.specs.Budget.{nothing}
 use Rattle.engine.specs.declared.bus.Phase.{Phase}
@@ -66,7 +67,7 @@ begins r growing (plan.Read its) p n w set = (
 )
 
 -- the waits of a call that is not refused or done at its start: those of 256 frames at the most
-module _ (config : Config) (few : config .«max_bus_retries» ≤ 65535) (p n w : ℕ) where
+module _ (config : Config) (few : TwoByteBudgets config) (p n w : ℕ) where
   blocks-few : (b : ℕ) → p ≤ 8192 → Blocks 32 p b → b * config .«max_bus_retries» ≤ 256 * 65535
   blocks-few b long (low, high) =
       let b-few : b ≤ 256 = omega (arith, long, high) in

@@ -6,6 +6,7 @@ use mathlib.Core.Bool.{Bool}
 use mathlib.Core.List.{List, [], _∷_, _++_, append-nil}
 use native.Mathlib.Omega.{arith}
 use lib.ListN.{length}
+use Rattle.protocol.specs.Common.{TwoByteBudgets}
 use Rattle.protocol.specs.declared.common.Config.{Config}
 use Rattle.engine.specs.declared.bus.Outcome.{Outcome}
 use Rattle.calls.specs.Kind.{planOf}
@@ -91,7 +92,7 @@ bounds growing r f os (call.Read c) (t, one) = record {
       rw one (omega (arith, all, total));
 }
 
-module _ (config : Config) (few : config .«max_bus_retries» ≤ 65535) (kind : Kind) (p n w : ℕ) (es : List Report) where
+module _ (config : Config) (few : TwoByteBudgets config) (kind : Kind) (p n w : ℕ) (es : List Report) where
   abbrev taken : List Outcome
   taken = outcomesOf (startOf kind config p n w) es
 

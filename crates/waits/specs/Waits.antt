@@ -5,6 +5,7 @@ use Prim.Native.Nat.{ℕ, _+_, _*_, _≤_, _<_}
 use mathlib.Core.Path.{_≡_}
 use mathlib.Core.Bool.{Bool, true, false}
 use mathlib.Core.List.{List, [], _∷_}
+use Rattle.protocol.specs.Common.{TwoByteBudgets}
 use Rattle.protocol.specs.declared.common.Config.{Config}
 use Rattle.protocol.specs.declared.error.Answer.{Answer}
 use Rattle.engine.specs.declared.budget.Tally.{Tally}
@@ -93,21 +94,21 @@ countsOf kind config p n w es = tallyOf (feed (startOf kind config p n w) es)
 
 pub record Waits : Type 0 where
   -- IN CLOSED WORDS: a reading call has one budget, and all its waits are of that
-  pub reads : (config : Config) → config .«max_bus_retries» ≤ 65535 → (kind : Kind) (p n w : ℕ) (its : ReadPlan) → planOf kind config p n ≡ plan.Read its → (es : List Report)
+  pub reads : (config : Config) → TwoByteBudgets config → (kind : Kind) (p n w : ℕ) (its : ReadPlan) → planOf kind config p n ≡ plan.Read its → (es : List Report)
       → countsOf kind config p n w es .«waited_ms» ≡ budgetCost (config .«growing_waits») (countsOf kind config p n w es .waits)
   -- a writing call has one for each frame
-  pub writes : (config : Config) → config .«max_bus_retries» ≤ 65535 → (kind : Kind) (p n w : ℕ) (its : WritePlan) → planOf kind config p n ≡ plan.Write its → (es : List Report)
+  pub writes : (config : Config) → TwoByteBudgets config → (kind : Kind) (p n w : ℕ) (its : WritePlan) → planOf kind config p n ≡ plan.Write its → (es : List Report)
       → countsOf kind config p n w es .«waited_ms»
       ≡ framesCost (config .«growing_waits») (config .«max_bus_retries») 0 (outcomesOf (startOf kind config p n w) es)
   -- with the setting off all waits are 10 ms, so that the total is ten times the count
-  pub steady : (config : Config) → config .«max_bus_retries» ≤ 65535 → config .«growing_waits» ≡ false → (kind : Kind) (p n w : ℕ) (es : List Report)
+  pub steady : (config : Config) → TwoByteBudgets config → config .«growing_waits» ≡ false → (kind : Kind) (p n w : ℕ) (es : List Report)
       → countsOf kind config p n w es .«waited_ms» ≡ countsOf kind config p n w es .waits * 10
   -- a report adds nothing, or one wait and its length: so a host waits for as many milliseconds as the total has grown by
-  pub grows : (config : Config) → config .«max_bus_retries» ≤ 65535 → (kind : Kind) (p n w : ℕ) (es : List Report) (e : Report)
+  pub grows : (config : Config) → TwoByteBudgets config → (kind : Kind) (p n w : ℕ) (es : List Report) (e : Report)
       → Growth (config .«growing_waits») (countsOf kind config p n w es) (tallyOf (callAfter (cameOf (feed (startOf kind config p n w) es) e)))
   -- 32 bits are enough: the total is at most 256 frames * 65,535 waits * 80 ms, not a third of what they hold
-  pub small : (config : Config) → config .«max_bus_retries» ≤ 65535 → (kind : Kind) (p n w : ℕ) (es : List Report)
+  pub small : (config : Config) → TwoByteBudgets config → (kind : Kind) (p n w : ℕ) (es : List Report)
       → (countsOf kind config p n w es .«waited_ms» ≤ 256 * 65535 * 80) × (256 * 65535 * 80 * 3 < 4294967295)
   -- and at most what r retried failures come to, for each budget
-  pub most : (config : Config) → config .«max_bus_retries» ≤ 65535 → (kind : Kind) (p n w : ℕ) (es : List Report)
+  pub most : (config : Config) → TwoByteBudgets config → (kind : Kind) (p n w : ℕ) (es : List Report)
       → countsOf kind config p n w es .«waited_ms» ≤ budgetsIn (planOf kind config p n) p * budgetCost (config .«growing_waits») (config .«max_bus_retries»)
