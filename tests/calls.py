@@ -1,8 +1,8 @@
 #!/usr/bin/env python3
 """The calls a second time, from document 01 alone and as plain loops: what `drive` must print. tests/run holds it against crates/drive/stdout.
 
-A call is a generator: it yields a transfer, (frame,) or (command, count), takes an outcome, and returns its answer with the detail. tests/bench runs some of them
-with waits that grow (document 02, W-203)."""
+A call is a generator: it yields a transfer, (frame,) or (command, count), takes an outcome, and returns its answer with the detail. tests/bench runs them with
+waits that grow and with two budgets (document 02, W-203 and W-211)."""
 from itertools import chain, repeat
 
 
@@ -23,8 +23,8 @@ def lengths(growing):
 class Budget:
     """A number of retries; each is a wait that the call counts."""
 
-    def __init__(self, call):
-        self.call, self.left, self.lengths = call, call.retries, lengths(call.growing)
+    def __init__(self, call, retries):
+        self.call, self.left, self.lengths = call, retries, lengths(call.growing)
 
     def fails(self):
         if self.left == 0:
@@ -36,13 +36,13 @@ class Budget:
 
 
 class Call:
-    def __init__(self, retries, pec_write, pec_read, buffer=0, growing=False):
-        self.retries, self.pec_write, self.pec_read, self.growing = retries, pec_write, pec_read, growing
+    def __init__(self, write_retries, read_retries, pec_write, pec_read, buffer=0, growing=False):
+        self.write_retries, self.read_retries, self.pec_write, self.pec_read, self.growing = write_retries, read_retries, pec_write, pec_read, growing
         self.waits, self.waited_ms, self.buffer = 0, 0, [0xA5] * buffer
 
     def send(self, frame):
-        """One frame, with a budget of its own."""
-        budget = Budget(self)
+        """One frame of a write, with a write budget of its own."""
+        budget = Budget(self, self.write_retries)
         while True:
             outcome = yield (sealed(frame, self.pec_write),)
             if outcome[0] == 0 or budget.fails():
@@ -63,16 +63,16 @@ class Call:
                 return (6, at) if at else failed
         return 0, 0
 
-    def reads(self, head, head_pec, parts, covered):
-        """Every part: (head or None, command, count, lead, where it goes, how much of it). One budget for all of them."""
-        budget, due = Budget(self), True
-        for own_head, command, count, lead, at, most, with_pec in parts or [(head, None, 0, 0, 0, 0, False)]:
+    def reads(self, parts, covered):
+        """Every part: (head or None, command, count, lead, where it goes, how much of it, whether a PEC is on). One read budget for all of them, heads and all."""
+        budget, due = Budget(self, self.read_retries), True
+        for head, command, count, lead, at, most, with_pec in parts:
             while True:
                 failed = None
-                if own_head and due:
-                    outcome = yield (sealed(own_head, head_pec),)
+                if head and due:
+                    outcome = yield (sealed(head, with_pec),)
                     failed = outcome[:2] if outcome[0] else None
-                if not failed and command is not None:
+                if not failed:
                     due = False
                     outcome = yield command, count
                     failed = outcome[:2] if outcome[0] else None
@@ -81,9 +81,8 @@ class Call:
                         if with_pec and pec([0x16, covered, 0x17] + reply[:-1]) != reply[-1]:
                             failed = 3, 0
                 if not failed:
-                    if command is not None:
-                        data = reply[lead : lead + most]
-                        self.buffer[at : at + len(data)] = data
+                    data = reply[lead : lead + most]
+                    self.buffer[at : at + len(data)] = data
                     break
                 due = True
                 if budget.fails():
@@ -91,24 +90,23 @@ class Call:
         return 0, 0
 
     def plain_read(self, command, wanted, with_pec):
-        return self.reads(None, False, [(None, command, wanted + with_pec, 0, 0, len(self.buffer), with_pec)], command)
+        return self.reads([(None, command, wanted + with_pec, 0, 0, len(self.buffer), with_pec)], command)
 
     def mac_read(self, head, command, wanted):
         n = len(self.buffer)
-        return self.reads(head, self.pec_read, [(head, command, wanted + 3 + self.pec_read, 3, 0, n, self.pec_read)], 0x44)
+        return self.reads([(head, command, wanted + 3 + self.pec_read, 3, 0, n, self.pec_read)], 0x44)
 
     def dispatch_command(self, address):
+        """A MAC read, or one write where there is no output."""
         head = [address >> 16 & 255, 2, address >> 8 & 255, address & 255]
-        if self.buffer:
-            return self.mac_read(head, head[0], len(self.buffer))
-        return self.reads(head, self.pec_write, [], 0)
+        return self.mac_read(head, head[0], len(self.buffer)) if self.buffer else self.writes([head])
 
     def read_dataflash(self, address):
         n, parts = len(self.buffer), []
         for at in range(0, n, 32):
             count = 36 if self.pec_read else min(35, n - at + 3)
             parts.append(([0x44, 2] + word(address + at), 0x44, count, 3, at, min(32, n - at), self.pec_read))
-        return self.reads(None, self.pec_read, parts, 0x44)
+        return self.reads(parts, 0x44)
 
 
 def too_large(call):
@@ -207,13 +205,13 @@ def line(script, make, call, covered=0):
 def show_write(name, make, on):
     print(name)
     for script in ",aaasl,eataea,ef,tt,te,att,aef,rslba".split(","):
-        print(line(script, make, Call(1, on, not on)))
+        print(line(script, make, Call(1, 1, on, not on)))
 
 
 def show_read(name, n, covered, make, on):
     print(name)
     for script in ",aaasl,aeaaaa,ef,tt,te,tat,aapat,tpp,qrslba,aqrba".split(","):
-        call = Call(1, not on, on, n)
+        call = Call(1, 1, not on, on, n)
         print(line(script, make, call, covered), bytes(call.buffer).hex())
 
 

@@ -88,22 +88,24 @@ fn has_wrong_buffer(request: &Request) -> bool {
     }
 }
 
-/// The settings that a driver starts with, and what its bus is held to, as the program `starts` of the port has them.
+/// The settings that a driver starts with, and what its bus is held to, as the program `starts` of the port has them: the Rust's one number of
+/// retries fills the write budget and the read budget.
 #[must_use]
 pub fn default_settings() -> String {
     let config = Config::new();
+    let both = config.max_bus_retries;
     let pec = u8::from;
     format!(
-        "Config::new : retries {}, pec_write {}, pec_read {}\nbus : address {GAUGE_ADDRESS:02x}, wait {WAIT_MS}",
-        config.max_bus_retries,
+        "Config::new : retries {both} and {both}, pec_write {}, pec_read {}\nbus : address {GAUGE_ADDRESS:02x}, wait {WAIT_MS}",
         pec(config.pec_write),
         pec(config.pec_read)
     )
 }
 
+/// The Rust's setting, whose one number of retries is the budget of the call's side.
 fn config(request: &Request) -> Config {
     Config {
-        max_bus_retries: usize::from(request.retries),
+        max_bus_retries: usize::from(request.budget()),
         pec_read: request.pec_read,
         pec_write: request.pec_write,
         ..Config::new()

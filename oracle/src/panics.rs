@@ -9,7 +9,7 @@ use std::sync::Once;
 
 use crate::line::Line;
 use crate::list::Case;
-use crate::request::{Kind, Request};
+use crate::request::{Kind, Request, Retries};
 
 /// Where the Rust panicked, and what it said.
 #[derive(Debug, Clone, PartialEq, Eq)]
@@ -110,7 +110,7 @@ fn zeros(kind: Kind, flags: u8, length: u16, payload: usize) -> Request {
         pec_write: flags & 1 != 0,
         pec_read: flags & 2 != 0,
         growing_waits: false,
-        retries: 0,
+        retries: Retries::Both(0),
         number: if kind.layout().number == 2 { 0x4000 } else { 0 },
         length,
         payload: vec![0; payload],

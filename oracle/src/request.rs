@@ -1,4 +1,4 @@
-//! The request line: kind, flags, retries, and the arguments of the kind.
+//! The request line: kind, flags, one budget of retries or two, and the arguments of the kind.
 
 /// The largest payload, read length and reply.
 pub const LARGEST: usize = 8192;
@@ -7,7 +7,10 @@ pub const LARGEST: usize = 8192;
 const OVERRIDE_LENGTH: usize = 10;
 
 /// Flags that mean nothing: a line that sets one is bad.
-const UNKNOWN_FLAGS: u8 = 0b1111_0100;
+const UNKNOWN_FLAGS: u8 = 0b1111_0000;
+
+/// The flag that says that two budgets follow.
+const TWO_BUDGETS: u8 = 0b0000_0100;
 
 /// The first two characters of a request line whose kind is retired: the unchecked register calls had these numbers,
 /// and no other call is given them.
@@ -118,6 +121,34 @@ impl Kind {
     }
 }
 
+/// The retries that a line states.
+#[derive(Debug, Clone, Copy, PartialEq, Eq)]
+pub enum Retries {
+    /// One number, which fills both budgets.
+    Both(u16),
+    /// A budget of each side, the write budget first.
+    Each(u16, u16),
+}
+
+impl Retries {
+    /// The budget of a side.
+    #[must_use]
+    pub const fn of(self, side: Side) -> u16 {
+        match (self, side) {
+            (Retries::Both(both), _) => both,
+            (Retries::Each(write, _), Side::Write) => write,
+            (Retries::Each(_, read), Side::Read) => read,
+        }
+    }
+}
+
+/// What a call does, and so the budget that every transfer of it goes by.
+#[derive(Debug, Clone, Copy, PartialEq, Eq)]
+pub enum Side {
+    Write,
+    Read,
+}
+
 /// A call with its setting and its arguments; those that its kind lacks are 0 and empty.
 #[derive(Debug, Clone, PartialEq, Eq)]
 pub struct Request {
@@ -125,7 +156,7 @@ pub struct Request {
     pub pec_write: bool,
     pub pec_read: bool,
     pub growing_waits: bool,
-    pub retries: u16,
+    pub retries: Retries,
     /// The address, or the lower access key and, above it, the upper one.
     pub number: u32,
     /// The length of the caller's buffer, where the line states it.
@@ -146,7 +177,7 @@ impl Request {
             pec_write: flags & 1 != 0,
             pec_read: flags & 2 != 0,
             growing_waits: flags & 8 != 0,
-            retries: rest.number(2)? as u16,
+            retries: rest.retries(flags)?,
             number: rest.number(layout.number)?,
             length: if layout.length { rest.number(2)? as u16 } else { 0 },
             payload: if layout.payload { rest.all().to_vec() } else { Vec::new() },
@@ -159,7 +190,10 @@ impl Request {
     pub fn to_bytes(&self) -> Vec<u8> {
         let layout = self.kind.layout();
         let mut bytes = vec![self.kind as u8, self.flags()];
-        bytes.extend(self.retries.to_le_bytes());
+        match self.retries {
+            Retries::Both(both) => bytes.extend(both.to_le_bytes()),
+            Retries::Each(write, read) => bytes.extend([write.to_le_bytes(), read.to_le_bytes()].concat()),
+        }
         bytes.extend(&self.number.to_le_bytes()[..layout.number]);
         if layout.length {
             bytes.extend(self.length.to_le_bytes());
@@ -171,7 +205,42 @@ impl Request {
     /// The flags byte.
     #[must_use]
     pub fn flags(&self) -> u8 {
-        u8::from(self.pec_write) | u8::from(self.pec_read) << 1 | u8::from(self.growing_waits) << 3
+        let budgets = if matches!(self.retries, Retries::Each(..)) { TWO_BUDGETS } else { 0 };
+        u8::from(self.pec_write) | u8::from(self.pec_read) << 1 | budgets | u8::from(self.growing_waits) << 3
+    }
+
+    /// The side of the call (document 02, W-211). The command frame of a MAC read and the address frame of a data-flash read are parts of a
+    /// read. A command with no output is one write; with output it is a MAC read.
+    #[must_use]
+    pub const fn side(&self) -> Side {
+        match self.kind {
+            Kind::ReadDataflash
+            | Kind::ReadRegister
+            | Kind::BufferRead
+            | Kind::ReadSecurityKeys
+            | Kind::ReadAuthenticationKey
+            | Kind::ReadMfgInfoC
+            | Kind::ReadMfgInfo
+            | Kind::ReadChargingVoltageOverride => Side::Read,
+            Kind::WriteDataflash
+            | Kind::WriteRegister
+            | Kind::BufferWrite
+            | Kind::WriteSecurityKeys
+            | Kind::WriteAuthenticationKey
+            | Kind::SendAccessKey
+            | Kind::WriteMfgInfoC
+            | Kind::WriteMfgInfo
+            | Kind::WriteChargingVoltageOverride
+            | Kind::PlainWrite => Side::Write,
+            Kind::DispatchCommand if self.length == 0 => Side::Write,
+            Kind::DispatchCommand => Side::Read,
+        }
+    }
+
+    /// The budget that the call goes by.
+    #[must_use]
+    pub const fn budget(&self) -> u16 {
+        self.retries.of(self.side())
     }
 
     /// The length of the buffer that a reading call fills.
@@ -207,6 +276,15 @@ impl<'a> Rest<'a> {
     /// A number of `width` bytes, low byte first.
     fn number(&mut self, width: usize) -> Option<u32> {
         (0..width).try_fold(0, |number, place| Some(number | u32::from(self.byte()?) << (8 * place)))
+    }
+
+    /// One budget, or two where the flags say so.
+    fn retries(&mut self, flags: u8) -> Option<Retries> {
+        let first = self.number(2)? as u16;
+        if flags & TWO_BUDGETS == 0 {
+            return Some(Retries::Both(first));
+        }
+        Some(Retries::Each(first, self.number(2)? as u16))
     }
 
     fn all(&mut self) -> &'a [u8] {

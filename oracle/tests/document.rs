@@ -1,4 +1,5 @@
-//! Statements of document 01, each shown by running the Rust, that retired kinds are refused, and how waits grow.
+//! Statements of document 01, each shown by running the Rust, that retired kinds are refused, how waits grow, and which of two budgets a call
+//! goes by.
 
 mod bench;
 
@@ -6,7 +7,7 @@ use bench::{bench, line, sealed_reply};
 use oracle::answer::Answer;
 use oracle::bus::{Outcome, Partner, Transfer};
 use oracle::call;
-use oracle::request::{Kind, Request};
+use oracle::request::{Kind, Request, Retries};
 
 /// The request line of kind, flags, retries and arguments.
 fn request(kind: u8, flags: u8, retries: u8, arguments: &[u8]) -> String {
@@ -70,7 +71,7 @@ fn the_window_figure_that_no_line_can_ask_for() {
             pec_write: false,
             pec_read: false,
             growing_waits: false,
-            retries: 0,
+            retries: Retries::Both(0),
             number: 0x4000,
             length: 8193,
             payload: vec![0; 8193],
@@ -283,8 +284,131 @@ fn a_reading_call_has_one_budget_whose_waits_grow_through_it() {
 #[test]
 fn other_flags_are_11() {
     for flags in 0..=255 {
-        let good = [0x00, 0x01, 0x02, 0x03, 0x08, 0x09, 0x0A, 0x0B].contains(&flags);
-        assert_eq!(started(0x15, flags, &[0xAA]), if good { None } else { Some(11) }, "{flags:02X}");
+        let expected = if flags < 0x10 { None } else { Some(11) };
+        assert_eq!(started(0x15, flags, &[0xAA, 0xBB, 0xCC]), expected, "{flags:02X}");
+    }
+}
+
+/// Each call with its arguments and the length of its buffer; a command is a write with no output and a read with some.
+const WRITES: [(u8, &[u8]); 11] = [
+    (0x01, &[0x00, 0x40, 0xAA]),
+    (0x03, &[0x0D, 0xAA]),
+    (0x05, &[0x00, 0x35, 0x44, 0x00, 0x00, 0x00]),
+    (0x07, &[0x0D, 0xAA]),
+    (0x09, &[0xAA; 28]),
+    (0x0B, &[0xAA; 16]),
+    (0x0E, &[0x14, 0x04, 0x72, 0x36]),
+    (0x10, &[0x14, 0x04, 0x72, 0x36, 0xAA]),
+    (0x12, &[0xAA]),
+    (0x14, &[0xAA; 10]),
+    (0x15, &[0xAA]),
+];
+const READS: [(u8, &[u8], usize); 9] = [
+    (0x02, &[0x00, 0x40, 0x01, 0x00], 1),
+    (0x04, &[0x0D, 0x01, 0x00], 1),
+    (0x05, &[0x00, 0x35, 0x44, 0x00, 0x01, 0x00], 1),
+    (0x06, &[0x0D, 0x01, 0x00], 1),
+    (0x08, &[], 28),
+    (0x0A, &[], 16),
+    (0x0F, &[0x01, 0x00], 1),
+    (0x11, &[0x01, 0x00], 1),
+    (0x13, &[], 10),
+];
+
+/// What is printed last where a call with two budgets of less than 256, the write budget first, has no answer to any of its transfers.
+fn silence(kind: u8, flags: u8, write: u8, read: u8, arguments: &[u8]) -> String {
+    let request = line(&[&[kind, flags, write, 0, read, 0], arguments].concat());
+    bench(&[&[request.as_str()], &["02"; 9][..]].concat()).pop().expect("something is always printed")
+}
+
+#[test]
+fn a_call_goes_by_the_budget_of_its_side_alone() {
+    let at_once = "FF0200000000000000000000";
+    let after_two = "FF0200000200000014000000";
+    for (kind, arguments) in WRITES {
+        for other in [0, 1, 2, 7] {
+            assert_eq!(silence(kind, 4, 0, other, arguments), at_once, "{kind:02X}");
+            assert_eq!(silence(kind, 7, 2, other, arguments), after_two, "{kind:02X}");
+        }
+    }
+    for (kind, arguments, length) in READS {
+        let buffer = "A5".repeat(length);
+        for other in [0, 1, 2, 7] {
+            assert_eq!(silence(kind, 4, other, 0, arguments), at_once.to_owned() + &buffer, "{kind:02X}");
+            assert_eq!(silence(kind, 7, other, 2, arguments), after_two.to_owned() + &buffer, "{kind:02X}");
+        }
+    }
+    let kinds = WRITES.map(|row| row.0).into_iter().chain(READS.map(|row| row.0));
+    let missing: Vec<Kind> =
+        Kind::ALL.into_iter().filter(|kind| !kinds.clone().any(|number| number == *kind as u8)).collect();
+    assert_eq!(missing, []);
+}
+
+#[test]
+fn the_command_and_the_address_frame_of_a_read_go_by_the_read_budget() {
+    let address = ["0204020000000040", "0100"].concat();
+    assert_eq!(bench(&[&address, "02"]), ["0044020040", "FF0200000000000000000000A5"]);
+    let command = "0F04020000000100";
+    assert_eq!(bench(&[command, "02"]), ["0044027B00", "FF0200000000000000000000A5"]);
+    let both = bench(&["0F04000001000100", "02", "00", "02"]);
+    assert_eq!(both, ["0044027B00", "0044027B00", "01440400", "FF020000010000000A000000A5"]);
+}
+
+#[test]
+fn each_frame_of_a_write_has_the_write_budget() {
+    let long = line(&[&[0x01, 0x0C, 2, 0, 0, 0, 0x00, 0x40][..], &[0; 33]].concat());
+    assert_eq!(waited(&long, &["02", "02", "00", "02", "02", "00"]), (4, 30 + 30));
+    assert_eq!(bench(&[&long, "00", "02", "02", "02"])[4], "FF062000020000001E000000");
+}
+
+#[test]
+fn budgets_are_two_bytes_low_byte_first_and_the_write_budget_comes_first() {
+    let failures = |count: usize| vec!["02"; count];
+    for (write, read) in [(0x0102_u16, 0x0304_u16), (0x0001, 0xFF00), (0xFF00, 0x0001)] {
+        let header = |kind| [&[kind, 0x04], &write.to_le_bytes()[..], &read.to_le_bytes()].concat();
+        let plain = line(&[header(0x15), vec![0xAA]].concat());
+        assert_eq!(waited(&plain, &failures(70_000)).0, u32::from(write));
+        let register = line(&[header(0x04), vec![0x0D, 0x01, 0x00]].concat());
+        assert_eq!(waited(&register, &failures(70_000)).0, u32::from(read));
+    }
+}
+
+#[test]
+fn one_number_fills_both_budgets() {
+    for (kind, arguments) in WRITES.into_iter().chain(READS.map(|(kind, arguments, _)| (kind, arguments))) {
+        for retries in 0..4 {
+            let one = request(kind, 3, retries, arguments);
+            let last = bench(&[&[one.as_str()], &["0111"; 9][..]].concat()).pop();
+            let two = line(&[&[kind, 7, retries, 0, retries, 0], arguments].concat());
+            assert_eq!(bench(&[&[two.as_str()], &["0111"; 9][..]].concat()).pop(), last, "{kind:02X}");
+        }
+    }
+}
+
+#[test]
+fn a_line_too_short_for_both_budgets_is_11() {
+    let refused = ["FF0B00000000000000000000"];
+    for kind in Kind::ALL {
+        for flags in [0x04, 0x07, 0x0C, 0x0F] {
+            for length in 0..4 {
+                let short = [&[kind as u8, flags], &[0; 4][..length]].concat();
+                assert_eq!(bench(&[&line(&short)]), refused, "{kind:?} with {length} bytes behind its flags");
+            }
+        }
+    }
+    assert_eq!(bench(&["150400000000"]), ["00", "FE0000000000000000"]);
+    for missing in ["020400000000", "02040000000000400", "0204000000000040", "020400000000004004"] {
+        assert_eq!(bench(&[missing]), refused);
+    }
+    assert_eq!(bench(&["0C0400"]), ["FF0F00000000000000000000"]);
+}
+
+#[test]
+fn the_longest_line_has_16408_digits() {
+    for (input, answer) in [(8192, "FF0400000000000000000000"), (8193, "FF0B00000000000000000000")] {
+        let longest = [&[0x05, 0x04, 0, 0, 0, 0, 0x00, 0x35, 0x44, 0x00, 0, 0][..], &vec![0; input]].concat();
+        assert_eq!(line(&longest).len(), 16_408 + 2 * (input - 8192));
+        assert_eq!(bench(&[&line(&longest)]), [answer]);
     }
 }
 

@@ -1,8 +1,12 @@
 //! Lists that the generators write are read back and answered the same.
 
+use std::collections::BTreeSet;
+
 use oracle::bench::Report;
 use oracle::generate;
+use oracle::line::Line;
 use oracle::list::{self, Case};
+use oracle::request::{Kind, Request, Retries, Side};
 
 /// The list that a generator writes, and the number of its cases.
 fn list_of(generator: impl FnOnce(generate::Sink<'_>)) -> (Vec<u8>, u64) {
@@ -53,5 +57,21 @@ fn the_sample_has_every_answer_and_fits_a_repository() {
         "an ended call takes no outcome on the bench, and 12 to 14 are no answers"
     );
     assert!(waiting > 0);
-    assert!(list_of(generate::sample).0.len() < 1_600_000);
+    assert!(list_of(generate::sample).0.len() < 1_900_000);
+}
+
+#[test]
+fn the_sample_tells_the_two_budgets_of_each_call_apart() {
+    let mut told_apart = BTreeSet::new();
+    generate::sample(&mut |mut case, _| {
+        let bytes = case.input.first().and_then(Line::bytes).unwrap_or_default();
+        let Some(mut request) = Request::from_bytes(&bytes) else { return };
+        let Retries::Each(write, read) = request.retries else { return };
+        request.retries = Retries::Each(read, write);
+        case.input[0] = Line::of(&request.to_bytes());
+        if case.answered() != case.output {
+            told_apart.insert((request.kind, request.side() == Side::Write));
+        }
+    });
+    assert_eq!(told_apart.len(), Kind::ALL.len() + 1, "a command is a write or a read: {told_apart:?}");
 }

@@ -9,6 +9,7 @@ use native.Mathlib.Omega.{arith}
 use lib.Dec.{ltb, eqb}
 use lib.ListN.{length, length-take}
 use borrow.Author.Tests.{lt-ltb, eq-eqb}
+use Rattle.protocol.proofs.Shared.{few-on}
 use Rattle.protocol.specs.Common.{TwoByteBudgets}
 use Rattle.protocol.specs.Pick.{if_then_else_}
 use Rattle.protocol.specs.Frame.{pairOf, macBytes, fixedPair, commandBytes, registerBytes, infoBytes, sealed, laidOf}
@@ -164,23 +165,23 @@ idle-write plan payload w a call q e =
       goes-on = λ h. let z : _≡_ {A = ℕ} 0 1 = cc in absurd (omega arith);
     }
 
-retries-write : (config : Config) (plan : WritePlan) → WritesBy config plan → plan .retries ≡ config .«max_bus_retries»
+few-written : (config : Config) → TwoByteBudgets config → (plan : WritePlan) → WritesBy config plan → plan .retries ≤ 65535
 unfolding writeWithRetries writeRegister writeBuffer macWrite sendAccessKey writeMfgInfoC writeMfgInfo writeDataflash writing.planOf
-retries-write config plan (write-with-retries) = refl
-retries-write config plan (write-register address) = refl
-retries-write config plan (write-buffer address) = refl
-retries-write config plan (write-security-keys) = refl
-retries-write config plan (write-authentication-key) = refl
-retries-write config plan (write-charging-voltage-override) = refl
-retries-write config plan (send-access-key lower upper) = refl
-retries-write config plan (unseal-fg lower upper) = refl
-retries-write config plan (write-mfg-info-c lower upper) = refl
-retries-write config plan (write-mfg-info) = refl
-retries-write config plan (write-dataflash start) = refl
+few-written config small plan (write-with-retries) = small .0
+few-written config small plan (write-register address) = small .0
+few-written config small plan (write-buffer address) = small .0
+few-written config small plan (write-security-keys) = small .0
+few-written config small plan (write-authentication-key) = small .0
+few-written config small plan (write-charging-voltage-override) = small .0
+few-written config small plan (send-access-key lower upper) = small .0
+few-written config small plan (unseal-fg lower upper) = small .0
+few-written config small plan (write-mfg-info-c lower upper) = small .0
+few-written config small plan (write-mfg-info) = small .0
+few-written config small plan (write-dataflash start) = small .0
 
 pub writes-within : (config : Config) → TwoByteBudgets config → (plan : WritePlan) → WritesBy config plan → (payload : List ℕ) (w : ℕ) (es : List WriteReport)
     → WritesWithin plan payload w (feedW (writing.startOf plan (length payload) w) es)
-writes-within config r plan name payload w es = by (writing.startOf plan (length payload) w .phase) refl
+writes-within config small plan name payload w es = by (writing.startOf plan (length payload) w .phase) refl
   where
     begun : WriteCall
     begun = writing.startOf plan (length payload) w
@@ -192,8 +193,7 @@ writes-within config r plan name payload w es = by (writing.startOf plan (length
     by phase.Waiting e =
         let open-fits = admitted-fits (plan .limit) (frames.firstAddress (plan .frames)) (length payload) w (sym (starts-as .writing plan (length payload) w .phase) ∙ e) in
         let s = sane config payload plan name (open-fits .1) in
-        let few = retries-write config plan name in
-        let sound = runs.sound plan (length payload) w (omega arith) (λ h. s .some) (s .few) es in
+        let sound = runs.sound plan (length payload) w (few-written config small plan name) (λ h. s .some) (s .few) es in
         record {
           counters = runs.tame (frames.frameCount (plan .frames) (length payload)) (feedW begun es) sound;
           goes-on = λ h. writes-on plan payload w s (open-fits .0) (feedW begun es) (runs.same-task es begun) h (sound .due h);
@@ -255,17 +255,17 @@ module _ (config : Config) (n : ℕ) where
     asks = λ i. block-asks (parts.leftOf n i) (config .«pec_read»);
   }
 
-retries-read : (config : Config) (n : ℕ) (plan : ReadPlan) → ReadsBy config n plan → plan .retries ≡ config .«max_bus_retries»
+few-read : (config : Config) → TwoByteBudgets config → (n : ℕ) (plan : ReadPlan) → ReadsBy config n plan → plan .retries ≤ 65535
 unfolding readRegister readBuffer dispatchCommand macRead readMfgInfoC readMfgInfo readDataflash reading.plainPlan reading.macPlan
-retries-read config n plan (read-register address) = refl
-retries-read config n plan (read-buffer address) = refl
-retries-read config n plan (dispatch-command address input) = refl
-retries-read config n plan (read-security-keys) = refl
-retries-read config n plan (read-authentication-key) = refl
-retries-read config n plan (read-charging-voltage-override) = refl
-retries-read config n plan (read-mfg-info-c) = refl
-retries-read config n plan (read-mfg-info) = refl
-retries-read config n plan (read-dataflash start) = refl
+few-read config small n plan (read-register address) = small .1
+few-read config small n plan (read-buffer address) = small .1
+few-read config small n plan (dispatch-command address input) = few-on config small (parts.readsSide (commandReads config address n))
+few-read config small n plan (read-security-keys) = small .1
+few-read config small n plan (read-authentication-key) = small .1
+few-read config small n plan (read-charging-voltage-override) = small .1
+few-read config small n plan (read-mfg-info-c) = small .1
+few-read config small n plan (read-mfg-info) = small .1
+few-read config small n plan (read-dataflash start) = small .1
 
 module _ (plan : ReadPlan) (n w : ℕ) (s : SaneRead plan n) (k : 39 ≤ w) (call : ReadCall) (t : call .task ≡ reading.startOf plan n w .task) (e : call .phase ≡ phase.Waiting) where
   fits-begun : fitsOf (call .task .lent) n w ≡ true
@@ -323,7 +323,7 @@ idle-read plan buffer w a r q e =
 
 pub reads-within : (config : Config) → TwoByteBudgets config → (buffer : List ℕ) (plan : ReadPlan) → ReadsBy config (length buffer) plan → (w : ℕ) (es : List ReadReport)
     → ReadsWithin plan buffer w (feedR (record { call = reading.startOf plan (length buffer) w; buffer = buffer }) es)
-reads-within config r buffer plan name w es = by (reading.startOf plan (length buffer) w .phase) refl
+reads-within config small buffer plan name w es = by (reading.startOf plan (length buffer) w .phase) refl
   where
     begun : Reader
     begun = record { call = reading.startOf plan (length buffer) w; buffer = buffer }
@@ -335,8 +335,7 @@ reads-within config r buffer plan name w es = by (reading.startOf plan (length b
     by phase.Waiting e =
         let open-fits = admitted-fits (plan .limit) (parts.firstAddress (plan .head)) (length buffer) w (sym (starts-as .reading plan (length buffer) w .phase) ∙ e) in
         let s = sane-read config (length buffer) plan name (open-fits .1) in
-        let same = retries-read config (length buffer) plan name in
-        let enough : plan .retries ≤ 65535 = omega arith in
+        let enough = few-read config small (length buffer) plan name in
         let sound = kept.sound plan w buffer enough (s .bare) (s .few) es in
         record {
           counters = kept.tame plan w buffer enough (s .bare) (s .few) es;

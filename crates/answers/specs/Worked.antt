@@ -32,7 +32,7 @@ use Rattle.answers.specs.Runs.{callW, callR}
 
 -- no retries, PEC on reads alone
 abbrev config : Config
-config = record { «max_bus_retries» = 0; «pec_write» = false; «pec_read» = true; «growing_waits» = false }
+config = record { «max_write_retries» = 0; «max_read_retries» = 0; «pec_write» = false; «pec_read» = true; «growing_waits» = false }
 
 -- an outcome and the length of its reply, reported with the lengths of the start: what is said last
 abbrev toldW : WriteCall → List (Outcome × ℕ) → Phase

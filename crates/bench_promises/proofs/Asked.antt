@@ -10,17 +10,17 @@ use lib.Seq.{drop-cons}
 use lib.Dec.{ltb, eqb}
 use borrow.Author.Tests.{lt-ltb, le-ltb, eq-eqb, ne-eqb}
 use Rattle.protocol.specs.Pick.{if_then_else_}
-use Rattle.protocol.specs.declared.common.Config.{Config}
 use Rattle.calls.specs.declared.kind.Kind.{Kind}
 use Rattle.hex.specs.Digits.{inDigits}
 use Rattle.requests.specs.Fields.{pairAt, quadAt}
 use Rattle.requests.specs.Request as requests
-use Rattle.requests.specs.Request.{configOf, unknownFlags, calledOf, exactOf}
+use Rattle.requests.specs.Request.{headerBytes, readRetries, configOf, headerOf, calledOf, exactOf}
 use Rattle.requests.specs.Retired.{retiredKind}
+use Rattle.requests.specs.declared.request.Header.{Header}
 use Rattle.requests.specs.declared.request.Request.the-variants as request
 use Rattle.bench_promises.specs.Numbers.{number, field}
-use Rattle.bench_promises.specs.Kinds.{settings, begins, isRetired}
-use Rattle.bench_promises.proofs.Flags.{flags}
+use Rattle.bench_promises.specs.Kinds.{bit, settings, begins, isRetired}
+use Rattle.bench_promises.proofs.Flags.{two, pec-write, pec-read, growing}
 
 -- ---- numbers
 
@@ -44,14 +44,23 @@ quad-at at s h =
 
 -- ---- the header
 
-pub settings-of : (line : List ℕ) → 4 ≤ length line → getD line 1 0 < 256 → unknownFlags (getD line 1 0) ≡ false → configOf line ≡ settings (getD line 1 0) (field 2 2 line)
-unfolding configOf
-settings-of line h byte f = let b = flags (getD line 1 0) byte f in rw (b .0, b .1, b .2, pair-at 2 line h)
+module _ (line : List ℕ) (byte : getD line 1 0 < 256) where
+  abbrev flags : ℕ
+  flags = getD line 1 0
+
+  -- with two budgets, and with one number that is both
+  pub two-budgets : bit 2 flags ≡ true → headerOf line ≡ record { config = settings flags (pairAt 2 line) (pairAt 4 line); bytes = 6 }
+  unfolding headerOf headerBytes configOf readRetries if_then_else_
+  two-budgets e = rw (two flags byte, e, pec-write flags byte, pec-read flags byte, growing flags byte)
+
+  pub one-budget : bit 2 flags ≡ false → headerOf line ≡ record { config = settings flags (pairAt 2 line) (pairAt 2 line); bytes = 4 }
+  unfolding headerOf headerBytes configOf readRetries if_then_else_
+  one-budget e = rw (two flags byte, e, pec-write flags byte, pec-read flags byte, growing flags byte)
 
 -- ---- the tests of a length
 
-module _ (k : Kind) (c : Config) (at size n : ℕ) where
-  pub missing : n < at → calledOf k c at size n ≡ requests.bad
+module _ (k : Kind) (header : Header) (at size n : ℕ) where
+  pub missing : n < at → calledOf k header at size n ≡ requests.bad
   unfolding calledOf if_then_else_
   missing h = rw (lt-ltb n at h) (by (ltb 8192 size))
     where
@@ -59,7 +68,7 @@ module _ (k : Kind) (c : Config) (at size n : ℕ) where
       by true = refl
       by false = refl
 
-  pub long : 8192 < n - at → calledOf k c at size n ≡ requests.bad
+  pub long : 8192 < n - at → calledOf k header at size n ≡ requests.bad
   unfolding calledOf if_then_else_
   long h = rw (lt-ltb 8192 (n - at) h) (by (ltb 8192 size) (ltb n at))
     where
@@ -68,19 +77,19 @@ module _ (k : Kind) (c : Config) (at size n : ℕ) where
       by false true = refl
       by false false = refl
 
-  pub wide : 8192 < size → calledOf k c at size n ≡ requests.bad
+  pub wide : 8192 < size → calledOf k header at size n ≡ requests.bad
   unfolding calledOf if_then_else_
   wide h = rw (lt-ltb 8192 size h)
 
-  pub called : at ≤ n → n - at ≤ 8192 → size ≤ 8192 → calledOf k c at size n ≡ request.Call k c (4 + at) size
+  pub called : at ≤ n → n - at ≤ 8192 → size ≤ 8192 → calledOf k header at size n ≡ request.Call k (header .config) (header .bytes + at) size
   unfolding calledOf if_then_else_
   called h l w = rw (le-ltb 8192 size w, le-ltb n at h, le-ltb 8192 (n - at) l)
 
-  pub other : (p : ℕ) → (n ≡ at + p → ⊥) → exactOf k c at p size n ≡ requests.bad
+  pub other : (p : ℕ) → (n ≡ at + p → ⊥) → exactOf k header at p size n ≡ requests.bad
   unfolding exactOf if_then_else_
   other p h = rw (ne-eqb n (at + p) h)
 
-  pub exact : (p : ℕ) → n ≡ at + p → exactOf k c at p size n ≡ calledOf k c at size n
+  pub exact : (p : ℕ) → n ≡ at + p → exactOf k header at p size n ≡ calledOf k header at size n
   unfolding exactOf if_then_else_
   exact p h = rw (eq-eqb n (at + p) h)
 

@@ -1,14 +1,12 @@
--- The flags of a request line, by a test of every byte: the machine refuses those that mean nothing, and reads the others as the table of them says.
+-- The flags of a request line, by a test of every byte: the machine's tests of a byte are those of its bits.
 -- Assumes nothing.
-use Prim.Native.Nat.{ℕ, _/_, _%_, _<_}
+use Prim.Native.Nat.{ℕ, _+_, _/_, _%_, _<_}
 use mathlib.Core.Path.{_≡_, refl}
 use mathlib.Core.Bool.{Bool, true, false, not, _||_}
-use mathlib.Core.List.{List, [], _∷_}
 use lib.Dec.{T, eqb}
 use Rattle.smbus_pec.proofs.Every.{upto, below}
-use Rattle.protocol.specs.Pick.{if_then_else_}
-use Rattle.requests.specs.Request.{unknownFlags}
-use Rattle.bench_promises.specs.Kinds.{among, knownFlags}
+use Rattle.requests.specs.Request.{twoBudgets, unknownFlags}
+use Rattle.bench_promises.specs.Kinds.{bit, unknownFlag}
 
 -- two tests come to the same
 abbrev alike : Bool → Bool → Bool
@@ -21,22 +19,50 @@ alike-same true false t = absurd t
 alike-same false true t = absurd t
 alike-same false false t = refl
 
--- where no flag is unknown, a bit that a test finds in the table is what the table says
-reads-as : (bit : ℕ → Bool) (table : List ℕ) → T (upto (λ f. unknownFlags f || alike (bit f) (among table f)) 256) → (f : ℕ) → f < 256 → unknownFlags f ≡ false → bit f ≡ among table f
-reads-as bit table all f h e =
-    let t : T (unknownFlags f || alike (bit f) (among table f)) = below (λ f. unknownFlags f || alike (bit f) (among table f)) 256 all f h in
-    alike-same _ _ (rw e at t)
+-- of every byte
+every-byte : (f g : ℕ → Bool) → T (upto (λ n. alike (f n) (g n)) 256) → (n : ℕ) → n < 256 → f n ≡ g n
+every-byte f g all n h = alike-same (f n) (g n) (below (λ n. alike (f n) (g n)) 256 all n h)
 
-pub unknown : (f : ℕ) → f < 256 → unknownFlags f ≡ not (among knownFlags f)
-unfolding unknownFlags among if_then_else_
-unknown f h = alike-same _ _ (below (λ f. alike (unknownFlags f) (not (among knownFlags f))) 256 tt f h)
+pub unknown : (flags : ℕ) → flags < 256 → unknownFlags flags ≡ unknownFlag flags
+unfolding unknownFlags bit
+unknown = every-byte unknownFlags unknownFlag tt
 
-pub flags : (f : ℕ) → f < 256 → unknownFlags f ≡ false
-    → (eqb (f % 2) 1 ≡ among (0x01 ∷ 0x03 ∷ 0x09 ∷ 0x0B ∷ []) f) × (eqb (f / 2 % 2) 1 ≡ among (0x02 ∷ 0x03 ∷ 0x0A ∷ 0x0B ∷ []) f)
-    × (eqb (f / 8 % 2) 1 ≡ among (0x08 ∷ 0x09 ∷ 0x0A ∷ 0x0B ∷ []) f)
-unfolding unknownFlags among if_then_else_
-flags f h e = (
-  reads-as (λ f. eqb (f % 2) 1) (0x01 ∷ 0x03 ∷ 0x09 ∷ 0x0B ∷ []) tt f h e,
-  reads-as (λ f. eqb (f / 2 % 2) 1) (0x02 ∷ 0x03 ∷ 0x0A ∷ 0x0B ∷ []) tt f h e,
-  reads-as (λ f. eqb (f / 8 % 2) 1) (0x08 ∷ 0x09 ∷ 0x0A ∷ 0x0B ∷ []) tt f h e,
-)
+pub two : (flags : ℕ) → flags < 256 → twoBudgets flags ≡ bit 2 flags
+unfolding twoBudgets bit
+two = every-byte twoBudgets (bit 2) tt
+
+pub pec-write : (flags : ℕ) → flags < 256 → eqb (flags % 2) 1 ≡ bit 0 flags
+unfolding bit
+pec-write = every-byte (λ n. eqb (n % 2) 1) (bit 0) tt
+
+pub pec-read : (flags : ℕ) → flags < 256 → eqb (flags / 2 % 2) 1 ≡ bit 1 flags
+unfolding bit
+pec-read = every-byte (λ n. eqb (n / 2 % 2) 1) (bit 1) tt
+
+pub growing : (flags : ℕ) → flags < 256 → eqb (flags / 8 % 2) 1 ≡ bit 3 flags
+unfolding bit
+growing = every-byte (λ n. eqb (n / 8 % 2) 1) (bit 3) tt
+
+-- ---- the flags of a line with one number, and bit 2 set beside them
+
+module _ (flags : ℕ) (known : flags < 16) (clear : bit 2 flags ≡ false) where
+  beside : (f g : ℕ → Bool) → T (upto (λ n. bit 2 n || alike (f n) (g n)) 16) → f flags ≡ g flags
+  beside f g all =
+      let t : T (bit 2 flags || alike (f flags) (g flags)) = below (λ n. bit 2 n || alike (f n) (g n)) 16 all flags known in
+      alike-same (f flags) (g flags) (rw clear at t)
+
+  pub known-one : unknownFlag flags ≡ false
+  unfolding bit
+  known-one = beside unknownFlag (λ n. false) tt
+
+  pub known-two : unknownFlag (flags + 4) ≡ false
+  unfolding bit
+  known-two = beside (λ n. unknownFlag (n + 4)) (λ n. false) tt
+
+  pub set-two : bit 2 (flags + 4) ≡ true
+  unfolding bit
+  set-two = beside (λ n. bit 2 (n + 4)) (λ n. true) tt
+
+  pub other-bits : (bit 0 (flags + 4) ≡ bit 0 flags) × (bit 1 (flags + 4) ≡ bit 1 flags) × (bit 3 (flags + 4) ≡ bit 3 flags)
+  unfolding bit
+  other-bits = (beside (λ n. bit 0 (n + 4)) (bit 0) tt, beside (λ n. bit 1 (n + 4)) (bit 1) tt, beside (λ n. bit 3 (n + 4)) (bit 3) tt)

@@ -11,7 +11,6 @@ use lib.Dec.{ltb, eqb}
 use borrow.Author.Tests.{lt-ltb, le-ltb, ne-eqb, eqb-true, eqb-false, ltb-true, ltb-false}
 use Rattle.protocol.specs.Pick.{if_then_else_}
 use Rattle.protocol.specs.Answer.{numberOf}
-use Rattle.protocol.specs.declared.common.Config.{Config}
 use Rattle.protocol.specs.declared.error.Answer.{Answer}
 use Rattle.protocol.specs.declared.error.Answer.the-variants as answer
 use Rattle.protocol.proofs.AnswerLaws.{done-only}
@@ -82,8 +81,8 @@ waits-now c payload buffer done = by (nextOf c payload (length buffer) 39) refl
 
 -- ---- one call, where the Rust has been given the outcomes so far
 
-module _ (config : Config) (perFrame : Bool) (rust : List BusOutcome → Read) (rest payload : List ℕ) (c : Call) (buffer : List ℕ) (done : List Made) (os : List BusOutcome)
-    (lasts : Lasts config perFrame os c) (same : (more : List BusOutcome) → rust (os ++ more) ≡ fed c payload buffer lent done more) where
+module _ (perFrame growing : Bool) (retries : ℕ) (rust : List BusOutcome → Read) (rest payload : List ℕ) (c : Call) (buffer : List ℕ) (done : List Made) (os : List BusOutcome)
+    (lasts : Lasts perFrame growing retries os c) (same : (more : List BusOutcome) → rust (os ++ more) ≡ fed c payload buffer lent done more) where
   abbrev shown : List ℕ
   shown = workAfter c payload (length buffer) zeros
 
@@ -91,14 +90,14 @@ module _ (config : Config) (perFrame : Bool) (rust : List BusOutcome → Read) (
   waits = tallyOf c .waits
 
   abbrev ms : List BusOutcome → ℕ
-  ms = waitedBy perFrame config rust
+  ms = waitedBy perFrame growing retries rust
 
   now : rust os ≡ fed c payload buffer lent done []
   now = ap rust (sym (append-nil os)) ∙ same []
 
   -- how long it has waited
   lasted : tallyOf c .«waited_ms» ≡ ms os
-  lasted = lasts-so config perFrame rust os c lasts (waits-now c payload buffer done ∙ ap waitsIn (sym now))
+  lasted = lasts-so perFrame retries rust os growing c lasts (waits-now c payload buffer done ∙ ap waitsIn (sym now))
 
   -- what a call that has ended prints
   ended : (a : Answer) (f : _) → (cameTo (answered a (record { transfers = done; waits = waits }) [] leaving buffer) lasting ms os waiting f) ≡ transferLines done ++ (endSaid a (tallyOf c) buffer ∷ [])
@@ -123,7 +122,7 @@ module _ (config : Config) (perFrame : Bool) (rust : List BusOutcome → Read) (
     cut = rw (waiting-now, line, lines-append, last-said, lasted) (append-assoc (transferLines done) (transferLine m ∷ []) (cutLine rest waits (ms os) buffer ∷ []))
 
     module _ (lines : List (List ℕ))
-        (on : (o : BusOutcome) (d : Call) (after : List ℕ) → Lasts config perFrame (os ++ (o ∷ [])) d → ((more : List BusOutcome) → rust ((os ++ (o ∷ [])) ++ more) ≡ fed d payload after lent (done ++ (m ∷ [])) more)
+        (on : (o : BusOutcome) (d : Call) (after : List ℕ) → Lasts perFrame growing retries (os ++ (o ∷ [])) d → ((more : List BusOutcome) → rust ((os ++ (o ∷ [])) ++ more) ≡ fed d payload after lent (done ++ (m ∷ [])) more)
         → runOf rust ms (os ++ (o ∷ [])) lines rest ≡ transferLines (done ++ (m ∷ [])) ++ callRun d payload after lines rest) where
       abbrev go : Call → List ℕ → List (List ℕ)
       go d after = callRun d payload after lines rest
@@ -146,7 +145,7 @@ module _ (config : Config) (perFrame : Bool) (rust : List BusOutcome → Read) (
               → onward o ≡ transferLines (done ++ (m ∷ [])) ++ reportThen u (bufferAfter c (feeding.told o) s buffer 39) go
           by (reported.Refused a same) e = absurd (rw e at ok)
           by (reported.Taken d) e =
-              on o d (bufferAfter c (feeding.told o) s buffer 39) (lasts-on config perFrame os c lasts o s (length payload) (length buffer) 39 d e)
+              on o d (bufferAfter c (feeding.told o) s buffer 39) (lasts-on perFrame growing retries os c lasts o s (length payload) (length buffer) 39 d e)
               (λ more. ap rust (append-assoc os (o ∷ []) more) ∙ same (o ∷ more) ∙ next _ _ ∙ rw (length-work c payload (length buffer), r, e, b))
 
       -- a failure, whose reply is not looked at
@@ -237,7 +236,7 @@ module _ (config : Config) (perFrame : Bool) (rust : List BusOutcome → Read) (
   abbrev On : List (List ℕ) → Type 0
   On [] = Unit {0}
   On (text ∷ lines) =
-      (m : Made) (o : BusOutcome) (d : Call) (after : List ℕ) → Lasts config perFrame (os ++ (o ∷ [])) d → ((more : List BusOutcome) → rust ((os ++ (o ∷ [])) ++ more) ≡ fed d payload after lent (done ++ (m ∷ [])) more)
+      (m : Made) (o : BusOutcome) (d : Call) (after : List ℕ) → Lasts perFrame growing retries (os ++ (o ∷ [])) d → ((more : List BusOutcome) → rust ((os ++ (o ∷ [])) ++ more) ≡ fed d payload after lent (done ++ (m ∷ [])) more)
       → runOf rust ms (os ++ (o ∷ [])) lines rest ≡ transferLines (done ++ (m ∷ [])) ++ callRun d payload after lines rest
 
   -- by what the call shows
@@ -254,10 +253,10 @@ module _ (config : Config) (perFrame : Bool) (rust : List BusOutcome → Read) (
   by-shown lines on (transfer.Ended a) e = answers a (now ∙ rw e) (rw e) lines
 
 -- the run of a call, whatever has gone before it
-pub follow : (lines : List (List ℕ)) (config : Config) (perFrame : Bool) (rust : List BusOutcome → Read) (rest payload : List ℕ) (c : Call) (buffer : List ℕ) (done : List Made)
-    (os : List BusOutcome) → Lasts config perFrame os c → ((more : List BusOutcome) → rust (os ++ more) ≡ fed c payload buffer lent done more)
-    → runOf rust (waitedBy perFrame config rust) os lines rest ≡ transferLines done ++ callRun c payload buffer lines rest
-follow [] config perFrame rust rest payload c buffer done os lasts same = by-shown config perFrame rust rest payload c buffer done os lasts same [] tt _ refl
-follow (text ∷ lines) config perFrame rust rest payload c buffer done os lasts same =
-    by-shown config perFrame rust rest payload c buffer done os lasts same (text ∷ lines)
-    (λ m o d after l h. follow lines config perFrame rust rest payload d after (done ++ (m ∷ [])) (os ++ (o ∷ [])) l h) _ refl
+pub follow : (lines : List (List ℕ)) (perFrame growing : Bool) (retries : ℕ) (rust : List BusOutcome → Read) (rest payload : List ℕ) (c : Call) (buffer : List ℕ) (done : List Made)
+    (os : List BusOutcome) → Lasts perFrame growing retries os c → ((more : List BusOutcome) → rust (os ++ more) ≡ fed c payload buffer lent done more)
+    → runOf rust (waitedBy perFrame growing retries rust) os lines rest ≡ transferLines done ++ callRun c payload buffer lines rest
+follow [] perFrame growing retries rust rest payload c buffer done os lasts same = by-shown perFrame growing retries rust rest payload c buffer done os lasts same [] tt _ refl
+follow (text ∷ lines) perFrame growing retries rust rest payload c buffer done os lasts same =
+    by-shown perFrame growing retries rust rest payload c buffer done os lasts same (text ∷ lines)
+    (λ m o d after l h. follow lines perFrame growing retries rust rest payload d after (done ++ (m ∷ [])) (os ++ (o ∷ [])) l h) _ refl

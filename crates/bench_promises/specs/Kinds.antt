@@ -1,6 +1,6 @@
--- The kinds of docs/BENCH.md, one to a row: its arguments, and the Rust's function that they are for. (01, The bench program; 02, W-203)
+-- The kinds of docs/BENCH.md, one to a row: its arguments, and the Rust's function that they are for. (01, The bench program; 02, W-203, W-211)
 -- Assumes nothing.
-use Prim.Native.Nat.{ℕ, _-_, _*_}
+use Prim.Native.Nat.{ℕ, zero, suc, _-_, _*_, _/_, _%_}
 use mathlib.Core.Bool.{Bool, true, false, not, _&&_, _||_}
 use mathlib.Core.List.{List, [], _∷_, map}
 use lib.ListN.{length, drop, getD, replicate}
@@ -8,9 +8,12 @@ use lib.Dec.{ltb, eqb}
 use Rattle.hex.specs.Digits.{inDigits}
 use Rattle.hex.specs.Line.{lineBytes}
 use Rattle.protocol.specs.Pick.{if_then_else_}
-use Rattle.protocol.specs.declared.common.Config.{Config}
+use Rattle.protocol.specs.declared.common.Side.{Side}
+use Rattle.protocol.specs.declared.common.Side.the-variants as side
+use Rattle.protocol.specs.declared.common.Config as driver
 use Rattle.protocol.specs.declared.error.Answer.{Answer}
 use Rattle.protocol.specs.declared.error.Answer.the-variants as answer
+use Rattle.original.specs.OriginalCommon.{Config, setFor}
 use Rattle.original.specs.Bus.{BusOutcome, told, Log, begun, Came, Err, Read, _leaving_, waitsIn}
 use Rattle.original.specs.OriginalInterface as rust
 use Rattle.original.specs.OriginalR5 as rust-r5
@@ -27,6 +30,8 @@ pub record Row : Type 0 where
   pub most : ℕ
   -- the length of its buffer, by the arguments
   pub size : List ℕ → ℕ
+  -- the side that it goes by, by the length of its buffer
+  pub side : ℕ → Side
   -- whether each frame has a budget of its own, and not the whole call one
   pub perFrame : Bool
   -- the Rust's function of its name
@@ -40,6 +45,7 @@ writes kind fixed call = record {
   least = 0;
   most = 8192;
   size = λ arguments. 0;
+  side = λ n. side.Write;
   perFrame = true;
   call = λ config arguments payload buffer os. call config arguments payload begun os leaving buffer;
 }
@@ -52,6 +58,7 @@ reads kind fixed call = record {
   least = 0;
   most = 0;
   size = λ arguments. field (fixed - 2) 2 arguments;
+  side = λ n. side.Read;
   perFrame = false;
   call = λ config arguments payload buffer os. call config arguments buffer begun os;
 }
@@ -64,6 +71,7 @@ fills kind size call = record {
   least = 0;
   most = 0;
   size = λ arguments. size;
+  side = λ n. side.Read;
   perFrame = false;
   call = λ config arguments payload buffer os. call config buffer begun os;
 }
@@ -89,6 +97,7 @@ rows =
       least = 0;
       most = 8192;
       size = λ arguments. field 4 2 arguments;
+      side = λ n. if eqb n 0 then side.Write else side.Read;
       perFrame = false;
       call = λ config arguments input output os.
           if rust.dispatchPanics input output then Err answer.NotACommand begun os leaving output
@@ -106,6 +115,7 @@ rows =
       least = 0;
       most = 0;
       size = λ arguments. 0;
+      side = λ n. side.Write;
       perFrame = true;
       call = λ config arguments payload buffer os. rust-r5.sendAccessKey config (field 0 2 arguments) (field 2 2 arguments) begun os leaving buffer;
     }
@@ -120,6 +130,7 @@ rows =
       least = 10;
       most = 10;
       size = λ arguments. 0;
+      side = λ n. side.Write;
       perFrame = true;
       call = λ config arguments payload buffer os. rust-r5.writeChargingVoltageOverride config (rust-r5.overrideFigures payload) begun os leaving buffer;
     }
@@ -128,10 +139,10 @@ rows =
     ∷ []
 
 -- how long the waits of a function of the Rust are, by the outcomes so far: 10 ms for each of its delays. Where waits grow, which the Rust's do not, what they come to
--- is in closed words (`waits`), with a budget for each frame or one for the whole call
-unfoldable pub waitedBy : (perFrame : Bool) → Config → (List BusOutcome → Read) → List BusOutcome → ℕ
-waitedBy perFrame config rust os =
-    if config .«growing_waits» then (if perFrame then framesCost true (config .«max_bus_retries») 0 (map told os) else budgetCost true (waitsIn (rust os)))
+-- is in closed words (`waits`), with a budget of so many retries for each frame or for the whole call
+unfoldable pub waitedBy : (perFrame growing : Bool) (retries : ℕ) → (List BusOutcome → Read) → List BusOutcome → ℕ
+waitedBy perFrame growing retries rust os =
+    if growing then (if perFrame then framesCost true retries 0 (map told os) else budgetCost true (waitsIn (rust os)))
     else waitsIn (rust os) * 10
 
 -- what a request line asks for: a function of the Rust and how long its waits are, or nothing, since it is bad or its kind is retired
@@ -140,44 +151,51 @@ pub data Asked : Type 0 where
   retired : Asked
   call : (rust : List BusOutcome → Read) (ms : List BusOutcome → ℕ) → Asked
 
--- by a row: bad where arguments are missing, the payload is shorter or longer than the kind has it, or the buffer is over 8,192 bytes. A buffer starts as A5
-unfoldable pub askedBy : Row → Config → List ℕ → Asked
+-- by a row: bad where arguments are missing, the payload is shorter or longer than the kind has it, or the buffer is over 8,192 bytes. A buffer starts as A5. The Rust
+-- is set for the side of the row, with that side's budget as `max_bus_retries`
+unfoldable pub askedBy : Row → driver.Config → List ℕ → Asked
 askedBy row config arguments =
     if ltb (length arguments) (row .fixed) then bad else
     if ltb (length arguments - row .fixed) (row .least) then bad else
     if ltb (row .most) (length arguments - row .fixed) then bad else
     if ltb 8192 (row .size arguments) then bad else
-    let rust : List BusOutcome → Read = row .call config arguments (drop (row .fixed) arguments) (replicate (row .size arguments) 0xA5) in
-    call rust (waitedBy (row .perFrame) config rust)
+    let its : Config = setFor (row .side (row .size arguments)) config in
+    let rust : List BusOutcome → Read = row .call its arguments (drop (row .fixed) arguments) (replicate (row .size arguments) 0xA5) in
+    call rust (waitedBy (row .perFrame) (config .«growing_waits») (its .«max_bus_retries») rust)
 
 -- by the first row of the kind; bad where there is none
-unfoldable pub askedAmong : List Row → ℕ → Config → List ℕ → Asked
+unfoldable pub askedAmong : List Row → ℕ → driver.Config → List ℕ → Asked
 askedAmong [] kind config arguments = bad
 askedAmong (row ∷ more) kind config arguments = if eqb kind (row .kind) then askedBy row config arguments else askedAmong more kind config arguments
 
--- one of these numbers
-unfoldable pub among : List ℕ → ℕ → Bool
-among [] n = false
-among (k ∷ ks) n = eqb n k || among ks n
+-- bit k of a number
+unfoldable pub bit : ℕ → ℕ → Bool
+bit zero n = eqb (n % 2) 1
+bit (suc k) n = bit k (n / 2)
 
--- flags: bit 0 is `pec_write`, bit 1 `pec_read`, bit 3 `growing_waits`; no other means anything
-abbrev pub knownFlags : List ℕ
-knownFlags = 0x00 ∷ 0x01 ∷ 0x02 ∷ 0x03 ∷ 0x08 ∷ 0x09 ∷ 0x0A ∷ 0x0B ∷ []
+-- flags: bit 0 is `pec_write`, bit 1 `pec_read`, bit 3 `growing_waits`; bit 2 says that there are two budgets, and no other means anything
+abbrev pub unknownFlag : ℕ → Bool
+unknownFlag flags = bit 4 flags || bit 5 flags || bit 6 flags || bit 7 flags
 
-abbrev pub settings : ℕ → ℕ → Config
-settings flags retries = record {
-  «max_bus_retries» = retries;
-  «pec_write» = among (0x01 ∷ 0x03 ∷ 0x09 ∷ 0x0B ∷ []) flags;
-  «pec_read» = among (0x02 ∷ 0x03 ∷ 0x0A ∷ 0x0B ∷ []) flags;
-  «growing_waits» = among (0x08 ∷ 0x09 ∷ 0x0A ∷ 0x0B ∷ []) flags;
+abbrev pub settings : (flags writes reads : ℕ) → driver.Config
+settings flags writes reads = record {
+  «max_write_retries» = writes;
+  «max_read_retries» = reads;
+  «pec_write» = bit 0 flags;
+  «pec_read» = bit 1 flags;
+  «growing_waits» = bit 3 flags;
 }
 
--- the bytes of a request line: kind, flags, retries, arguments. It is bad where the header is short, a flag is not known, the kind is not known, or its lengths fail
+-- the bytes of a request line: kind, flags, retries, arguments. Two budgets follow the flags, that of writes first, or one number that is both. It is bad where the header
+-- is short, a flag is not known, the kind is not known, or its lengths fail
 unfoldable pub askedIn : List ℕ → Asked
 askedIn line =
-    if ltb (length line) 4 then bad else
-    if not (among knownFlags (getD line 1 0)) then bad else
-    askedAmong rows (getD line 0 0) (settings (getD line 1 0) (field 2 2 line)) (drop 4 line)
+    let flags : ℕ = getD line 1 0 in
+    if unknownFlag flags then bad else
+    if bit 2 flags then
+    (if ltb (length line) 6 then bad else askedAmong rows (getD line 0 0) (settings flags (field 2 2 line) (field 4 2 line)) (drop 6 line))
+    else
+    (if ltb (length line) 4 then bad else askedAmong rows (getD line 0 0) (settings flags (field 2 2 line) (field 2 2 line)) (drop 4 line))
 
 -- ---- a request line as characters
 

@@ -1,3 +1,4 @@
 pub mod Kind
+pub mod Sides
 pub mod Call
 pub mod Laws

@@ -7,6 +7,7 @@ use Rattle.protocol.specs.Common.{TwoByteBudgets}
 use Rattle.protocol.specs.declared.common.Config.{Config}
 use Rattle.engine.specs.declared.bus.Outcome.{Outcome}
 use Rattle.engine.specs.declared.bus.Phase.the-variants as phase
+use Rattle.calls.specs.Sides.{budgetOf}
 use Rattle.calls.specs.Call.{startOf, reportOf, phaseOf, tallyOf}
 use Rattle.calls.specs.declared.call.Call.{Call}
 use Rattle.calls.specs.declared.call.Reported.{Reported}
@@ -49,5 +50,5 @@ counts m v call next (k, s) o reply p n w e =
 
 -- a call by its name starts with its ceiling
 pub good-named : (config : Config) → TwoByteBudgets config → (kind : Kind) (p n w most waits : ℕ)
-    → CeilingOf (config .«max_bus_retries») p n kind most waits → Good most waits (startOf kind config p n w)
+    → CeilingOf (budgetOf kind config n) p n kind most waits → Good most waits (startOf kind config p n w)
 good-named config few kind p n w most waits name = (0, sound-named config few p n w kind most waits name)

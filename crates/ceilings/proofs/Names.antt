@@ -7,6 +7,7 @@ use native.Mathlib.Omega.{arith}
 use native.Mathlib.Nat.{mul-le-mul-left, mul-le-mul-right}
 use lib.Dec.{ltb, eqb}
 use borrow.Author.Tests.{eqb-false, ne-eqb}
+use Rattle.protocol.proofs.Shared.{few-on}
 use Rattle.protocol.specs.Common.{TwoByteBudgets}
 use Rattle.protocol.specs.Pick.{if_then_else_}
 use Rattle.protocol.specs.Bytes.{blocksOf}
@@ -25,10 +26,13 @@ use Rattle.reading.specs.declared.call.ReadPlan.{ReadPlan}
 use Rattle.interface.specs.Plans.{writeWithRetries, writeRegister, readRegister, commandReads, dispatchCommand, readBuffer, writeBuffer}
 use Rattle.r5.specs.Plans.{macRead, macWrite, readSecurityKeys, writeSecurityKeys, readAuthenticationKey, writeAuthenticationKey, readChargingVoltageOverride, writeChargingVoltageOverride, sendAccessKey, unsealFg, writeMfgInfoC, readMfgInfoC, writeMfgInfo, readMfgInfo, readDataflash, writeDataflash}
 use Rattle.calls.specs.Kind.{planOf}
+use Rattle.calls.specs.Sides.{budgetOf}
 use Rattle.calls.specs.Call.{startWith, startOf, phaseOf}
 use Rattle.calls.specs.declared.kind.Kind.{Kind}
+use Rattle.calls.specs.declared.kind.Kind.the-variants as kinds
 use Rattle.calls.specs.declared.kind.Plan.{Plan}
 use Rattle.calls.specs.declared.kind.Plan.the-variants as plan
+use Rattle.calls.proofs.Sides.{sides}
 use Rattle.ceilings.specs.Ceilings.{Blocks, CeilingOf, write-with-retries, write-register, write-buffer, write-security-keys, write-authentication-key, write-charging-voltage-override, write-mfg-info, send-access-key, unseal-fg, write-mfg-info-c, write-dataflash, nothing-written, read-register, read-buffer, read-mfg-info, read-security-keys, read-authentication-key, read-charging-voltage-override, read-mfg-info-c, command-read, command-alone, read-dataflash, nothing-read}
 use Rattle.ceilings.proofs.Calls.{Sound}
 use Rattle.ceilings.proofs.Starts.{idle, by-frames, by-reads, by-head, by-head-alone}
@@ -107,24 +111,24 @@ module _ (p n w : ℕ) where
 
 -- ---- by name
 
-module _ (config : Config) (few : TwoByteBudgets config) (p n w : ℕ) where
+module _ (config : Config) (small : TwoByteBudgets config) (p n w : ℕ) where
   writes-blocks : (address b : ℕ) → 0 < b → Blocks 32 p b
-      → Shape p n w (plan.Write (writeDataflash config address)) (b * (config .«max_bus_retries» + 1)) (b * config .«max_bus_retries»)
+      → Shape p n w (plan.Write (writeDataflash config address)) (b * (config .«max_write_retries» + 1)) (b * config .«max_write_retries»)
   unfolding startWith phaseOf writing.startOf writing.planOf writeDataflash frames.firstAddress frames.frameCount
   writes-blocks address b some split =
       of-frames (writeDataflash config address) b (blocks-are p b split) (λ e.
       let fits = admits-some address p w e in
       let short : b ≤ 256 = omega (arith, split .1, fits .1) in
-      let most : b * (config .«max_bus_retries» + 1) ≤ b * 65536 = mul-le-mul-left b (omega (arith, few)) in
+      let most : b * (config .«max_write_retries» + 1) ≤ b * 65536 = mul-le-mul-left b (omega (arith, small .0)) in
       (some, omega (arith, short, most)))
 
   reads-blocks : (address b : ℕ) → 0 < b → Blocks 32 n b
-      → Shape p n w (plan.Read (readDataflash config address)) (b + 1 + 2 * config .«max_bus_retries») (config .«max_bus_retries»)
+      → Shape p n w (plan.Read (readDataflash config address)) (b + 1 + 2 * config .«max_read_retries») (config .«max_read_retries»)
   unfolding startWith phaseOf reading.startOf readDataflash parts.firstAddress parts.hasHead parts.readCount
   reads-blocks address b some split =
       of-head (readDataflash config address) b refl (blocks-are n b split) (λ e.
       let fits = admits-some address n w e in
-      (some, omega (arith, split .1, fits .1, few)))
+      (some, omega (arith, split .1, fits .1, small .1)))
 
   -- an empty transfer does not wait
   writes-nothing : (address : ℕ) → p ≡ 0 → Shape p n w (plan.Write (writeDataflash config address)) 0 0
@@ -138,49 +142,56 @@ module _ (config : Config) (few : TwoByteBudgets config) (p n w : ℕ) where
       of-none (plan.Read (readDataflash config address)) (λ e. let some = admits-some address n w e in absurd (omega (arith, some .0, none)))
 
   -- a command, with an output or without
-  command-reads : (address : ℕ) → 0 < n
-      → Shape p n w (plan.Read (dispatchCommand config address p n)) (2 * (config .«max_bus_retries» + 1)) (config .«max_bus_retries»)
+  abbrev command : ℕ → ReadPlan
+  command address = dispatchCommand config address p n
+
+  command-few : (address : ℕ) → command address .retries ≤ 65535
+  unfolding dispatchCommand
+  command-few address = few-on config small (parts.readsSide (commandReads config address n))
+
+  command-reads : (address : ℕ) → 0 < n → Shape p n w (plan.Read (command address)) (2 * (command address .retries + 1)) (command address .retries)
   unfolding dispatchCommand commandReads parts.hasHead parts.readCount if_then_else_
   command-reads address some =
       let one : parts.readCount (commandReads config address n) n ≡ 1 = rw (ne-eqb n 0 (λ e. omega (arith, some, e))) in
-      mac-read p n w (dispatchCommand config address p n) few refl one
+      mac-read p n w (command address) (command-few address) refl one
 
-  command-reads-not : (address : ℕ) → n ≡ 0
-      → Shape p n w (plan.Read (dispatchCommand config address p n)) (config .«max_bus_retries» + 1) (config .«max_bus_retries»)
+  command-reads-not : (address : ℕ) → n ≡ 0 → Shape p n w (plan.Read (command address)) (command address .retries + 1) (command address .retries)
   unfolding dispatchCommand commandReads parts.hasHead parts.readCount if_then_else_
   command-reads-not address none =
       let no : parts.readCount (commandReads config address n) n ≡ 0 = rw none in
-      of-head-alone (dispatchCommand config address p n) refl no few
+      of-head-alone (command address) refl no (command-few address)
 
   -- every kind has the shape of its ceiling
-  pub shape-named : (kind : Kind) (most waits : ℕ) → CeilingOf (config .«max_bus_retries») p n kind most waits → Shape p n w (planOf kind config p n) most waits
+  pub shape-named : (kind : Kind) (most waits : ℕ) → CeilingOf (budgetOf kind config n) p n kind most waits → Shape p n w (planOf kind config p n) most waits
   unfolding planOf writing.planOf writeWithRetries writeRegister writeBuffer macWrite writeMfgInfo sendAccessKey writeMfgInfoC frames.frameCount
       reading.plainPlan reading.macPlan readRegister readBuffer readMfgInfo macRead readMfgInfoC parts.hasHead parts.readCount
-  shape-named kind most waits write-with-retries = one-frame p n w (writeWithRetries config) few refl
-  shape-named kind most waits (write-register address) = one-frame p n w (writeRegister config address) few refl
-  shape-named kind most waits (write-buffer address) = one-frame p n w (writeBuffer config address) few refl
-  shape-named kind most waits write-security-keys = one-frame p n w (writeSecurityKeys config) few refl
-  shape-named kind most waits write-authentication-key = one-frame p n w (writeAuthenticationKey config) few refl
-  shape-named kind most waits write-charging-voltage-override = one-frame p n w (writeChargingVoltageOverride config) few refl
-  shape-named kind most waits write-mfg-info = one-frame p n w (writeMfgInfo config) few refl
-  shape-named kind most waits (send-access-key lower upper) = few-frames p n w (sendAccessKey config lower upper) 2 few (omega arith) (omega arith) refl
-  shape-named kind most waits (unseal-fg lower upper) = few-frames p n w (unsealFg config lower upper) 2 few (omega arith) (omega arith) refl
-  shape-named kind most waits (write-mfg-info-c lower upper) = few-frames p n w (writeMfgInfoC config lower upper) 3 few (omega arith) (omega arith) refl
+  shape-named kind most waits write-with-retries = one-frame p n w (writeWithRetries config) (small .0) refl
+  shape-named kind most waits (write-register address) = one-frame p n w (writeRegister config address) (small .0) refl
+  shape-named kind most waits (write-buffer address) = one-frame p n w (writeBuffer config address) (small .0) refl
+  shape-named kind most waits write-security-keys = one-frame p n w (writeSecurityKeys config) (small .0) refl
+  shape-named kind most waits write-authentication-key = one-frame p n w (writeAuthenticationKey config) (small .0) refl
+  shape-named kind most waits write-charging-voltage-override = one-frame p n w (writeChargingVoltageOverride config) (small .0) refl
+  shape-named kind most waits write-mfg-info = one-frame p n w (writeMfgInfo config) (small .0) refl
+  shape-named kind most waits (send-access-key lower upper) = few-frames p n w (sendAccessKey config lower upper) 2 (small .0) (omega arith) (omega arith) refl
+  shape-named kind most waits (unseal-fg lower upper) = few-frames p n w (unsealFg config lower upper) 2 (small .0) (omega arith) (omega arith) refl
+  shape-named kind most waits (write-mfg-info-c lower upper) = few-frames p n w (writeMfgInfoC config lower upper) 3 (small .0) (omega arith) (omega arith) refl
   shape-named kind most waits (write-dataflash address b some split) = writes-blocks address b some split
   shape-named kind most waits (nothing-written address none) = writes-nothing address none
-  shape-named kind most waits (read-register address) = of-read (readRegister config address n) refl refl few
-  shape-named kind most waits (read-buffer address) = of-read (readBuffer config address n) refl refl few
-  shape-named kind most waits read-mfg-info = of-read (readMfgInfo config n) refl refl few
-  shape-named kind most waits read-security-keys = mac-read p n w (readSecurityKeys config) few refl refl
-  shape-named kind most waits read-authentication-key = mac-read p n w (readAuthenticationKey config) few refl refl
-  shape-named kind most waits read-charging-voltage-override = mac-read p n w (readChargingVoltageOverride config) few refl refl
-  shape-named kind most waits read-mfg-info-c = mac-read p n w (readMfgInfoC config n) few refl refl
-  shape-named kind most waits (command-read address some) = command-reads address some
-  shape-named kind most waits (command-alone address none) = command-reads-not address none
+  shape-named kind most waits (read-register address) = of-read (readRegister config address n) refl refl (small .1)
+  shape-named kind most waits (read-buffer address) = of-read (readBuffer config address n) refl refl (small .1)
+  shape-named kind most waits read-mfg-info = of-read (readMfgInfo config n) refl refl (small .1)
+  shape-named kind most waits read-security-keys = mac-read p n w (readSecurityKeys config) (small .1) refl refl
+  shape-named kind most waits read-authentication-key = mac-read p n w (readAuthenticationKey config) (small .1) refl refl
+  shape-named kind most waits read-charging-voltage-override = mac-read p n w (readChargingVoltageOverride config) (small .1) refl refl
+  shape-named kind most waits read-mfg-info-c = mac-read p n w (readMfgInfoC config n) (small .1) refl refl
+  shape-named kind most waits (command-read address some) =
+      subst (λ (r : ℕ). Shape p n w (plan.Read (command address)) (2 * (r + 1)) r) (sides .own (kinds.DispatchCommand address) config p n) (command-reads address some)
+  shape-named kind most waits (command-alone address none) =
+      subst (λ (r : ℕ). Shape p n w (plan.Read (command address)) (r + 1) r) (sides .own (kinds.DispatchCommand address) config p n) (command-reads-not address none)
   shape-named kind most waits (read-dataflash address b some split) = reads-blocks address b some split
   shape-named kind most waits (nothing-read address none) = reads-nothing address none
 
   -- so it stays below it
-  pub sound-named : (kind : Kind) (most waits : ℕ) → CeilingOf (config .«max_bus_retries») p n kind most waits → Sound 0 most waits (startOf kind config p n w)
+  pub sound-named : (kind : Kind) (most waits : ℕ) → CeilingOf (budgetOf kind config n) p n kind most waits → Sound 0 most waits (startOf kind config p n w)
   unfolding startOf
   sound-named kind most waits name = sound-shaped p n w (planOf kind config p n) most waits (shape-named kind most waits name)

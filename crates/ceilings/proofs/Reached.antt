@@ -7,6 +7,7 @@ use Rattle.protocol.specs.Common.{TwoByteBudgets}
 use Rattle.protocol.specs.declared.common.Config.{Config}
 use Rattle.engine.specs.declared.bus.Phase.the-variants as phase
 use Rattle.calls.specs.Kind.{planOf}
+use Rattle.calls.specs.Sides.{budgetOf}
 use Rattle.calls.specs.Call.{startWith, startOf, phaseOf}
 use Rattle.calls.specs.declared.kind.Kind.{Kind}
 use Rattle.calls.specs.declared.kind.Plan.{Plan}
@@ -24,7 +25,7 @@ reached-shaped p n w its most waits (of-head some b first whole bounded) e = let
 reached-shaped p n w its most waits (of-head-alone some first none few) e = reach-alone some p n w (omega (arith, few)) e
 
 -- and by name
-pub reached : (config : Config) → TwoByteBudgets config → (kind : Kind) (p n w most waits : ℕ) → CeilingOf (config .«max_bus_retries») p n kind most waits
+pub reached : (config : Config) → TwoByteBudgets config → (kind : Kind) (p n w most waits : ℕ) → CeilingOf (budgetOf kind config n) p n kind most waits
     → phaseOf (startOf kind config p n w) ≡ phase.Waiting → Reached most waits (startOf kind config p n w)
 unfolding startOf
 reached config few kind p n w most waits name e = reached-shaped p n w (planOf kind config p n) most waits (shape-named config few p n w kind most waits name) e

@@ -1,4 +1,5 @@
--- A ceiling on bus traffic: however it is fed, a call makes at most so many transfers and waits at most so often, and after as many it has ended. (02, W-208)
+-- A ceiling on bus traffic: however it is fed, a call makes at most so many transfers and waits at most so often, and after as many it has ended. The budget is that
+-- of the call's side. (02, W-208, W-211)
 -- Assumes nothing.
 use Prim.Native.Nat.{ℕ, _+_, _*_, _≤_, _<_}
 use mathlib.Core.Path.{_≡_}
@@ -12,6 +13,7 @@ use Rattle.writing.specs.Frames.{frameCount}
 use Rattle.writing.specs.declared.call.WritePlan.{WritePlan}
 use Rattle.reading.specs.Parts.{hasHead, readCount}
 use Rattle.reading.specs.declared.call.ReadPlan.{ReadPlan}
+use Rattle.calls.specs.Sides.{budgetOf}
 use Rattle.calls.specs.Call.{startWith, startOf, phaseOf, tallyOf}
 use Rattle.calls.specs.declared.call.Call.{Call}
 use Rattle.calls.specs.declared.kind.Kind.{Kind}
@@ -94,10 +96,10 @@ pub data CeilingOf (r p n : ℕ) : Kind → (most waits : ℕ) → Type 0 where
 pub record Ceilings : Type 0 where
   pub shapes : Shapes
   -- each call by its name, started with a payload of p bytes, a buffer of n and a work buffer of w
-  pub named : (config : Config) → TwoByteBudgets config → (kind : Kind) (p n w most waits : ℕ) → CeilingOf (config .«max_bus_retries») p n kind most waits
+  pub named : (config : Config) → TwoByteBudgets config → (kind : Kind) (p n w most waits : ℕ) → CeilingOf (budgetOf kind config n) p n kind most waits
       → (es : List Report) → Ceiling most waits (startOf kind config p n w) es
   -- and no lower: some list of reports reaches it, where the call is not refused or done at its start
-  pub reached : (config : Config) → TwoByteBudgets config → (kind : Kind) (p n w most waits : ℕ) → CeilingOf (config .«max_bus_retries») p n kind most waits
+  pub reached : (config : Config) → TwoByteBudgets config → (kind : Kind) (p n w most waits : ℕ) → CeilingOf (budgetOf kind config n) p n kind most waits
       → phaseOf (startOf kind config p n w) ≡ phase.Waiting → Reached most waits (startOf kind config p n w)
   -- a call that is refused at its start, or done at once, makes none
   pub none : (config : Config) (kind : Kind) (p n w : ℕ) (a : Answer) → phaseOf (startOf kind config p n w) ≡ phase.Ended a

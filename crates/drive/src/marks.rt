@@ -7,7 +7,8 @@ ghost use Prim.Native.Nat.{_≤_};
 // One retry, and PEC either on writes or on reads.
 pub(crate) fn settings(pec_write: bool) -> Config {
     Config {
-        max_bus_retries: 1,
+        max_write_retries: 1,
+        max_read_retries: 1,
         pec_write,
         pec_read: !pec_write,
         growing_waits: false,

@@ -269,7 +269,8 @@ fn each(config: Config, length: usize, old: &[u8], clean: &[u8], counts: Counts)
 // Every course of up to seven transfers at one setting, and its line.
 fn setting(retries: u16, pec: bool, old: &[u8], clean: &[u8]) {
     let config = Config {
-        max_bus_retries: retries,
+        max_write_retries: retries,
+        max_read_retries: 9, // which no write looks at
         pec_write: pec,
         pec_read: false,
         growing_waits: false,

@@ -97,7 +97,8 @@ fn each(config: Config, length: usize, old: &[u8], seen: Seen) -> Seen {
 // Every course of up to seven transfers at one setting, and its line.
 pub(crate) fn setting(retries: u16, pec: bool, old: &[u8]) {
     let config = Config {
-        max_bus_retries: retries,
+        max_write_retries: 9, // which no read looks at
+        max_read_retries: retries,
         pec_write: false,
         pec_read: pec,
         growing_waits: false,

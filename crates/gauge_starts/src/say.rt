@@ -12,7 +12,8 @@ pub(crate) const COURSE: [u8; 12] = [1, 0, 2, 0, 0, 1, 0, 0, 0, 0, 0, 0];
 // As many retries as the course has losses.
 pub(crate) fn settings(pec: bool) -> Config {
     Config {
-        max_bus_retries: 3,
+        max_write_retries: 3,
+        max_read_retries: 3,
         pec_write: pec,
         pec_read: pec,
         growing_waits: false,

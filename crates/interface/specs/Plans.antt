@@ -33,11 +33,7 @@ writeRegister config address = planOf config (limit.AtMost 32) (frames.Register 
 unfoldable pub readRegister : Config → ℕ → ℕ → ReadPlan
 readRegister config address n = reading.plainPlan config (limit.AtMost 32) (plainAsk address n (config .«pec_read»))
 
--- a command with no output is a write, by `pec_write`; otherwise its frame goes by `pec_read`
-unfoldable pub commandPec : Config → ℕ → Bool
-commandPec config n = if eqb n 0 then config .«pec_write» else config .«pec_read»
-
--- the read that follows sends bits 23..16 as its command
+-- a command with no output reads nothing, and is a write; the read that follows one with an output sends bits 23..16 as its command
 unfoldable pub commandReads : Config → ℕ → ℕ → Reads
 commandReads config address n =
     if eqb n 0 then reads.Nothing else reads.Once (macAsk (address / 65536 % 256) n (config .«pec_read»))
@@ -45,7 +41,7 @@ commandReads config address n =
 -- a command beside an input of so many bytes, with an output of n
 unfoldable pub dispatchCommand : Config → ℕ → ℕ → ℕ → ReadPlan
 dispatchCommand config address input n =
-    reading.planOf config (limit.Command input) (head.Command address) (commandPec config n) (commandReads config address n)
+    reading.planOf config (limit.Command input) (head.Command address) (commandReads config address n)
 
 -- any length, never with PEC
 unfoldable pub readBuffer : Config → ℕ → ℕ → ReadPlan

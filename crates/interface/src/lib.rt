@@ -11,7 +11,7 @@ use reading::parts::Reads;
 use writing::call::WritePlan;
 use writing::frames::Frames;
 ghost use mathlib.Core.Path.{_≡_};
-ghost use Rattle.interface.specs.Plans.{plainLimit, writeWithRetries, writeRegister, readRegister, commandPec, commandReads, dispatchCommand, readBuffer, writeBuffer};
+ghost use Rattle.interface.specs.Plans.{plainLimit, writeWithRetries, writeRegister, readRegister, commandReads, dispatchCommand, readBuffer, writeBuffer};
 
 // What a plain write asks of its length: with a PEC it has to leave room for it.
 fn plain_limit(pec_write: bool) -> Limit
@@ -53,18 +53,7 @@ pub fn read_register(config: Config, address: u8, n: usize) -> ReadPlan
     )
 }
 
-// Whether a command's frame carries a PEC: with no output it is a write, otherwise it opens a read.
-fn command_pec(config: Config, output: usize) -> bool
-    ensures { λ r. ⌜ r ≡ commandPec config output ⌝ }
-{
-    if output == 0 {
-        config.pec_write
-    } else {
-        config.pec_read
-    }
-}
-
-// What is read after a command's frame: nothing where there is no output. The frame's first byte is the read's command.
+// What is read after a command's frame: nothing where there is no output, so that it is a write. The frame's first byte is the read's command.
 fn command_reads(config: Config, address: u32, output: usize) -> Reads
     ensures { λ r. ⌜ r ≡ commandReads config address output ⌝ }
 {
@@ -83,7 +72,6 @@ pub fn dispatch_command(config: Config, address: u32, input: usize, output: usiz
         config,
         Limit::Command(input),
         Head::Command(address),
-        command_pec(config, output),
         command_reads(config, address, output),
     )
 }

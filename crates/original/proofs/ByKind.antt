@@ -3,10 +3,11 @@
 use Prim.Native.Nat.{ℕ, _≤_}
 use mathlib.Core.Path.{_≡_, refl, sym, ap, _∙_}
 use mathlib.Core.List.{List, [], _∷_, _++_}
+use native.Mathlib.Omega.{arith}
 use lib.ListN.{length, take}
 use borrow.Author.Tests.{le-ltb, ne-eqb}
-use Rattle.protocol.specs.Common.{TwoByteBudgets}
 use Rattle.protocol.specs.Pick.{if_then_else_}
+use Rattle.protocol.specs.Common.{TwoByteBudgets}
 use Rattle.protocol.specs.declared.common.Config.{Config}
 use Rattle.protocol.specs.declared.error.Answer.{Answer}
 use Rattle.protocol.specs.declared.error.Answer.the-variants as answer
@@ -127,7 +128,8 @@ equal-by-kind config small w roomy lent steady os = record { same = by; added = 
     by kind.WriteWithRetries payload buffer d = wrote-as _ payload buffer _ (e .plain-write payload d)
     by (kind.WriteRegister address) payload buffer d = wrote-as _ payload buffer _ (e .write-register address payload)
     by (kind.ReadRegister address) payload buffer d = read-as _ payload buffer _ (e .read-register address buffer)
-    by (kind.DispatchCommand address) payload buffer d = read-as _ payload buffer _ (e .dispatch-command address payload buffer d)
+    by (kind.DispatchCommand address) payload [] d = read-as _ payload [] _ (e .dispatch-command-alone address payload d)
+    by (kind.DispatchCommand address) payload (b ∷ buffer) d = read-as _ payload (b ∷ buffer) _ (e .dispatch-command address payload (b ∷ buffer) d (omega arith))
     by (kind.WriteBuffer address) payload buffer d = wrote-as _ payload buffer _ (e .buffer-write address payload)
     by (kind.ReadBuffer address) payload buffer d = read-as _ payload buffer _ (e .buffer-read address buffer d)
     by kind.WriteSecurityKeys payload buffer d = wrote-as _ payload buffer _ (e .write-security-keys payload d)

@@ -12,10 +12,12 @@ use Rattle.protocol.specs.Pick.{if_then_else_}
 use Rattle.protocol.specs.Bytes.{blocksOf}
 use Rattle.protocol.specs.Frame.{sealed, macBytes, pairOf}
 use Rattle.protocol.proofs.Laws.{take-short}
+use Rattle.protocol.specs.declared.common.Side.the-variants as side
 use Rattle.protocol.specs.declared.common.Config.{Config}
 use Rattle.writing.specs.Frames.{isFlash, isPlain, bytesAt, blockBytes}
 use Rattle.writing.specs.Writing as writing
 use Rattle.r5.specs.Plans as r5
+use Rattle.original.specs.OriginalCommon.{setFor}
 use Rattle.original.specs.Bus.{BusOutcome, Log, Ok}
 use Rattle.original.specs.OriginalInterface as original
 use Rattle.original.proofs.WriteTurns.{frameAt, each}
@@ -41,7 +43,7 @@ module _ (config : Config) (start : ℕ) (bytes : List ℕ) where
       rw (a, k, c, s)
 
   -- nothing is left
-  none-left : (turns committed : ℕ) (log : Log) (outcomes : List BusOutcome) → original.writeChunks config start bytes turns committed 0 log outcomes ≡ Ok log outcomes
+  none-left : (turns committed : ℕ) (log : Log) (outcomes : List BusOutcome) → original.writeChunks (setFor side.Write config) start bytes turns committed 0 log outcomes ≡ Ok log outcomes
   unfolding original.writeChunks if_then_else_
   none-left zero committed log outcomes = refl
   none-left (suc turns) committed log outcomes = refl
@@ -55,13 +57,13 @@ module _ (config : Config) (start : ℕ) (bytes : List ℕ) where
     -- blocks from block i on are the turns of the loop from there on
     abbrev pub Chunks : ℕ → Type 0
     Chunks todo = (turns i left : ℕ) (log : Log) (outcomes : List BusOutcome) → i * 32 + left ≡ length bytes → 0 < left → left ≤ suc turns → suc todo ≡ blocksOf left
-        → each (r5.writeDataflash config start) bytes w (suc todo) i log outcomes ≡ original.writeChunks config start bytes (suc turns) (i * 32) left log outcomes
+        → each (r5.writeDataflash config start) bytes w (suc todo) i log outcomes ≡ original.writeChunks (setFor side.Write config) start bytes (suc turns) (i * 32) left log outcomes
 
     -- what follows block i
     abbrev After : ℕ → Type 0
     After todo = (turns i left : ℕ) → i * 32 + left ≡ length bytes → 0 < left → left ≤ suc turns → suc todo ≡ blocksOf left → (log : Log) (outcomes : List BusOutcome)
         → each (r5.writeDataflash config start) bytes w todo (suc i) log outcomes
-        ≡ original.writeChunks config start bytes turns (i * 32 + (length bytes - left + min 36 (left + 4) - 4 - (length bytes - left))) (left - 32) log outcomes
+        ≡ original.writeChunks (setFor side.Write config) start bytes turns (i * 32 + (length bytes - left + min 36 (left + 4) - 4 - (length bytes - left))) (left - 32) log outcomes
 
     nothing-after : After zero
     unfolding each
@@ -83,13 +85,13 @@ module _ (config : Config) (start : ℕ) (bytes : List ℕ) where
         let f : sealed (config .«pec_write») (blockBytes start i bytes) ≡ sealed (config .«pec_write») (due left) = rw (chunk-frame i left e) in
         rw (l, a, first-block i (eqb i 0) refl)
         (settle-by _ _ _ (after turns i left e some enough c) _
-        ∙ settle-of _ _ (ap (λ (frame : List ℕ). original.writeWithRetriesInternal (config .«max_bus_retries») frame log outcomes) f))
+        ∙ settle-of _ _ (ap (λ (frame : List ℕ). original.writeWithRetriesInternal (config .«max_write_retries») frame log outcomes) f))
 
     pub chunks : (todo : ℕ) → Chunks todo
     chunks zero = block-and-after zero nothing-after
     chunks (suc todo) = block-and-after (suc todo) (block-after todo (chunks todo))
 
     pub all-chunks : (todo turns : ℕ) (log : Log) (outcomes : List BusOutcome) → turns ≡ length bytes → 0 < length bytes → suc todo ≡ blocksOf (length bytes)
-        → each (r5.writeDataflash config start) bytes w (suc todo) 0 log outcomes ≡ original.writeChunks config start bytes turns 0 (length bytes) log outcomes
+        → each (r5.writeDataflash config start) bytes w (suc todo) 0 log outcomes ≡ original.writeChunks (setFor side.Write config) start bytes turns 0 (length bytes) log outcomes
     all-chunks todo zero log outcomes e some c = absurd (omega arith)
     all-chunks todo (suc turns) log outcomes e some c = chunks todo turns 0 (length bytes) log outcomes (omega arith) some (omega arith) c

@@ -8,14 +8,17 @@ use native.Mathlib.Omega.{arith}
 use lib.ListN.{length, replicate}
 use lib.Dec.{ltb, eqb}
 use borrow.Author.Tests.{ltb-false, eqb-true, eqb-false}
-use Rattle.protocol.specs.Common.{TwoByteBudgets}
 use Rattle.protocol.specs.Pick.{if_then_else_}
 use Rattle.protocol.specs.Bytes.{over}
+use Rattle.protocol.specs.Common.{TwoByteBudgets}
+use Rattle.protocol.specs.declared.common.Side.the-variants as side
 use Rattle.protocol.specs.declared.common.Config.{Config}
 use Rattle.protocol.specs.declared.error.Answer.{Answer}
 use Rattle.protocol.specs.declared.error.Answer.the-variants as answer
 use Rattle.protocol.proofs.WindowLaws.{within}
 use Rattle.interface.specs.Plans as machine
+use Rattle.original.specs.OriginalCommon as common
+use Rattle.original.specs.OriginalCommon.{setFor}
 use Rattle.original.specs.Bus.{BusOutcome, begun, Err, Read, _leaving_, copied, transfersOf}
 use Rattle.original.specs.Fed.{Lending, Lends, reads}
 use Rattle.original.specs.OriginalInterface as rust
@@ -45,7 +48,7 @@ empty : (layout : Layout) (buffer : List ℕ) (outcomes : List BusOutcome) (r : 
 unfolding over
 empty layout buffer outcomes r z e = e ∙ rw z refl
 
-module _ (config : Config) (outcomes : List BusOutcome) where
+module _ (config : common.Config) (outcomes : List BusOutcome) where
   -- a plain read into bytes of its own that are copied, and into the caller's
   plain-front : (command : ℕ) (buffer inner : List ℕ) (pec : Bool) → length buffer ≤ length inner → Front (plain pec command) buffer outcomes (copied buffer (rust.readWithRetries config command inner pec begun outcomes))
   unfolding rust.readWithRetries
@@ -130,26 +133,30 @@ module _ (config : Config) (outcomes : List BusOutcome) where
           let far : (0x4000 ≤ start) × (start + length buffer ≤ 0x6000) = within start (length buffer) (sym (range-window start (length buffer)) ∙ t) some in
           flash-comes start (config .«pec_read») buffer (far .1) outcomes true (config .«max_bus_retries») [] begun some refl
 
--- `max_bus_retries` is 0 to 65,535, and every work buffer has the same length, of at least 39 bytes
+-- each budget is 0 to 65,535, and every work buffer has the same length, of at least 39 bytes
 pub fronts : (config : Config) → TwoByteBudgets config → (w : ℕ) → 39 ≤ w → (lent : ℕ → Lending) → Lends w lent → (outcomes : List BusOutcome) → Fronts config w lent outcomes
 unfolding rust.bufferRead rust-r5.readSecurityKeys rust-r5.readAuthenticationKey rust-r5.readChargingVoltageOverride
 fronts config small w roomy lent steady outcomes = record {
-  read-register = λ address buffer. carried _ buffer outcomes (same .read-register address buffer) (register-front config outcomes address buffer);
+  read-register = λ address buffer. carried _ buffer outcomes (same .read-register address buffer) (register-front set outcomes address buffer);
   dispatch-command = λ address input output. dispatched address input output (rust.dispatchPanics input output) refl;
-  buffer-read = λ address buffer h. carried _ buffer outcomes (same .buffer-read address buffer h) (plain-own config outcomes address buffer false);
-  read-security-keys = λ buffer h. carried _ buffer outcomes (same .read-security-keys buffer h) (mac-own config outcomes _ buffer);
-  read-authentication-key = λ buffer h. carried _ buffer outcomes (same .read-authentication-key buffer h) (mac-own config outcomes _ buffer);
-  read-mfg-info-c = λ buffer. carried _ buffer outcomes (same .read-mfg-info-c buffer) (info-c-front config outcomes buffer);
-  read-mfg-info = λ buffer. carried _ buffer outcomes (same .read-mfg-info buffer) (info-front config outcomes buffer);
-  read-charging-voltage-override = λ buffer h. carried _ buffer outcomes (same .read-charging-voltage-override buffer h) (mac-own config outcomes _ buffer);
-  read-dataflash = λ start buffer. carried _ buffer outcomes (same .read-dataflash start buffer) (in-front _ buffer outcomes _ (dataflash-comes config outcomes start buffer));
-  whole-blocks = λ start buffer. in-blocks _ buffer outcomes _ (rw (same .read-dataflash start buffer) (dataflash-comes config outcomes start buffer));
+  buffer-read = λ address buffer h. carried _ buffer outcomes (same .buffer-read address buffer h) (plain-own set outcomes address buffer false);
+  read-security-keys = λ buffer h. carried _ buffer outcomes (same .read-security-keys buffer h) (mac-own set outcomes _ buffer);
+  read-authentication-key = λ buffer h. carried _ buffer outcomes (same .read-authentication-key buffer h) (mac-own set outcomes _ buffer);
+  read-mfg-info-c = λ buffer. carried _ buffer outcomes (same .read-mfg-info-c buffer) (info-c-front set outcomes buffer);
+  read-mfg-info = λ buffer. carried _ buffer outcomes (same .read-mfg-info buffer) (info-front set outcomes buffer);
+  read-charging-voltage-override = λ buffer h. carried _ buffer outcomes (same .read-charging-voltage-override buffer h) (mac-own set outcomes _ buffer);
+  read-dataflash = λ start buffer. carried _ buffer outcomes (same .read-dataflash start buffer) (in-front _ buffer outcomes _ (dataflash-comes set outcomes start buffer));
+  whole-blocks = λ start buffer. in-blocks _ buffer outcomes _ (rw (same .read-dataflash start buffer) (dataflash-comes set outcomes start buffer));
 }
   where
+    set : common.Config
+    set = setFor side.Read config
+
     same : Equal config w lent outcomes
     same = equal config small w roomy lent steady outcomes
 
     dispatched : (address : ℕ) (input output : List ℕ) (t : Bool) → rust.dispatchPanics input output ≡ t
         → Front (mac (config .«pec_read»)) output outcomes (reads (machine.dispatchCommand config address (length input) (length output)) output w lent outcomes)
     dispatched address input output true t = carried _ output outcomes (same .dispatch-command-refused address input output t) (refused _ output outcomes answer.NotACommand)
-    dispatched address input output false t = carried _ output outcomes (same .dispatch-command address input output t) (command-front config outcomes address input output)
+    dispatched address input [] false t = carried (mac (config .«pec_read»)) [] outcomes (same .dispatch-command-alone address input t) (command-front (setFor side.Write config) outcomes address input [])
+    dispatched address input (b ∷ output) false t = carried (mac (config .«pec_read»)) (b ∷ output) outcomes (same .dispatch-command address input (b ∷ output) t (omega arith)) (command-front set outcomes address input (b ∷ output))

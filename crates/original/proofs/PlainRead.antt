@@ -55,9 +55,9 @@ module _ (config : Config) (limit : Limit) (command : ℕ) (buffer inner : List 
   fault pec outcomes ih left tally why done bad b true t =
       after-failure (plan pec) (length buffer) w lent false 0 left tally why buffer _ outcomes bad true t ∙ rw t
   fault pec outcomes ih left tally why done bad b false t =
-      let m : missed (config .«growing_waits») (config .«max_bus_retries») left tally .waits ≡ tally .waits + 1 = one-wait (config .«growing_waits») (config .«max_bus_retries») left tally (omega arith) in
+      let m : missed (config .«growing_waits») (config .«max_read_retries») left tally .waits ≡ tally .waits + 1 = one-wait (config .«growing_waits») (config .«max_read_retries») left tally (omega arith) in
       after-failure (plan pec) (length buffer) w lent false 0 left tally why buffer _ outcomes bad false t
-      ∙ rw (t, ← m) (ih (left - 1) (missed (config .«growing_waits») (config .«max_bus_retries») left tally) _ (omega (arith, eqb-false left 0 t)))
+      ∙ rw (t, ← m) (ih (left - 1) (missed (config .«growing_waits») (config .«max_read_retries») left tally) _ (omega (arith, eqb-false left 0 t)))
 
   -- a reply that is believed fills the buffer
   filled : (pec : Bool) (left : ℕ) (tally : Tally) (done : List Made) (reply : List ℕ) (outcomes : List BusOutcome) → length reply ≡ count pec

@@ -1,4 +1,5 @@
 pub mod Bus
+pub mod OriginalCommon
 pub mod OriginalInterface
 pub mod OriginalR5
 pub mod Fed

@@ -1,6 +1,5 @@
 -- interface.rs, function by function as it stands there, over the list of what the bus does.
--- Each takes what was done so far and the outcomes to come, as `&mut self` has them. A loop takes its `retries`; the Rust starts them at `max_bus_retries`. None looks
--- at `growing_waits`, which is no setting of the Rust (02, W-203).
+-- Each takes what was done so far and the outcomes to come, as `&mut self` has them. A loop takes its `retries`; the Rust starts them at `max_bus_retries`.
 -- Assumes nothing.
 use Prim.Native.Nat.{ℕ, zero, suc, _+_, _-_, _/_, _%_, min}
 use mathlib.Core.Bool.{Bool, true, false, not, _&&_, _||_}
@@ -9,8 +8,8 @@ use lib.ListN.{length, take, drop, getD}
 use lib.Dec.{ltb, leb, eqb}
 use Rattle.smbus_pec.specs.Pec.{pecOf}
 use Rattle.protocol.specs.Pick.{if_then_else_}
-use Rattle.protocol.specs.declared.common.Config.{Config}
 use Rattle.protocol.specs.declared.error.Answer.the-variants as answer
+use Rattle.original.specs.OriginalCommon.{Config}
 use Rattle.original.specs.Bus.{BusOutcome, delivered, write, read, Log, made, delayed, Came, Ok, Err, Waiting, Read, _leaving_, busOp_err_ok_, settle}
 
 -- u16::to_le_bytes

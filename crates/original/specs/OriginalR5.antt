@@ -7,9 +7,9 @@ use lib.ListN.{length, getD, replicate}
 use lib.IntN.{ℤ, pos, negsuc}
 use lib.Dec.{ltb}
 use Rattle.protocol.specs.Pick.{if_then_else_}
-use Rattle.protocol.specs.declared.common.Config.{Config}
 use Rattle.protocol.specs.declared.error.Answer.the-variants as answer
 use Rattle.r5.specs.declared.voltage.ChargingVoltageOverride.{ChargingVoltageOverride}
+use Rattle.original.specs.OriginalCommon.{Config}
 use Rattle.original.specs.Bus.{BusOutcome, Log, Came, Err, Read, _leaving_, andThen, copied}
 use Rattle.original.specs.OriginalInterface.{toLeBytes, macWriteWithRetries, macWriteToDfWithRetries, readWithRetries, macReadWithRetries, macReadFromDfWithRetries, macReadFromDfWithRetriesPec}
 

@@ -6,15 +6,15 @@ use mathlib.Core.Bool.{false}
 use mathlib.Core.List.{[], _∷_, _++_}
 use lib.ListN.{replicate}
 use Rattle.protocol.specs.Pick.{if_then_else_}
-use Rattle.protocol.specs.declared.common.Config.{Config}
 use Rattle.protocol.specs.declared.error.Answer.the-variants as answer
+use Rattle.original.specs.OriginalCommon.{Config}
 use Rattle.original.specs.Bus.{Acknowledged, BusError, Timeout, write, read, begun, Ok, Err, _leaving_, busOp_err_ok_, settle}
 use Rattle.original.specs.OriginalInterface as rust
 use Rattle.original.specs.OriginalR5 as rust-r5
 
--- so many retries, no PEC, waits of one length
+-- so many retries, no PEC
 abbrev retrying : ℕ → Config
-retrying n = record { «max_bus_retries» = n; «pec_write» = false; «pec_read» = false; «growing_waits» = false }
+retrying n = record { «max_bus_retries» = n; «pec_write» = false; «pec_read» = false }
 
 -- the whole case of document 01: a bus error, one wait, the same frame again
 pub retried-write : rust-r5.writeDataflash (retrying 1) 0x4000 (0xAA ∷ 0xBB ∷ []) begun (BusError 5 ∷ Acknowledged [] ∷ [])

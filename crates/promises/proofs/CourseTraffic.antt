@@ -22,6 +22,7 @@ use Rattle.engine.specs.declared.bus.Transfer.{Transfer}
 use Rattle.engine.specs.declared.bus.Transfer.the-variants as transfer
 use Rattle.writing.specs.Writing as writing
 use Rattle.reading.specs.Reading as reading
+use Rattle.calls.specs.Sides.{budgetOf}
 use Rattle.calls.specs.Call.{nextOf, workAfter, bufferAfter, phaseOf, tallyOf, fitsOf}
 use Rattle.calls.specs.declared.call.Call.{Call}
 use Rattle.calls.specs.declared.call.Call.the-variants as call
@@ -224,7 +225,7 @@ not-cut : (a : Answer) → end.Answered a ≡ end.Cut → ⊥
 not-cut a e = let z : _≡_ {A = ℕ} 0 1 = cc in absurd (omega arith)
 
 module _ (config : Config) (few : TwoByteBudgets config) (kind : Kind) (payload buffer work flash : List ℕ) (gauge : Gauge) (course : List ℕ) (most waits : ℕ)
-    (name : CeilingOf (config .«max_bus_retries») (length payload) (length buffer) kind most waits) where
+    (name : CeilingOf (budgetOf kind config (length buffer)) (length payload) (length buffer) kind most waits) where
   abbrev begun : World
   begun = begins kind config payload buffer work flash gauge
 

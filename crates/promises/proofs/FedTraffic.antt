@@ -19,6 +19,7 @@ use Rattle.engine.specs.declared.bus.Phase.the-variants as phase
 use Rattle.engine.specs.declared.bus.Transfer.{Transfer}
 use Rattle.engine.specs.declared.bus.Transfer.the-variants as transfer
 use Rattle.calls.specs.Kind.{planOf}
+use Rattle.calls.specs.Sides.{budgetOf}
 use Rattle.calls.specs.Call.{startOf, nextOf, workAfter, partOf, reportOf, bufferAfter, phaseOf, tallyOf}
 use Rattle.calls.specs.declared.call.Call.{Call}
 use Rattle.calls.specs.declared.call.Reported.{Reported}
@@ -206,7 +207,7 @@ module _ (payload : List ℕ) (lent : ℕ → Lending) where
 pub none-counted : (config : Config) → TwoByteBudgets config → (kind : Kind) (p n w : ℕ) → tallyOf (startOf kind config p n w) .transfers ≡ 0
 unfolding feed accepted
 none-counted config few kind p n w =
-    let name = ceilings .some (config .«max_bus_retries») p n kind in
+    let name = ceilings .some (budgetOf kind config n) p n kind in
     ceilings .named config few kind p n w (name .0) (name .1) (name .2) [] .counts
 
 -- a call by its name, from its start
@@ -214,24 +215,24 @@ module _ (config : Config) (few : TwoByteBudgets config) (kind : Kind) (payload 
   abbrev begun : Call
   begun = startOf kind config (length payload) (length buffer) w
 
-  started : (most waits : ℕ) → CeilingOf (config .«max_bus_retries») (length payload) (length buffer) kind most waits → RunsFed payload lent most waits begun buffer [] os
+  started : (most waits : ℕ) → CeilingOf (budgetOf kind config (length buffer)) (length payload) (length buffer) kind most waits → RunsFed payload lent most waits begun buffer [] os
   started most waits name = runs-fed payload lent os most waits begun (good-named config few kind (length payload) (length buffer) w most waits name) buffer []
 
-  no-more : (most waits : ℕ) → CeilingOf (config .«max_bus_retries») (length payload) (length buffer) kind most waits → NoMore most waits (fed begun payload buffer lent [] os)
+  no-more : (most waits : ℕ) → CeilingOf (budgetOf kind config (length buffer)) (length payload) (length buffer) kind most waits → NoMore most waits (fed begun payload buffer lent [] os)
   no-more most waits name = let ran = started most waits name in (omega (arith, ran .makes), ran .rests)
 
   -- it counts what was answered for, and its waits
   counts-fed : (r : Read) → fed begun payload buffer lent [] os ≡ r
       → (tallyOf (fedCall begun payload buffer lent 0 os) .transfers ≡ answeredIn r) × (tallyOf (fedCall begun payload buffer lent 0 os) .waits ≡ waitsIn r)
   counts-fed r same =
-      let name = ceilings .some (config .«max_bus_retries») (length payload) (length buffer) kind in
+      let name = ceilings .some (budgetOf kind config (length buffer)) (length payload) (length buffer) kind in
       let ran = started (name .0) (name .1) (name .2) in
       let none = none-counted config few kind (length payload) (length buffer) w in
       let all : tallyOf (fedCall begun payload buffer lent 0 os) .transfers ≡ answeredIn (fed begun payload buffer lent [] os) = omega (arith, ran .counted, none) in
       (all ∙ ap answeredIn same, ran .waited ∙ ap waitsIn same)
 
   -- the milliseconds are those of a call that is reported to
-  lasts-fed : Bounds (config .«growing_waits») (config .«max_bus_retries») (budgetsIn (planOf kind config (length payload) (length buffer)) (length payload)) (fedCall begun payload buffer lent 0 os)
+  lasts-fed : Bounds (config .«growing_waits») (budgetOf kind config (length buffer)) (budgetsIn (planOf kind config (length payload) (length buffer)) (length payload)) (fedCall begun payload buffer lent 0 os)
   lasts-fed =
       let told = as-reported begun payload buffer lent os in
       rw (told .same) (bounded config few kind (length payload) (length buffer) w (told .reports))
@@ -275,7 +276,7 @@ count-by-kind config few w roomy lent steady os = record {
 
 -- AND SO ARE THE CEILINGS
 pub rust-ceilings : (config : Config) → TwoByteBudgets config → (kind : Kind) (payload buffer : List ℕ) → Defined kind config payload buffer → (most waits : ℕ)
-    → CeilingOf (config .«max_bus_retries») (length payload) (length buffer) kind most waits → (os : List BusOutcome)
+    → CeilingOf (budgetOf kind config (length buffer)) (length payload) (length buffer) kind most waits → (os : List BusOutcome)
     → NoMore most waits (rustOf kind config payload buffer os) × (most ≤ length os → Over (rustOf kind config payload buffer os))
 rust-ceilings config few kind payload buffer defined most waits name os =
     let lent : ℕ → Lending = λ i. record { work = replicate 39 0; beside = [] } in

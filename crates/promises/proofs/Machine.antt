@@ -38,7 +38,7 @@ use Rattle.promises.specs.Writes.{WriteWorld, sent, transferMade, step}
 
 -- the whole budget of a block
 abbrev pub blockBudget : Config → Budget
-blockBudget config = record { left = config .«max_bus_retries» }
+blockBudget config = record { left = config .«max_write_retries» }
 
 -- a failed transfer, with the answer that it would end the call with
 abbrev pub whyOf : Cause → Answer

@@ -11,6 +11,7 @@ use borrow.Author.Tests.{eqb-true, eqb-false}
 use Rattle.protocol.specs.Common.{TwoByteBudgets}
 use Rattle.protocol.specs.Pick.{if_then_else_}
 use Rattle.protocol.specs.Answer.{numberOf}
+use Rattle.protocol.specs.declared.common.Side.the-variants as side
 use Rattle.protocol.specs.declared.common.Config.{Config}
 use Rattle.protocol.specs.declared.error.Answer.{Answer}
 use Rattle.protocol.specs.declared.error.Answer.the-variants as answer
@@ -25,6 +26,7 @@ use Rattle.engine.specs.declared.bus.Phase.the-variants as phase
 use Rattle.writing.specs.Writing.{nextOf, workAfter, settleOf, repliedOf}
 use Rattle.writing.specs.declared.call.WriteCall.{WriteCall}
 use Rattle.courses.specs.declared.course.End.the-variants as end
+use Rattle.original.specs.OriginalCommon.{setFor}
 use Rattle.original.specs.Bus.{BusOutcome, Made, brings, write, Log, Came, Ok, Err, Waiting, begun}
 use Rattle.original.specs.Fed.{told, Lending, reply, answered, shows_sending_transfer_answer_, wrote_taken_refused_, fedWrite}
 use Rattle.original.specs.OriginalR5 as rust
@@ -168,7 +170,7 @@ module _ (config : Config) (address : ℕ) (payload work flash : List ℕ) (few 
   start = began config address payload work flash
 
   abbrev original : Came
-  original = rust.writeDataflash config address payload begun (outcomesIn es)
+  original = rust.writeDataflash (setFor side.Write config) address payload begun (outcomesIn es)
 
   -- the call that is fed comes to what the Rust comes to
   fed-original : fed config address payload work (a .room) (start .call) [] es ≡ original
@@ -197,8 +199,8 @@ module _ (config : Config) (address : ℕ) (payload work flash : List ℕ) (few 
 pub over-original : (config : Config) (address : ℕ) (payload work flash : List ℕ) → TwoByteBudgets config → Accepted address payload work flash
     → (es : List Event)
     → (run payload es (began config address payload work flash) .flash
-    ≡ laidOver es (madeIn (rust.writeDataflash config address payload begun (outcomesIn es))) flash)
-    × (endIn ((shows) payload (run payload es (began config address payload work flash))) ≡ stopOf (rust.writeDataflash config address payload begun (outcomesIn es)))
+    ≡ laidOver es (madeIn (rust.writeDataflash (setFor side.Write config) address payload begun (outcomesIn es))) flash)
+    × (endIn ((shows) payload (run payload es (began config address payload work flash))) ≡ stopOf (rust.writeDataflash (setFor side.Write config) address payload begun (outcomesIn es)))
 over-original config address payload work flash few a es =
     let o = fed-original config address payload work flash few a es in
     let f = follows-start config address payload work flash few a es in

@@ -49,7 +49,7 @@ use Rattle.promises.proofs.Replies.{count-of, reply-damaged}
 
 -- the whole budget of a read
 abbrev pub readBudget : Config → Budget
-readBudget config = record { left = config .«max_bus_retries» }
+readBudget config = record { left = config .«max_read_retries» }
 
 drop-take : (a b : ℕ) (l : List ℕ) → drop a (take b l) ≡ take (b - a) (drop a l)
 drop-take zero b l = rw sub-zero

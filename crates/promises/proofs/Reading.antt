@@ -96,7 +96,7 @@ module _ (noisy : Bool) (config : Config) (address n : ℕ) (old flash : List �
             head = true;
             i = i;
             b = record { left = b .left - 1 };
-            t = missed (config .«growing_waits») (config .«max_bus_retries») (b .left) t;
+            t = missed (config .«growing_waits») (config .«max_read_retries») (b .left) t;
             gauge = g;
             buffer = buffer;
             work = work;

@@ -106,7 +106,7 @@ module _ (config : Config) (address : ℕ) (payload old : List ℕ) (n : ℕ) (r
     where
       by : (z : Bool) → eqb (b .left) 0 ≡ z → Going (record { call = failOf (callAt config address payload n phase.Waiting i b t) (whyOf c); work = work; flash = flash; acked = i })
       by true z = rw z (record { at = phase.Ended (if eqb i 0 then whyOf c else answer.PartialDataFlashWrite (i * 32)); i = i; b = b; t = t; work = work; flash = flash; is = refl; long = long; holds = v; told = told-gave-up (length payload) i c h })
-      by false z = rw z (record { at = phase.Waiting; i = i; b = record { left = b .left - 1 }; t = missed (config .«growing_waits») (config .«max_bus_retries») (b .left) t; work = work; flash = flash; is = refl; long = long; holds = v; told = h })
+      by false z = rw z (record { at = phase.Waiting; i = i; b = record { left = b .left - 1 }; t = missed (config .«growing_waits») (config .«max_write_retries») (b .left) t; work = work; flash = flash; is = refl; long = long; holds = v; told = h })
 
   going-at : (e : Event) (at : Phase) (i : ℕ) (b : Budget) (t : Tally) (work flash : List ℕ) → length work ≡ n
       → Overlaid 32 (placeOf address) payload old i flash → ToldAt 32 (length payload) i at

@@ -16,6 +16,7 @@ use Rattle.protocol.specs.Common.{TwoByteBudgets}
 use Rattle.protocol.specs.Pick.{if_then_else_}
 use Rattle.protocol.specs.Answer.{numberOf, detailOf}
 use Rattle.protocol.specs.Window.{inWindow}
+use Rattle.protocol.specs.declared.common.Side.the-variants as side
 use Rattle.protocol.specs.declared.common.Config.{Config}
 use Rattle.protocol.specs.declared.error.Answer.{Answer}
 use Rattle.protocol.specs.declared.error.Answer.the-variants as answer
@@ -23,6 +24,7 @@ use Rattle.engine.specs.declared.bus.Transfer.{Transfer}
 use Rattle.engine.specs.declared.bus.Transfer.the-variants as transfer
 use Rattle.courses.specs.declared.course.End.{End}
 use Rattle.courses.specs.declared.course.End.the-variants as end
+use Rattle.original.specs.OriginalCommon.{setFor}
 use Rattle.original.specs.Bus.{begun}
 use Rattle.original.specs.OriginalR5 as rust
 use Rattle.promises.specs.Flash.{placeOf, store, blockFrame, Overlaid, Stands}
@@ -119,8 +121,8 @@ pub record Demand3 : Type 0 where
   pub over-original : (config : Config) (address : ℕ) (payload work flash : List ℕ) → TwoByteBudgets config → Accepted address payload work flash
       → (es : List Event)
       → (run payload es (began config address payload work flash) .flash
-      ≡ laidOver es (madeIn (rust.writeDataflash config address payload begun (outcomesIn es))) flash)
-      × (endIn (shows payload (run payload es (began config address payload work flash))) ≡ stopOf (rust.writeDataflash config address payload begun (outcomesIn es)))
+      ≡ laidOver es (madeIn (rust.writeDataflash (setFor side.Write config) address payload begun (outcomesIn es))) flash)
+      × (endIn (shows payload (run payload es (began config address payload work flash))) ≡ stopOf (rust.writeDataflash (setFor side.Write config) address payload begun (outcomesIn es)))
   -- any host: whatever work buffer of that length it lends for each transfer, whatever lies in the reply beside a failure, and whatever it reports in between
   -- that is refused (8, 9 or 10), the call, the flash and the count are those of its transfers alone: none of that changes anything
   pub any-host : (config : Config) (address : ℕ) (payload work flash : List ℕ) → Accepted address payload work flash

@@ -1,4 +1,4 @@
--- What a call puts on the bus: at most so many transfers, and it ends. (02, W-208)
+-- What a call puts on the bus: at most so many transfers, and it ends. (02, W-208, W-211)
 -- The ceilings by engine, by shape and by name, over any list of reports, are those of `ceilings`. Here a host makes the transfers and reports what came of them, and
 -- then a run over a course of the model gauge does.
 -- Assumes nothing.
@@ -11,6 +11,7 @@ use Rattle.protocol.specs.Common.{TwoByteBudgets}
 use Rattle.protocol.specs.declared.common.Config.{Config}
 use Rattle.engine.specs.declared.budget.Tally.{Tally}
 use Rattle.engine.specs.declared.bus.Phase.the-variants as phase
+use Rattle.calls.specs.Sides.{budgetOf}
 use Rattle.calls.specs.Call.{startOf, phaseOf, tallyOf}
 use Rattle.calls.specs.declared.call.Call.{Call}
 use Rattle.calls.specs.declared.kind.Kind.{Kind}
@@ -30,15 +31,15 @@ use Rattle.original.specs.Fed.{Lending, Lends, fed, fedCall}
 pub record Ends : Type 0 where
   -- EVERY CALL ENDS: with as many outcomes as its ceiling a call that is fed has its answer
   pub answers : (config : Config) → TwoByteBudgets config → (kind : Kind) (payload buffer : List ℕ) (w most waits : ℕ)
-      → CeilingOf (config .«max_bus_retries») (length payload) (length buffer) kind most waits → (lent : ℕ → Lending) (outcomes : List BusOutcome)
+      → CeilingOf (budgetOf kind config (length buffer)) (length payload) (length buffer) kind most waits → (lent : ℕ → Lending) (outcomes : List BusOutcome)
       → most ≤ length outcomes → Over (fed (startOf kind config (length payload) (length buffer) w) payload buffer lent [] outcomes)
   -- and that is its own: where the lengths of the start are lent at each step, it does not wait any more
   pub ends : (config : Config) → TwoByteBudgets config → (kind : Kind) (payload buffer : List ℕ) (w most waits : ℕ)
-      → CeilingOf (config .«max_bus_retries») (length payload) (length buffer) kind most waits → (lent : ℕ → Lending) → Lends w lent → (outcomes : List BusOutcome)
+      → CeilingOf (budgetOf kind config (length buffer)) (length payload) (length buffer) kind most waits → (lent : ℕ → Lending) → Lends w lent → (outcomes : List BusOutcome)
       → most ≤ length outcomes → phaseOf (fedCall (startOf kind config (length payload) (length buffer) w) payload buffer lent 0 outcomes) ≡ phase.Waiting → ⊥
   -- whatever work buffers are lent (at the first of another length 8 is shown, and the host stops), no more transfers than that are made, and no more waits
   pub makes : (config : Config) → TwoByteBudgets config → (kind : Kind) (payload buffer : List ℕ) (w most waits : ℕ)
-      → CeilingOf (config .«max_bus_retries») (length payload) (length buffer) kind most waits → (lent : ℕ → Lending) (outcomes : List BusOutcome)
+      → CeilingOf (budgetOf kind config (length buffer)) (length payload) (length buffer) kind most waits → (lent : ℕ → Lending) (outcomes : List BusOutcome)
       → NoMore most waits (fed (startOf kind config (length payload) (length buffer) w) payload buffer lent [] outcomes)
 
 -- the call that a host is left with is one that was reported to, so that what is said after any list of reports (`ceilings`, `waits`) is said of it
@@ -70,5 +71,5 @@ pub record RunWithin (payload course : List ℕ) (most waits : ℕ) (from : Worl
 
 pub record CourseTraffic : Type 0 where
   pub runs : (config : Config) → TwoByteBudgets config → (kind : Kind) (payload buffer work flash : List ℕ) (gauge : Gauge) (course : List ℕ) (most waits : ℕ)
-      → CeilingOf (config .«max_bus_retries») (length payload) (length buffer) kind most waits
+      → CeilingOf (budgetOf kind config (length buffer)) (length payload) (length buffer) kind most waits
       → RunWithin payload course most waits (begins kind config payload buffer work flash gauge)

@@ -26,7 +26,7 @@ use Rattle.promises.specs.Writes.{began, sent, shows, transferMade, run}
 abbrev pub worked : List Event → Transfer
 worked es =
     shows (replicate 33 7)
-    (run (replicate 33 7) es (began (record { «max_bus_retries» = 0; «pec_write» = true; «pec_read» = false; «growing_waits» = false }) 0x4000 (replicate 33 7) (replicate 39 0) (replicate 8192 0xFF)))
+    (run (replicate 33 7) es (began (record { «max_write_retries» = 0; «max_read_retries» = 2; «pec_write» = true; «pec_read» = false; «growing_waits» = false }) 0x4000 (replicate 33 7) (replicate 39 0) (replicate 8192 0xFF)))
 
 -- the first block's frame of 37 bytes, and the last block's of 6; then 0, 1, 2 and 6
 pub worked-runs :

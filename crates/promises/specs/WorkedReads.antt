@@ -30,7 +30,7 @@ use Rattle.promises.specs.Reads.{ReadWorld, readBegan, heard, headSent, 
 -- a read of 33 bytes at 4000 hex into a buffer of A5; the flash has a block of 1 there and then 2, and the pointer stands elsewhere
 abbrev pub workedStart : (pec : Bool) → ReadWorld
 workedStart pec =
-    readBegan (record { pointer = 0x5000 }) (record { «max_bus_retries» = 1; «pec_write» = false; «pec_read» = pec; «growing_waits» = false }) 0x4000 (replicate 33 0xA5) (replicate 39 0)
+    readBegan (record { pointer = 0x5000 }) (record { «max_write_retries» = 0; «max_read_retries» = 1; «pec_write» = false; «pec_read» = pec; «growing_waits» = false }) 0x4000 (replicate 33 0xA5) (replicate 39 0)
     (replicate 32 1 ++ replicate 8160 2)
 
 -- without a PEC

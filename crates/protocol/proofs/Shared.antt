@@ -9,10 +9,14 @@ use lib.ListN.{length, take, drop}
 use lib.Seq.{length-take-le}
 use borrow.Author.Tests.{lt-ltb, le-ltb, le-leb, lt-leb, eq-eqb, ne-eqb}
 use Rattle.protocol.specs.Pick.{if_then_else_}
+use Rattle.protocol.specs.Common.{retriesOn, TwoByteBudgets}
 use Rattle.protocol.specs.Bytes.{over, blockIn, storedAt, sendOf}
 use Rattle.protocol.specs.Frame.{sealed, laidOf, workLaid}
 use Rattle.protocol.specs.Reply.{bytesAsked, checkedOf, heardOf}
 use Rattle.protocol.specs.Laws.{Laws}
+use Rattle.protocol.specs.declared.common.Side.{Side}
+use Rattle.protocol.specs.declared.common.Side.the-variants as side
+use Rattle.protocol.specs.declared.common.Config.{Config}
 use Rattle.protocol.specs.declared.frame.Laid.the-variants.{Frame, NoRoom}
 use Rattle.protocol.specs.declared.reply.Ask.{Ask}
 use Rattle.protocol.specs.declared.reply.Heard.the-variants.{WrongLength, WrongPec, Good}
@@ -62,6 +66,11 @@ good ask reply h c = by (ask .pec) refl
     by true p = rw (eq-eqb (bytesAsked ask) (length reply) h, p, c p)
     by false p = rw (eq-eqb (bytesAsked ask) (length reply) h, p)
 
+-- each budget is that of a side
+pub few-on : (config : Config) → TwoByteBudgets config → (s : Side) → retriesOn config s ≤ 65535
+few-on config small side.Write = small .0
+few-on config small side.Read = small .1
+
 pub laws : Laws
 unfolding sealed if_then_else_
 laws = record {
@@ -79,4 +88,5 @@ laws = record {
   wrong-length = wrong-length;
   wrong-pec = wrong-pec;
   good = good;
+  sides = λ config. (refl, refl, refl, refl);
 }

@@ -14,8 +14,8 @@ pub data Figure : Type 0 where
   pec : List ℕ → ℕ → Figure
   -- a start, a length, and whether they pass
   window : ℕ → ℕ → Bool → Figure
-  -- the settings that a driver starts with: retries, a PEC on what it writes, on what it reads (common.rs, Config), and waits that grow
-  settings : ℕ → Bool → Bool → Bool → Figure
+  -- the settings that a driver starts with: retries of what writes and of what reads, a PEC on what it writes, on what it reads (common.rs, Config), and waits that grow
+  settings : ℕ → ℕ → Bool → Bool → Bool → Figure
 
 abbrev pub figures : List Figure
 figures =
@@ -33,7 +33,7 @@ figures =
     ∷ window 0x4000 8193 false
     ∷ window 0xFFFF 0 true
     ∷ window 0xFFFF 2 false
-    ∷ settings 3 false false false
+    ∷ settings 3 3 false false false
     ∷ []
 
 abbrev same : Bool → Bool → Bool
@@ -45,8 +45,8 @@ same false false = true
 abbrev pub right : Figure → Bool
 right (pec s p) = eqb (pecOf 0 s) p
 right (window start len passes) = same (inWindow start len) passes
-right (settings retries write read growing) =
-    eqb (defaultConfig .«max_bus_retries») retries && same (defaultConfig .«pec_write») write && same (defaultConfig .«pec_read») read && same (defaultConfig .«growing_waits») growing
+right (settings writes reads pecWrite pecRead growing) =
+    eqb (defaultConfig .«max_write_retries») writes && eqb (defaultConfig .«max_read_retries») reads && same (defaultConfig .«pec_write») pecWrite && same (defaultConfig .«pec_read») pecRead && same (defaultConfig .«growing_waits») growing
 
 abbrev pub all : List Bool → Bool
 all [] = true

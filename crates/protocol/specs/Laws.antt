@@ -1,5 +1,5 @@
 -- What the parts that all calls share come to, in plain lists and numbers: the window, the block copier, how many blocks there are, the part to send, the one
--- builder, the fixed pairs, when a reply is believed. (01, The step machine; Frames and retries)
+-- builder, the fixed pairs, when a reply is believed; and what the settings have on each side. (01, The step machine; Frames and retries; 02, W-211)
 -- Assumes nothing.
 use Prim.Native.Nat.{ℕ, _+_, _*_, _≤_, _<_, min}
 use mathlib.Core.Path.{_≡_}
@@ -7,10 +7,13 @@ use mathlib.Core.Bool.{Bool, true, false}
 use mathlib.Core.List.{List, [], _∷_, _++_}
 use lib.ListN.{length, take, drop}
 use Rattle.smbus_pec.specs.Pec.{pecOf}
+use Rattle.protocol.specs.Common.{retriesOn, pecOn}
 use Rattle.protocol.specs.Bytes.{blockIn, storedAt, blocksOf, sendOf}
 use Rattle.protocol.specs.Frame.{sealed, fixedPair, laidOf, workLaid}
 use Rattle.protocol.specs.Reply.{bytesAsked, checkedOf, heardOf}
 use Rattle.protocol.specs.Window.{windowFirst, windowLast, windowSize, windowEnd, inWindow, inWindowByLast}
+use Rattle.protocol.specs.declared.common.Side.the-variants as side
+use Rattle.protocol.specs.declared.common.Config.{Config}
 use Rattle.protocol.specs.declared.frame.Laid.the-variants.{Frame, NoRoom}
 use Rattle.protocol.specs.declared.frame.MacCommand.the-variants.{SecurityKeys, AuthenticationKey, ChargingVoltageOverride, MfgInfoC}
 use Rattle.protocol.specs.declared.reply.Ask.{Ask}
@@ -44,3 +47,7 @@ pub record Laws : Type 0 where
   pub wrong-length : (ask : Ask) (reply : List ℕ) → (bytesAsked ask ≡ length reply → ⊥) → heardOf ask reply ≡ WrongLength
   pub wrong-pec : (ask : Ask) (reply : List ℕ) → bytesAsked ask ≡ length reply → ask .pec ≡ true → checkedOf (ask .covered) reply ≡ false → heardOf ask reply ≡ WrongPec
   pub good : (ask : Ask) (reply : List ℕ) → bytesAsked ask ≡ length reply → (ask .pec ≡ true → checkedOf (ask .covered) reply ≡ true) → heardOf ask reply ≡ Good
+  -- a side has its own budget and its own PEC, as they stand in the settings
+  pub sides : (config : Config)
+      → (retriesOn config side.Write ≡ config .«max_write_retries») × (retriesOn config side.Read ≡ config .«max_read_retries»)
+      × (pecOn config side.Write ≡ config .«pec_write») × (pecOn config side.Read ≡ config .«pec_read»)

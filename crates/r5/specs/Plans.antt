@@ -72,7 +72,7 @@ readMfgInfo config n = reading.plainPlan config (limit.AtMost 33) (plainAsk 0x70
 
 -- data flash inside the window, in blocks of 32
 unfoldable pub readDataflash : Config → ℕ → ReadPlan
-readDataflash config start = reading.planOf config limit.Window (head.DataFlash start) (config .«pec_read») (reads.Blocks (config .«pec_read»))
+readDataflash config start = reading.planOf config limit.Window (head.DataFlash start) (reads.Blocks (config .«pec_read»))
 
 unfoldable pub writeDataflash : Config → ℕ → WritePlan
 writeDataflash config start = planOf config limit.Window (frames.DataFlash start)

@@ -180,7 +180,6 @@ pub fn read_dataflash(config: Config, starting_address: u16) -> ReadPlan
         config,
         Limit::Window,
         Head::DataFlash(starting_address),
-        config.pec_read,
         Reads::Blocks(config.pec_read),
     )
 }

@@ -7,6 +7,8 @@ use Rattle.protocol.specs.Pick.{if_then_else_}
 use Rattle.protocol.specs.Bytes.{blocksOf, blockStart}
 use Rattle.protocol.specs.Frame.{pairOf, fixedPair, macBytes, commandBytes}
 use Rattle.protocol.specs.Reply.{macAsk}
+use Rattle.protocol.specs.declared.common.Side.{Side}
+use Rattle.protocol.specs.declared.common.Side.the-variants as side
 use Rattle.protocol.specs.declared.reply.Ask.{Ask}
 use Rattle.reading.specs.declared.parts.Head.{Head}
 use Rattle.reading.specs.declared.parts.Head.the-variants as head
@@ -33,6 +35,12 @@ headBytes head.Bare i = []
 headBytes (head.Command address) i = commandBytes address
 headBytes (head.Mac command) i = macBytes (fixedPair command) []
 headBytes (head.DataFlash start) i = macBytes (pairOf (start + blockStart i)) []
+
+-- the side of a call with these reads: one that reads nothing is a write
+abbrev pub readsSide : Reads → Side
+readsSide reads.Nothing = side.Write
+readsSide (reads.Once ask) = side.Read
+readsSide (reads.Blocks pec) = side.Read
 
 -- how many reads there are for a buffer of n bytes
 unfoldable pub readCount : Reads → ℕ → ℕ

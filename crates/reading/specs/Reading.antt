@@ -1,11 +1,12 @@
 -- A reading call, step by step. (01, The step machine; Frames and retries)
 -- Assumes nothing.
 use Prim.Native.Nat.{ℕ}
-use mathlib.Core.Bool.{Bool, false}
+use mathlib.Core.Bool.{false}
 use mathlib.Core.List.{List}
 use lib.ListN.{length}
 use lib.Dec.{eqb}
 use Rattle.protocol.specs.Pick.{if_then_else_}
+use Rattle.protocol.specs.Common.{retriesOn, pecOn}
 use Rattle.protocol.specs.Bytes.{storedAt, blockStart}
 use Rattle.protocol.specs.Frame.{laidOf, workLaid}
 use Rattle.protocol.specs.Reply.{macAsk, bytesAsked, heardOf, dataOf}
@@ -39,17 +40,24 @@ use Rattle.reading.specs.declared.call.Verdict.the-variants as verdict
 use Rattle.reading.specs.declared.call.ReadReported.{ReadReported}
 use Rattle.reading.specs.declared.call.ReadReported.the-variants as reported
 
--- by the settings' retries and waits
-abbrev pub planOf : Config → Limit → Head → Bool → Reads → ReadPlan
-planOf config limit head pec reads = record { retries = config .«max_bus_retries»; growing = config .«growing_waits»; limit = limit; head = head; «head_pec» = pec; reads = reads }
+-- by the settings' waits and, on the side of its reads, their retries and PEC: its head goes by the budget of its reads (02, W-211)
+abbrev pub planOf : Config → Limit → Head → Reads → ReadPlan
+planOf config limit head reads = record {
+  retries = retriesOn config (parts.readsSide reads);
+  growing = config .«growing_waits»;
+  limit = limit;
+  head = head;
+  «head_pec» = pecOn config (parts.readsSide reads);
+  reads = reads;
+}
 
 -- one plain read, with no head
 unfoldable pub plainPlan : Config → Limit → Ask → ReadPlan
-plainPlan config limit ask = planOf config limit head.Bare false (reads.Once ask)
+plainPlan config limit ask = planOf config limit head.Bare (reads.Once ask)
 
--- a MAC read: the command's frame, then one read; every frame of a read goes by `pec_read`
+-- a MAC read: the command's frame, then one read
 unfoldable pub macPlan : Config → Limit → MacCommand → ℕ → ReadPlan
-macPlan config limit command wanted = planOf config limit (head.Mac command) (config .«pec_read») (reads.Once (macAsk 0x44 wanted (config .«pec_read»)))
+macPlan config limit command wanted = planOf config limit (head.Mac command) (reads.Once (macAsk 0x44 wanted (config .«pec_read»)))
 
 -- a call with a buffer of n bytes and a work buffer of w
 unfoldable pub startOf : ReadPlan → ℕ → ℕ → ReadCall

@@ -32,16 +32,17 @@ pub struct ReadPlan {
 }
 
 impl ReadPlan {
-    // A head, with a PEC or without, and reads of a call whose limit is this, by the settings' retries and waits.
-    pub fn new(config: Config, limit: Limit, head: Head, head_pec: bool, reads: Reads) -> ReadPlan
-        ensures { λ r. ⌜ r ≡ planOf config limit head «head_pec» reads ⌝ }
+    // A head and reads of a call whose limit is this, by the settings' waits and, on the side of the reads, by their retries and PEC.
+    pub fn new(config: Config, limit: Limit, head: Head, reads: Reads) -> ReadPlan
+        ensures { λ r. ⌜ r ≡ planOf config limit head reads ⌝ }
     {
+        let side = reads.side();
         ReadPlan {
-            retries: config.max_bus_retries,
+            retries: config.retries(side),
             growing: config.growing_waits,
             limit,
             head,
-            head_pec,
+            head_pec: config.pec(side),
             reads,
         }
     }
@@ -50,7 +51,7 @@ impl ReadPlan {
     pub fn plain(config: Config, limit: Limit, ask: Ask) -> ReadPlan
         ensures { λ r. ⌜ r ≡ plainPlan config limit ask ⌝ }
     {
-        ReadPlan::new(config, limit, Head::Bare, false, Reads::Once(ask))
+        ReadPlan::new(config, limit, Head::Bare, Reads::Once(ask))
     }
 
     // A MAC read: the command's frame, then one read of so many bytes, both by `pec_read`.
@@ -61,7 +62,6 @@ impl ReadPlan {
             config,
             limit,
             Head::Mac(command),
-            config.pec_read,
             Reads::Once(Ask::mac(MAC_CMD, count, config.pec_read)),
         )
     }

@@ -1,5 +1,6 @@
 // What a reading call is made of: a head frame, perhaps, and the reads that follow it.
 use protocol::bytes;
+use protocol::common::Side;
 use protocol::consts::LARGEST_DF_BLOCK_SIZE_BYTES;
 use protocol::consts::MAC_CMD;
 use protocol::frame;
@@ -9,7 +10,7 @@ use protocol::reply::Ask;
 ghost use mathlib.Core.Path.{_≡_};
 ghost use lib.ListN.{length};
 ghost use Rattle.protocol.specs.Frame.{laidOf, workLaid};
-ghost use Rattle.reading.specs.Parts.{hasHead, headBytes, firstAddress, readCount, leftOf, blockAsk, askOf, mostOf};
+ghost use Rattle.reading.specs.Parts.{hasHead, headBytes, firstAddress, readsSide, readCount, leftOf, blockAsk, askOf, mostOf};
 
 // The frame that opens a reading call, and opens it again after a failure.
 pub enum Head {
@@ -97,6 +98,17 @@ fn block_ask(left: usize, pec: bool) -> Ask
 }
 
 impl Reads {
+    // The side of a call with these reads: one that reads nothing is a write.
+    pub(crate) fn side(self) -> Side
+        ensures { λ r. ⌜ r ≡ readsSide self ⌝ }
+    {
+        match self {
+            Reads::Nothing => Side::Write,
+            Reads::Once(_) => Side::Read,
+            Reads::Blocks(_) => Side::Read,
+        }
+    }
+
     // How many reads there are for a buffer of so many bytes.
     pub(crate) fn count(self, len: usize) -> usize
         ensures { λ r. ⌜ r ≡ readCount self len ⌝ }

@@ -6,9 +6,9 @@ use mathlib.Core.List.{List}
 use native.Mathlib.Omega.{arith}
 use lib.ListN.{length, drop, getD}
 use Rattle.protocol.specs.Pick.{if_then_else_}
-use Rattle.protocol.specs.declared.common.Config.{Config}
 use Rattle.calls.specs.declared.kind.Kind.{Kind}
-use Rattle.requests.specs.Request.{configOf, bad, calledOf, exactOf, askedOf, requestLine}
+use Rattle.requests.specs.Request.{headerOf, bad, calledOf, exactOf, askedOf, requestLine}
+use Rattle.requests.specs.declared.request.Header.{Header}
 use Rattle.requests.specs.declared.request.Request.{Request}
 
 module _ (P : Request → Type 0) (none : P bad) where
@@ -19,14 +19,14 @@ module _ (P : Request → Type 0) (none : P bad) where
   either false x y p q = q
 
   -- a payload of exactly so many bytes, or not
-  exact : (c : Config) (n : ℕ) (k : Kind) (at payload size : ℕ) → P (calledOf k c at size n) → P (exactOf k c at payload size n)
+  exact : (h : Header) (n : ℕ) (k : Kind) (at payload size : ℕ) → P (calledOf k h at size n) → P (exactOf k h at payload size n)
   unfolding exactOf
-  exact c n k at payload size p = either _ _ _ p none
+  exact h n k at payload size p = either _ _ _ p none
 
   -- at most six bytes of arguments stand before a payload
-  every-kind : (c : Config) (args : List ℕ) → ((k : Kind) (at size : ℕ) → at ≤ 6 → P (calledOf k c at size (length args))) → (n : ℕ) → P (askedOf n c args)
+  every-kind : (h : Header) (args : List ℕ) → ((k : Kind) (at size : ℕ) → at ≤ 6 → P (calledOf k h at size (length args))) → (n : ℕ) → P (askedOf n h args)
   unfolding askedOf
-  every-kind c args call n =
+  every-kind h args call n =
       either _ _ _ (call _ _ _ (omega arith))
       (either _ _ _ (exact _ _ _ _ _ _ (call _ _ _ (omega arith)))
       (either _ _ _ (call _ _ _ (omega arith))
@@ -48,6 +48,6 @@ module _ (P : Request → Type 0) (none : P bad) where
       (either _ _ _ (call _ _ _ (omega arith))
       none))))))))))))))))))
 
-  pub every-request : (line : List ℕ) → ((k : Kind) (at size : ℕ) → at ≤ 6 → P (calledOf k (configOf line) at size (length (drop 4 line)))) → P (requestLine line)
+  pub every-request : (line : List ℕ) → ((k : Kind) (at size : ℕ) → at ≤ 6 → P (calledOf k (headerOf line) at size (length (drop (headerOf line .bytes) line)))) → P (requestLine line)
   unfolding requestLine
-  every-request line call = either _ _ _ none (either _ _ _ none (every-kind (configOf line) (drop 4 line) call (getD line 0 0)))
+  every-request line call = either _ _ _ none (either _ _ _ none (every-kind (headerOf line) (drop (headerOf line .bytes) line) call (getD line 0 0)))

@@ -11,7 +11,7 @@ use Rattle.protocol.specs.Pick.{if_then_else_}
 use Rattle.protocol.proofs.Cases.{cases}
 use Rattle.calls.specs.declared.kind.Kind.{Kind}
 use Rattle.requests.specs.Outcome.{acknowledgedLine, errorLine, timeoutLine, outcomeLine}
-use Rattle.requests.specs.Request.{configOf, bad, calledOf, longestRequest, requestLine}
+use Rattle.requests.specs.Request.{twoBudgets, headerBytes, headerOf, unknownFlags, longestHeader, bad, calledOf, longestRequest, requestLine}
 use Rattle.requests.specs.declared.outcome.Told.the-variants as told
 use Rattle.requests.specs.declared.request.Request.the-variants as request
 use Rattle.requests.proofs.Every.{every-request}
@@ -23,21 +23,35 @@ either true x y z p q = p
 either false x y z p q = q
 
 pub empty-request : requestLine [] ≡ bad
-unfolding requestLine if_then_else_
+unfolding requestLine unknownFlags headerOf headerBytes twoBudgets if_then_else_
 empty-request = refl
+
+-- a header has at most six bytes
+four-or-six : (t : Bool) → (if t then longestHeader else 4) ≤ longestHeader
+unfolding if_then_else_
+four-or-six true = omega arith
+four-or-six false = omega arith
+
+header-most : (line : List ℕ) → headerOf line .bytes ≤ longestHeader
+unfolding headerOf headerBytes
+header-most line = four-or-six (twoBudgets (getD line 1 0))
 
 pub long-request : (line : List ℕ) → longestRequest < length line → requestLine line ≡ bad
 unfolding calledOf
 long-request line h = every-request (λ r. r ≡ bad) refl line (λ k at size few. long k at size few)
   where
-    n : length (drop 4 line) ≡ length line - 4
-    n = length-drop 4 line
+    arguments : List ℕ
+    arguments = drop (headerOf line .bytes) line
 
-    long : (k : Kind) (at size : ℕ) → at ≤ 6 → calledOf k (configOf line) at size (length (drop 4 line)) ≡ bad
+    n : length arguments ≡ length line - headerOf line .bytes
+    n = length-drop (headerOf line .bytes) line
+
+    long : (k : Kind) (at size : ℕ) → at ≤ 6 → calledOf k (headerOf line) at size (length arguments) ≡ bad
     long k at size few =
-        let p : 8192 < length (drop 4 line) - at = omega (arith, n) in
-        let q : (if ltb 8192 (length (drop 4 line) - at) then bad else request.Call k (configOf line) (4 + at) size) ≡ bad = sym (search cases) in
-        either (ltb 8192 size) _ _ _ refl (either (ltb (length (drop 4 line)) at) _ _ _ refl q)
+        let short : headerOf line .bytes ≤ longestHeader = header-most line in
+        let p : 8192 < length arguments - at = omega (arith, n) in
+        let q : (if ltb 8192 (length arguments - at) then bad else request.Call k (headerOf line .config) (headerOf line .bytes + at) size) ≡ bad = sym (search cases) in
+        either (ltb 8192 size) _ _ _ refl (either (ltb (length arguments) at) _ _ _ refl q)
 
 long-acknowledged : (n : ℕ) → 8193 < n → acknowledgedLine n ≡ told.Bad
 unfolding acknowledgedLine

@@ -10,7 +10,7 @@ use lib.Dec.{ltb}
 use borrow.Author.Tests.{ltb-false}
 use Rattle.protocol.specs.Pick.{if_then_else_}
 use Rattle.calls.specs.declared.kind.Kind.{Kind}
-use Rattle.requests.specs.Request.{configOf, bad, calledOf, requestLine}
+use Rattle.requests.specs.Request.{headerOf, bad, calledOf, requestLine}
 use Rattle.requests.specs.declared.request.Request.{Request}
 use Rattle.requests.specs.declared.request.Request.the-variants as request
 use Rattle.requests.proofs.Every.{every-request}
@@ -30,7 +30,10 @@ pub small-request : (line : List ℕ) → Small (length line) (requestLine line)
 unfolding calledOf
 small-request line = every-request (Small (length line)) tt line (λ k at size few. small k at size)
   where
-    small : (k : Kind) (at size : ℕ) → Small (length line) (calledOf k (configOf line) at size (length (drop 4 line)))
+    arguments : List ℕ
+    arguments = drop (headerOf line .bytes) line
+
+    small : (k : Kind) (at size : ℕ) → Small (length line) (calledOf k (headerOf line) at size (length arguments))
     small k at size =
-        otherwise (length line) (ltb 8192 size) _ (λ s. otherwise (length line) (ltb (length (drop 4 line)) at) _ (λ e. otherwise (length line) (ltb 8192 (length (drop 4 line) - at)) _
-        (λ p. (omega (arith, ltb-false 8192 (length (drop 4 line) - at) p, length-drop 4 line), ltb-false 8192 size s))))
+        otherwise (length line) (ltb 8192 size) _ (λ s. otherwise (length line) (ltb (length arguments) at) _ (λ e. otherwise (length line) (ltb 8192 (length arguments - at)) _
+        (λ p. (omega (arith, ltb-false 8192 (length arguments - at) p, length-drop (headerOf line .bytes) line), ltb-false 8192 size s))))

@@ -10,7 +10,7 @@ use Rattle.protocol.specs.declared.common.Config.{Config}
 use Rattle.engine.specs.declared.bus.Outcome.the-variants as outcome
 use Rattle.calls.specs.declared.kind.Kind.the-variants as kind
 use Rattle.requests.specs.Fields.{pairAt, quadAt}
-use Rattle.requests.specs.Request.{configOf, unknownFlags, bad, calledOf, exactOf, askedOf, requestLine}
+use Rattle.requests.specs.Request.{twoBudgets, headerBytes, readRetries, configOf, headerOf, unknownFlags, bad, calledOf, exactOf, askedOf, requestLine}
 use Rattle.requests.specs.Retired.{retiredKind}
 use Rattle.requests.specs.Outcome.{acknowledgedLine, errorLine, timeoutLine, outcomeLine}
 use Rattle.requests.specs.declared.outcome.Told.{Told}
@@ -26,13 +26,13 @@ pub data Figure : Type 0 where
   -- a request line in ASCII, and whether its kind is retired
   begins : List ℕ → Bool → Figure
 
--- retries, the PEC of writes and that of reads, and whether waits grow
-abbrev settings : ℕ → Bool → Bool → Bool → Config
-settings n w r g = record { «max_bus_retries» = n; «pec_write» = w; «pec_read» = r; «growing_waits» = g }
+-- the retries of writes and of reads, the PEC of writes and that of reads, and whether waits grow
+abbrev settings : ℕ → ℕ → Bool → Bool → Bool → Config
+settings writes reads w r g = record { «max_write_retries» = writes; «max_read_retries» = reads; «pec_write» = w; «pec_read» = r; «growing_waits» = g }
 
 -- no PEC, no retries and waits of one length
 abbrev plain : Config
-plain = settings 0 false false false
+plain = settings 0 0 false false false
 
 -- a kind, no flags, no retries, and its arguments
 abbrev line : ℕ → List ℕ → List ℕ
@@ -64,9 +64,6 @@ figures =
     ∷ asks (line 0x0C (0x12 ∷ 0x02 ∷ 0x01 ∷ [])) bad
     ∷ asks (line 0x0D (0x12 ∷ 0xAA ∷ [])) bad
     ∷ asks (line 0x16 []) bad
-    ∷ asks (0x08 ∷ 0x03 ∷ 0x00 ∷ 0x00 ∷ []) (request.Call kind.ReadSecurityKeys (settings 0 true true false) 4 28)
-    ∷ asks (0x08 ∷ 0x04 ∷ 0x00 ∷ 0x00 ∷ []) bad
-    ∷ asks (0x08 ∷ 0x0C ∷ 0x00 ∷ 0x00 ∷ []) bad
     ∷ asks (0x08 ∷ 0x10 ∷ 0x00 ∷ 0x00 ∷ []) bad
     ∷ asks (0x08 ∷ 0x28 ∷ 0x00 ∷ 0x00 ∷ []) bad
     ∷ asks (0x08 ∷ 0x40 ∷ 0x00 ∷ 0x00 ∷ []) bad
@@ -113,15 +110,30 @@ figures =
     ∷ says (0x02 ∷ 0x00 ∷ []) told.Bad
     ∷ says (0x03 ∷ []) told.Bad
     ∷ says [] told.Bad
-    -- settings: the retries low byte first, bit 0 the PEC of writes, bit 1 that of reads, bit 3 waits that grow
-    ∷ asks (0x08 ∷ 0x01 ∷ 0x02 ∷ 0x01 ∷ []) (request.Call kind.ReadSecurityKeys (settings 0x0102 true false false) 4 28)
-    ∷ asks (0x08 ∷ 0x02 ∷ 0xFF ∷ 0xFF ∷ []) (request.Call kind.ReadSecurityKeys (settings 65535 false true false) 4 28)
-    ∷ asks (0x08 ∷ 0x03 ∷ 0x00 ∷ 0x00 ∷ []) (request.Call kind.ReadSecurityKeys (settings 0 true true false) 4 28)
-    ∷ asks (0x08 ∷ 0x00 ∷ 0x00 ∷ 0x00 ∷ []) (request.Call kind.ReadSecurityKeys (settings 0 false false false) 4 28)
-    ∷ asks (0x08 ∷ 0x08 ∷ 0x06 ∷ 0x00 ∷ []) (request.Call kind.ReadSecurityKeys (settings 6 false false true) 4 28)
-    ∷ asks (0x08 ∷ 0x09 ∷ 0x00 ∷ 0x00 ∷ []) (request.Call kind.ReadSecurityKeys (settings 0 true false true) 4 28)
-    ∷ asks (0x08 ∷ 0x0A ∷ 0x00 ∷ 0x00 ∷ []) (request.Call kind.ReadSecurityKeys (settings 0 false true true) 4 28)
-    ∷ asks (0x08 ∷ 0x0B ∷ 0x00 ∷ 0x00 ∷ []) (request.Call kind.ReadSecurityKeys (settings 0 true true true) 4 28)
+    -- settings: the retries low byte first, for writes and for reads; bit 0 the PEC of writes, bit 1 that of reads, bit 3 waits that grow
+    ∷ asks (0x08 ∷ 0x01 ∷ 0x02 ∷ 0x01 ∷ []) (request.Call kind.ReadSecurityKeys (settings 0x0102 0x0102 true false false) 4 28)
+    ∷ asks (0x08 ∷ 0x02 ∷ 0xFF ∷ 0xFF ∷ []) (request.Call kind.ReadSecurityKeys (settings 65535 65535 false true false) 4 28)
+    ∷ asks (0x08 ∷ 0x03 ∷ 0x00 ∷ 0x00 ∷ []) (request.Call kind.ReadSecurityKeys (settings 0 0 true true false) 4 28)
+    ∷ asks (0x08 ∷ 0x08 ∷ 0x06 ∷ 0x00 ∷ []) (request.Call kind.ReadSecurityKeys (settings 6 6 false false true) 4 28)
+    ∷ asks (0x08 ∷ 0x09 ∷ 0x00 ∷ 0x00 ∷ []) (request.Call kind.ReadSecurityKeys (settings 0 0 true false true) 4 28)
+    ∷ asks (0x08 ∷ 0x0A ∷ 0x00 ∷ 0x00 ∷ []) (request.Call kind.ReadSecurityKeys (settings 0 0 false true true) 4 28)
+    ∷ asks (0x08 ∷ 0x0B ∷ 0x00 ∷ 0x00 ∷ []) (request.Call kind.ReadSecurityKeys (settings 0 0 true true true) 4 28)
+    -- bit 2: two budgets, that of writes first, and the arguments after them
+    ∷ asks (0x08 ∷ 0x04 ∷ 0x02 ∷ 0x01 ∷ 0x04 ∷ 0x03 ∷ []) (request.Call kind.ReadSecurityKeys (settings 0x0102 0x0304 false false false) 6 28)
+    ∷ asks (0x08 ∷ 0x05 ∷ 0x00 ∷ 0x00 ∷ 0x00 ∷ 0x00 ∷ []) (request.Call kind.ReadSecurityKeys (settings 0 0 true false false) 6 28)
+    ∷ asks (0x08 ∷ 0x06 ∷ 0x00 ∷ 0x00 ∷ 0x00 ∷ 0x00 ∷ []) (request.Call kind.ReadSecurityKeys (settings 0 0 false true false) 6 28)
+    ∷ asks (0x08 ∷ 0x0C ∷ 0x00 ∷ 0x00 ∷ 0x00 ∷ 0x00 ∷ []) (request.Call kind.ReadSecurityKeys (settings 0 0 false false true) 6 28)
+    ∷ asks (0x08 ∷ 0x0F ∷ 0xFF ∷ 0xFF ∷ 0x00 ∷ 0x00 ∷ []) (request.Call kind.ReadSecurityKeys (settings 65535 0 true true true) 6 28)
+    ∷ asks (0x01 ∷ 0x04 ∷ 0x00 ∷ 0x00 ∷ 0x02 ∷ 0x00 ∷ 0x34 ∷ 0x12 ∷ 0xAA ∷ []) (request.Call (kind.WriteDataflash 0x1234) (settings 0 2 false false false) 8 0)
+    -- too short for both; then an argument too many and too few, the longest line and one byte more, and a flag beside bit 2 that means nothing
+    ∷ asks (0x08 ∷ 0x04 ∷ 0x02 ∷ 0x01 ∷ []) bad
+    ∷ asks (0x08 ∷ 0x0C ∷ 0x00 ∷ 0x00 ∷ []) bad
+    ∷ asks (0x08 ∷ 0x04 ∷ 0x02 ∷ 0x01 ∷ 0x04 ∷ []) bad
+    ∷ asks (0x08 ∷ 0x04 ∷ 0x02 ∷ 0x01 ∷ 0x04 ∷ 0x03 ∷ 0x00 ∷ []) bad
+    ∷ asks (0x02 ∷ 0x04 ∷ 0x34 ∷ 0x12 ∷ 0x02 ∷ 0x01 ∷ []) bad
+    ∷ asks (0x05 ∷ 0x04 ∷ 0x00 ∷ 0x00 ∷ 0x02 ∷ 0x00 ∷ 0x78 ∷ 0x56 ∷ 0x34 ∷ 0x12 ∷ 0x00 ∷ 0x00 ∷ replicate 8192 0xAA) (request.Call (kind.DispatchCommand 0x12345678) (settings 0 2 false false false) 12 0)
+    ∷ asks (0x05 ∷ 0x04 ∷ 0x00 ∷ 0x00 ∷ 0x02 ∷ 0x00 ∷ 0x78 ∷ 0x56 ∷ 0x34 ∷ 0x12 ∷ 0x00 ∷ 0x00 ∷ replicate 8193 0xAA) bad
+    ∷ asks (0x08 ∷ 0x14 ∷ 0x00 ∷ 0x00 ∷ 0x00 ∷ 0x00 ∷ []) bad
     -- retired by the first two characters, 0C or 0D, whatever follows; 0c, 0B, 0E, 1C and C0 are others, and one character is too few
     ∷ begins (0x30 ∷ 0x43 ∷ []) true
     ∷ begins (0x30 ∷ 0x44 ∷ []) true
@@ -144,5 +156,5 @@ Hold (says s t ∷ more) = (outcomeLine s ≡ t) × Hold more
 Hold (begins s t ∷ more) = (retiredKind s ≡ t) × Hold more
 
 pub figures-hold : Hold figures
-unfolding pairAt quadAt configOf unknownFlags calledOf exactOf askedOf requestLine retiredKind acknowledgedLine errorLine timeoutLine outcomeLine if_then_else_
-figures-hold = (refl, (refl, (refl, (refl, (refl, (refl, (refl, (refl, (refl, (refl, (refl, (refl, (refl, (refl, (refl, (refl, (refl, (refl, (refl, (refl, (refl, (refl, (refl, (refl, (refl, (refl, (refl, (refl, (refl, (refl, (refl, (refl, (refl, (refl, (refl, (refl, (refl, (refl, (refl, (refl, (refl, (refl, (refl, (refl, (refl, (refl, (refl, (refl, (refl, (refl, (refl, (refl, (refl, (refl, (refl, (refl, (refl, (refl, (refl, (refl, (refl, (refl, (refl, (refl, (refl, (refl, (refl, (refl, (refl, (refl, (refl, (refl, (refl, (refl, (refl, (refl, (refl, (refl, (refl, (refl, (refl, (refl, (refl, (refl, (refl, (refl, (refl, (refl, tt))))))))))))))))))))))))))))))))))))))))))))))))))))))))))))))))))))))))))))))))))))))))
+unfolding pairAt quadAt twoBudgets headerBytes readRetries configOf headerOf unknownFlags calledOf exactOf askedOf requestLine retiredKind acknowledgedLine errorLine timeoutLine outcomeLine if_then_else_
+figures-hold = (refl, (refl, (refl, (refl, (refl, (refl, (refl, (refl, (refl, (refl, (refl, (refl, (refl, (refl, (refl, (refl, (refl, (refl, (refl, (refl, (refl, (refl, (refl, (refl, (refl, (refl, (refl, (refl, (refl, (refl, (refl, (refl, (refl, (refl, (refl, (refl, (refl, (refl, (refl, (refl, (refl, (refl, (refl, (refl, (refl, (refl, (refl, (refl, (refl, (refl, (refl, (refl, (refl, (refl, (refl, (refl, (refl, (refl, (refl, (refl, (refl, (refl, (refl, (refl, (refl, (refl, (refl, (refl, (refl, (refl, (refl, (refl, (refl, (refl, (refl, (refl, (refl, (refl, (refl, (refl, (refl, (refl, (refl, (refl, (refl, (refl, (refl, (refl, (refl, (refl, (refl, (refl, (refl, (refl, (refl, (refl, (refl, (refl, tt))))))))))))))))))))))))))))))))))))))))))))))))))))))))))))))))))))))))))))))))))))))))))))))))))

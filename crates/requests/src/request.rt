@@ -1,4 +1,4 @@
-// A request line: kind, flags, retries (2 bytes), then the arguments of the kind. Every number is low byte first.
+// A request line: kind, flags, retries (2 bytes, or two budgets of 2, that of writes first), then the arguments of the kind. Every number is low byte first.
 use crate::fields::byte;
 use crate::fields::pair;
 use crate::fields::quad;
@@ -12,20 +12,29 @@ use protocol::error::Answer;
 ghost use mathlib.Core.Path.{_≡_};
 ghost use Prim.Native.Nat.{_<_};
 ghost use lib.ListN.{length};
-ghost use Rattle.requests.specs.Request.{configOf, unknownFlags, calledOf, exactOf, askedOf, requestLine};
+ghost use Rattle.requests.specs.Request.{twoBudgets, headerBytes, readRetries, configOf, headerOf, unknownFlags, calledOf, exactOf, askedOf, requestLine};
 ghost use Rattle.requests.specs.Retired.{retiredKind};
 
 // A payload, an input, a buffer and a reply have at most so many bytes.
 pub const MOST_BYTES: usize = 8192;
 
-// The header: kind, flags, retries. The arguments follow it.
-const HEADER_BYTES: usize = 4;
+// The header with one number of retries: kind, flags, retries. The arguments follow it.
+const HEADER_BYTES: u8 = 4;
+
+// The header with two budgets.
+const LONGEST_HEADER: u8 = HEADER_BYTES + 2;
 
 // Where a command's input starts in its arguments, the most that stand before a payload.
 const INPUT_AT: usize = 6;
 
 // The longest request line is a command's.
-pub const LONGEST_REQUEST: usize = HEADER_BYTES + INPUT_AT + MOST_BYTES;
+pub const LONGEST_REQUEST: usize = LONGEST_HEADER as usize + INPUT_AT + MOST_BYTES;
+
+// What a header says: the settings, in so many bytes (a `u8`, so that a place behind it is a number of the machine).
+pub struct Header {
+    pub config: Config,
+    pub bytes: u8,
+}
 
 // What a request line asks for.
 pub enum Request {
@@ -41,8 +50,8 @@ pub enum Request {
 }
 
 // A call with a buffer of `len` bytes, whose payload is what follows `at` bytes of its arguments; each has at most `MOST_BYTES`.
-fn call(kind: Kind, config: Config, at: usize, len: usize, args: &[u8]) -> Request
-    ensures { λ r. ⌜ r ≡ calledOf kind config at len (length (now (args .entry))) ⌝ }
+fn call(kind: Kind, header: Header, at: usize, len: usize, args: &[u8]) -> Request
+    ensures { λ r. ⌜ r ≡ calledOf kind header at len (length (now (args .entry))) ⌝ }
 {
     if MOST_BYTES < len {
         return Request::Refused(Answer::BadLine);
@@ -53,44 +62,45 @@ fn call(kind: Kind, config: Config, at: usize, len: usize, args: &[u8]) -> Reque
     if MOST_BYTES < args.len() - at {
         return Request::Refused(Answer::BadLine);
     }
+    let config = header.config;
     Request::Call {
         kind,
         config,
-        at: HEADER_BYTES + at,
+        at: header.bytes as usize + at,
         len,
     }
 }
 
 // A call whose payload has exactly so many bytes.
-fn exact(kind: Kind, config: Config, at: usize, payload: usize, len: usize, args: &[u8]) -> Request
+fn exact(kind: Kind, header: Header, at: usize, payload: usize, len: usize, args: &[u8]) -> Request
     requires { ⌜ at < 256 ⌝ ∗ ⌜ payload < 256 ⌝ }
-    ensures { λ r. ⌜ r ≡ exactOf kind config at payload len (length (now (args .entry))) ⌝ }
+    ensures { λ r. ⌜ r ≡ exactOf kind header at payload len (length (now (args .entry))) ⌝ }
 {
     if args.len() == at + payload {
-        call(kind, config, at, len, args)
+        call(kind, header, at, len, args)
     } else {
         Request::Refused(Answer::BadLine)
     }
 }
 
-// What a kind asks for, by its number, the settings and its arguments.
-fn asked(kind: u8, config: Config, args: &[u8]) -> Request
-    ensures { λ r. ⌜ r ≡ askedOf kind config (now (args .entry)) ⌝ }
+// What a kind asks for, by its number, the header and its arguments.
+fn asked(kind: u8, header: Header, args: &[u8]) -> Request
+    ensures { λ r. ⌜ r ≡ askedOf kind header (now (args .entry)) ⌝ }
 {
     match kind {
-        0x01 => call(Kind::WriteDataflash(pair(args, 0)), config, 2, 0, args),
+        0x01 => call(Kind::WriteDataflash(pair(args, 0)), header, 2, 0, args),
         0x02 => exact(
             Kind::ReadDataflash(pair(args, 0)),
-            config,
+            header,
             4,
             0,
             pair(args, 2) as usize,
             args,
         ),
-        0x03 => call(Kind::WriteRegister(byte(args, 0)), config, 1, 0, args),
+        0x03 => call(Kind::WriteRegister(byte(args, 0)), header, 1, 0, args),
         0x04 => exact(
             Kind::ReadRegister(byte(args, 0)),
-            config,
+            header,
             3,
             0,
             pair(args, 1) as usize,
@@ -98,45 +108,45 @@ fn asked(kind: u8, config: Config, args: &[u8]) -> Request
         ),
         0x05 => call(
             Kind::DispatchCommand(quad(args, 0)),
-            config,
+            header,
             INPUT_AT,
             pair(args, 4) as usize,
             args,
         ),
         0x06 => exact(
             Kind::ReadBuffer(byte(args, 0)),
-            config,
+            header,
             3,
             0,
             pair(args, 1) as usize,
             args,
         ),
-        0x07 => call(Kind::WriteBuffer(byte(args, 0)), config, 1, 0, args),
+        0x07 => call(Kind::WriteBuffer(byte(args, 0)), header, 1, 0, args),
         0x08 => exact(
             Kind::ReadSecurityKeys,
-            config,
+            header,
             0,
             0,
             SECURITY_KEYS_R5_DATA_LEN_BYTES,
             args,
         ),
-        0x09 => call(Kind::WriteSecurityKeys, config, 0, 0, args),
+        0x09 => call(Kind::WriteSecurityKeys, header, 0, 0, args),
         0x0A => exact(
             Kind::ReadAuthenticationKey,
-            config,
+            header,
             0,
             0,
             AUTH_KEY_DATA_LEN_BYTES,
             args,
         ),
-        0x0B => call(Kind::WriteAuthenticationKey, config, 0, 0, args),
+        0x0B => call(Kind::WriteAuthenticationKey, header, 0, 0, args),
         // 0C and 0D are retired and never given out again: their lines are refused by `retired_kind`, before they are decoded.
         0x0E => exact(
             Kind::SendAccessKey {
                 lower: pair(args, 0),
                 upper: pair(args, 2),
             },
-            config,
+            header,
             4,
             0,
             0,
@@ -144,7 +154,7 @@ fn asked(kind: u8, config: Config, args: &[u8]) -> Request
         ),
         0x0F => exact(
             Kind::ReadMfgInfoC,
-            config,
+            header,
             2,
             0,
             pair(args, 0) as usize,
@@ -155,23 +165,23 @@ fn asked(kind: u8, config: Config, args: &[u8]) -> Request
                 lower: pair(args, 0),
                 upper: pair(args, 2),
             },
-            config,
+            header,
             4,
             0,
             args,
         ),
         0x11 => exact(
             Kind::ReadMfgInfo,
-            config,
+            header,
             2,
             0,
             pair(args, 0) as usize,
             args,
         ),
-        0x12 => call(Kind::WriteMfgInfo, config, 0, 0, args),
+        0x12 => call(Kind::WriteMfgInfo, header, 0, 0, args),
         0x13 => exact(
             Kind::ReadChargingVoltageOverride,
-            config,
+            header,
             0,
             0,
             CHRG_VOLTAGE_OVERRIDE_SIZE_BYTES,
@@ -179,22 +189,51 @@ fn asked(kind: u8, config: Config, args: &[u8]) -> Request
         ),
         0x14 => exact(
             Kind::WriteChargingVoltageOverride,
-            config,
+            header,
             0,
             CHRG_VOLTAGE_OVERRIDE_SIZE_BYTES,
             0,
             args,
         ),
-        0x15 => call(Kind::WriteWithRetries, config, 0, 0, args),
+        0x15 => call(Kind::WriteWithRetries, header, 0, 0, args),
         _ => Request::Refused(Answer::BadLine),
     }
 }
 
-// Whether a flag is set that means nothing: bit 2, or one of bits 4 to 7.
+// Whether a flag is set that means nothing: one of bits 4 to 7.
 fn unknown_flags(flags: u8) -> bool
     ensures { λ r. ⌜ r ≡ unknownFlags flags ⌝ }
 {
-    if 15 < flags { true } else { flags / 4 % 2 == 1 }
+    15 < flags
+}
+
+// Whether two budgets follow the flags: bit 2.
+fn two_budgets(flags: u8) -> bool
+    ensures { λ r. ⌜ r ≡ twoBudgets flags ⌝ }
+{
+    flags / 4 % 2 == 1
+}
+
+// How many bytes the header has.
+fn header_bytes(flags: u8) -> u8
+    ensures { λ r. ⌜ r ≡ headerBytes flags ⌝ }
+{
+    if two_budgets(flags) {
+        LONGEST_HEADER
+    } else {
+        HEADER_BYTES
+    }
+}
+
+// The retries of reads: they follow those of writes, or are the same number.
+fn read_retries(line: &[u8]) -> u16
+    ensures { λ r. ⌜ r ≡ readRetries (now (line .entry)) ⌝ }
+{
+    if two_budgets(byte(line, 1)) {
+        pair(line, 4)
+    } else {
+        pair(line, 2)
+    }
 }
 
 // The settings that a request line gives.
@@ -203,10 +242,21 @@ fn config(line: &[u8]) -> Config
 {
     let flags = byte(line, 1);
     Config {
-        max_bus_retries: pair(line, 2),
+        max_write_retries: pair(line, 2),
+        max_read_retries: read_retries(line),
         pec_write: flags % 2 == 1,
         pec_read: flags / 2 % 2 == 1,
         growing_waits: flags / 8 % 2 == 1,
+    }
+}
+
+// What stands before the arguments.
+fn header_of(line: &[u8]) -> Header
+    ensures { λ r. ⌜ r ≡ headerOf (now (line .entry)) ⌝ }
+{
+    Header {
+        config: config(line),
+        bytes: header_bytes(byte(line, 1)),
     }
 }
 
@@ -229,11 +279,13 @@ pub fn retired_kind(line: &[u8]) -> bool
 pub fn read(line: &[u8]) -> Request
     ensures { λ r. ⌜ r ≡ requestLine (now (line .entry)) ⌝ }
 {
-    if line.len() < HEADER_BYTES {
-        return Request::Refused(Answer::BadLine);
-    }
     if unknown_flags(byte(line, 1)) {
         return Request::Refused(Answer::BadLine);
     }
-    asked(byte(line, 0), config(line), rest(line, HEADER_BYTES))
+    let header = header_of(line);
+    let bytes = header.bytes as usize;
+    if line.len() < bytes {
+        return Request::Refused(Answer::BadLine);
+    }
+    asked(byte(line, 0), header, rest(line, bytes))
 }

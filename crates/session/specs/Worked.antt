@@ -101,12 +101,30 @@ runs =
     ∷ run ((0x05 ∷ 0x00 ∷ 0x00 ∷ 0x00 ∷ 0x00 ∷ 0x35 ∷ 0x44 ∷ 0x00 ∷ 0x00 ∷ 0x00 ∷ 0xAA ∷ []) ∷ []) [] (over 7 0 0 ∷ [])
     ∷ run ((0x09 ∷ 0x00 ∷ 0x00 ∷ 0x00 ∷ 0xAA ∷ []) ∷ []) [] (over 8 0 0 ∷ [])
     -- 11 before 8: a flag that is none, with a key that is too short
-    ∷ run ((0x09 ∷ 0x04 ∷ 0x00 ∷ 0x00 ∷ 0xAA ∷ []) ∷ []) [] (over 11 0 0 ∷ [])
-    -- bit 2 and bit 4, each by itself and beside waits that grow
-    ∷ text "04040400120200\n" "FF0B00000000000000000000\n"
+    ∷ run ((0x09 ∷ 0x10 ∷ 0x00 ∷ 0x00 ∷ 0xAA ∷ []) ∷ []) [] (over 11 0 0 ∷ [])
+    -- bit 4, by itself and beside waits that grow
     ∷ text "04100400120200\n" "FF0B00000000000000000000\n"
-    ∷ text "040C0400120200\n" "FF0B00000000000000000000\n"
     ∷ text "04180400120200\n" "FF0B00000000000000000000\n"
+    -- bit 2: a budget of writes and one of reads, here 2 and 0, then 0 and 2. The address of a data-flash read is on the side of reads: its failure is the end, or
+    -- it goes out again until its two retries are spent
+    ∷ text "02040200000000400100\n02\n" "0044020040\nFF0200000000000000000000A5\n"
+    ∷ text "02040000020000400100\n02\n02\n02\n" "0044020040\n0044020040\n0044020040\nFF0200000200000014000000A5\n"
+    -- a data-flash write
+    ∷ text "0104020000000040AABB\n02\n02\n02\n" "0044040040AABB\n0044040040AABB\n0044040040AABB\nFF0200000200000014000000\n"
+    ∷ text "0104000002000040AABB\n02\n" "0044040040AABB\nFF0200000000000000000000\n"
+    -- a command with no output, which is a write, and one with an output, which is a read
+    ∷ text "050402000000003544000000\n02\n" "0044023500\n0044023500\nFE010000000A000000\n"
+    ∷ text "050400000200003544000000\n02\n" "0044023500\nFF0200000000000000000000\n"
+    ∷ text "050402000000003544000100\n02\n" "0044023500\nFF0200000000000000000000A5\n"
+    ∷ text "050400000200003544000100\n02\n" "0044023500\n0044023500\nFE010000000A000000A5\n"
+    -- a MAC read, whose command is on the side of reads; and both budgets where waits grow
+    ∷ text "080402000000\n02\n" "0044023500\nFF0200000000000000000000A5A5A5A5A5A5A5A5A5A5A5A5A5A5A5A5A5A5A5A5A5A5A5A5A5A5A5A5\n"
+    ∷ text "040C00000400120200\n02\n02\n0105\n02\n001122\n" "01120200\n01120200\n01120200\n01120200\n01120200\nFF00000004000000960000001122\n"
+    -- too short for both: the second is missing, or half of it
+    ∷ text "08040200\n" "FF0B00000000000000000000\n"
+    ∷ text "0804020000\n" "FF0B00000000000000000000\n"
+    -- and an old line with bit 2 set, whose arguments are then too short
+    ∷ text "04040400120200\n" "FF0B00000000000000000000\n"
     -- a read whose first four attempts fail: 40 ms of waits, and 10 + 20 + 40 + 80 where they grow
     ∷ text "04000400120200\n02\n02\n0105\n02\n001122\n" "01120200\n01120200\n01120200\n01120200\n01120200\nFF00000004000000280000001122\n"
     ∷ text "04080400120200\n02\n02\n0105\n02\n001122\n" "01120200\n01120200\n01120200\n01120200\n01120200\nFF00000004000000960000001122\n"
@@ -208,10 +226,10 @@ unfolding ascii bitStep bitSteps byteStep pecOf if_then_else_ bytes.over bytes.b
     writing.planOf writing.startOf writing.ownBytes writing.dueBytes writing.shownOf writing.workShown writing.nextOf writing.workAfter writing.partOf writing.advanceOf writing.gaveUp writing.retryOf writing.endOf writing.failOf writing.settleOf writing.repliedOf writing.countedOf writing.reportOf
     case_refused_fault_headed_block_ parts.hasHead parts.headBytes parts.firstAddress parts.readCount parts.blockAsk parts.askOf parts.mostOf
     reading.plainPlan reading.macPlan reading.startOf reading.dueAsk reading.shownHead reading.workHead reading.shownOf reading.workShown reading.nextOf reading.workAfter reading.headedOf reading.advanceOf reading.retryOf reading.endOf reading.failOf reading.heardHead reading.verdictOf reading.heardBlock reading.acknowledgedOf reading.weighOf reading.judgeOf reading.storedOf reading.countedOf reading.reportOf reading.bufferAfter
-    interface.plainLimit interface.writeWithRetries interface.writeRegister interface.readRegister interface.commandPec interface.commandReads interface.dispatchCommand interface.readBuffer interface.writeBuffer
+    interface.plainLimit interface.writeWithRetries interface.writeRegister interface.readRegister interface.commandReads interface.dispatchCommand interface.readBuffer interface.writeBuffer
     r5.macRead r5.macWrite r5.sendAccessKey r5.writeMfgInfoC r5.wholeAsk r5.readMfgInfoC r5.writeMfgInfo r5.readMfgInfo r5.readDataflash r5.writeDataflash hex.valueOf hex.byteOf hex.bytesOf hex.digitOf hex.hexOf input.linesFrom input.restFrom
-    fields.pairAt fields.quadAt request.configOf request.unknownFlags request.calledOf request.exactOf request.askedOf request.requestLine retiredKind outcome.acknowledgedLine outcome.errorLine outcome.timeoutLine outcome.outcomeLine
+    fields.pairAt fields.quadAt request.twoBudgets request.headerBytes request.readRetries request.configOf request.headerOf request.unknownFlags request.calledOf request.exactOf request.askedOf request.requestLine retiredKind outcome.acknowledgedLine outcome.errorLine outcome.timeoutLine outcome.outcomeLine
     kind.planOf calls.startWith calls.startOf calls.nextOf calls.workAfter calls.partOf calls.wroteOf calls.gotOf calls.reportOf calls.bufferAfter calls.tallyOf
     printing.quadOf printing.writeSaid printing.readSaid printing.endSaid printing.cutSaid dialogue.sizeOf dialogue.tellOf dialogue.zeros dialogue.lineShown dialogue.lastOf dialogue.unfinishedOf
     line.lineBytes line.feedBytes line.feeds bench.thenSay bench.reportThen bench.toldThen bench.callLines bench.callRun bench.requestThen bench.requestOf bench.benchOf printed
-runs-hold = (refl, (refl, (refl, (refl, (refl, (refl, (refl, (refl, (refl, (refl, (refl, (refl, (refl, (refl, (refl, (refl, (refl, (refl, (refl, (refl, (refl, (refl, (refl, (refl, (refl, (refl, (refl, (refl, (refl, (refl, (refl, (refl, (refl, (refl, (refl, (refl, (refl, (refl, (refl, (refl, (refl, (refl, (refl, (refl, (refl, (refl, (refl, (refl, (refl, (refl, (refl, (refl, (refl, (refl, (refl, (refl, (refl, (refl, (refl, (refl, (refl, (refl, (refl, (refl, (refl, (refl, (refl, (refl, (refl, (refl, (refl, tt)))))))))))))))))))))))))))))))))))))))))))))))))))))))))))))))))))))))
+runs-hold = (refl, (refl, (refl, (refl, (refl, (refl, (refl, (refl, (refl, (refl, (refl, (refl, (refl, (refl, (refl, (refl, (refl, (refl, (refl, (refl, (refl, (refl, (refl, (refl, (refl, (refl, (refl, (refl, (refl, (refl, (refl, (refl, (refl, (refl, (refl, (refl, (refl, (refl, (refl, (refl, (refl, (refl, (refl, (refl, (refl, (refl, (refl, (refl, (refl, (refl, (refl, (refl, (refl, (refl, (refl, (refl, (refl, (refl, (refl, (refl, (refl, (refl, (refl, (refl, (refl, (refl, (refl, (refl, (refl, (refl, (refl, (refl, (refl, (refl, (refl, (refl, (refl, (refl, (refl, (refl, (refl, (refl, tt))))))))))))))))))))))))))))))))))))))))))))))))))))))))))))))))))))))))))))))))))

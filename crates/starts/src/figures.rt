@@ -20,10 +20,11 @@ fn figure(millivolts: i16) {
     }
 }
 
-// The settings that a driver starts with, as the Rust's are printed by oracle/.
+// The settings that a driver starts with, as the Rust's are printed by oracle/, where one number is both budgets.
 pub(crate) fn settings() {
     let config = Config::new();
-    say::number(b"Config::new : retries ", config.max_bus_retries as usize);
+    say::number(b"Config::new : retries ", config.max_write_retries as usize);
+    say::number(b" and ", config.max_read_retries as usize);
     say::number(b", pec_write ", config.pec_write as usize);
     say::number(b", pec_read ", config.pec_read as usize);
     say::words(b"\n");

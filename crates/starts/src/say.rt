@@ -87,7 +87,8 @@ pub(crate) fn transfer(transfer: Transfer, frame: &[u8]) -> Outcome {
 // No retries, with and without PEC both ways.
 pub(crate) fn settings(pec: bool) -> Config {
     Config {
-        max_bus_retries: 0,
+        max_write_retries: 0,
+        max_read_retries: 0,
         pec_write: pec,
         pec_read: pec,
         growing_waits: false,

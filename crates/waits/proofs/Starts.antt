@@ -7,6 +7,7 @@ use mathlib.Core.Logic.{inl}
 use mathlib.Core.List.{[]}
 use native.Mathlib.Omega.{arith}
 use native.Mathlib.Nat.{mul-le-mul-right}
+use Rattle.protocol.proofs.Shared.{few-on}
 use Rattle.protocol.specs.Common.{TwoByteBudgets}
 use Rattle.protocol.specs.declared.common.Config.{Config}
 use Rattle.engine.specs.Budget.{nothing}
@@ -17,6 +18,7 @@ use Rattle.writing.specs.Writing as writing
 use Rattle.reading.specs.Reading as reading
 use Rattle.r5.specs.Plans.{writeDataflash}
 use Rattle.calls.specs.Kind.{planOf}
+use Rattle.calls.specs.Sides.{sideOf, budgetOf}
 use Rattle.calls.specs.Call.{startWith, startOf, phaseOf}
 use Rattle.calls.specs.declared.kind.Kind.{Kind}
 use Rattle.calls.specs.declared.kind.Kind.the-variants as kind
@@ -67,18 +69,18 @@ begins r growing (plan.Read its) p n w set = (
 )
 
 -- the waits of a call that is not refused or done at its start: those of 256 frames at the most
-module _ (config : Config) (few : TwoByteBudgets config) (p n w : ℕ) where
-  blocks-few : (b : ℕ) → p ≤ 8192 → Blocks 32 p b → b * config .«max_bus_retries» ≤ 256 * 65535
+module _ (config : Config) (r : ℕ) (few : r ≤ 65535) (p n w : ℕ) where
+  blocks-few : (b : ℕ) → p ≤ 8192 → Blocks 32 p b → b * r ≤ 256 * 65535
   blocks-few b long (low, high) =
       let b-few : b ≤ 256 = omega (arith, long, high) in
-      let one : b * config .«max_bus_retries» ≤ 256 * config .«max_bus_retries» = mul-le-mul-right (config .«max_bus_retries») b-few in
+      let one : b * r ≤ 256 * r = mul-le-mul-right r b-few in
       omega (arith, one, few)
 
-  flash-few : (address b : ℕ) → Blocks 32 p b → phaseOf (startOf (kind.WriteDataflash address) config p n w) ≡ phase.Waiting → b * config .«max_bus_retries» ≤ 256 * 65535
+  flash-few : (address b : ℕ) → Blocks 32 p b → phaseOf (startOf (kind.WriteDataflash address) config p n w) ≡ phase.Waiting → b * r ≤ 256 * 65535
   unfolding startOf planOf startWith phaseOf writing.startOf writing.planOf writeDataflash frames.firstAddress
   flash-few address b split e = blocks-few b (admits-some address p w e .1) split
 
-  waits-few : (kind : Kind) (most waits : ℕ) → CeilingOf (config .«max_bus_retries») p n kind most waits → phaseOf (startOf kind config p n w) ≡ phase.Waiting → waits ≤ 256 * 65535
+  waits-few : (kind : Kind) (most waits : ℕ) → CeilingOf r p n kind most waits → phaseOf (startOf kind config p n w) ≡ phase.Waiting → waits ≤ 256 * 65535
   waits-few kind most waits write-with-retries e = omega (arith, few)
   waits-few kind most waits (write-register address) e = omega (arith, few)
   waits-few kind most waits (write-buffer address) e = omega (arith, few)
@@ -103,25 +105,26 @@ module _ (config : Config) (few : TwoByteBudgets config) (p n w : ℕ) where
   waits-few kind most waits (read-dataflash address b some split) e = omega (arith, few)
   waits-few kind most waits (nothing-read address none) e = omega arith
 
-  -- A CALL BY ITS KIND, AT ITS START
+-- A CALL BY ITS KIND, AT ITS START
+module _ (config : Config) (small : TwoByteBudgets config) (p n w : ℕ) where
   abbrev Begins : Kind → Type 0
-  Begins kind = Keeps (config .«growing_waits») (config .«max_bus_retries») (budgetsIn (planOf kind config p n) p) [] (startOf kind config p n w)
+  Begins kind = Keeps (config .«growing_waits») (budgetOf kind config n) (budgetsIn (planOf kind config p n) p) [] (startOf kind config p n w)
 
   pub started : (kind : Kind) → Begins kind
   unfolding startOf
   started kind = by (phaseOf (startOf kind config p n w)) refl
     where
-      timed : Timed (config .«growing_waits») (config .«max_bus_retries») (budgetsIn (planOf kind config p n) p) [] (startOf kind config p n w)
-      timed = begins (config .«max_bus_retries») (config .«growing_waits») (planOf kind config p n) p n w (by-settings config p n kind .0)
+      timed : Timed (config .«growing_waits») (budgetOf kind config n) (budgetsIn (planOf kind config p n) p) [] (startOf kind config p n w)
+      timed = begins (budgetOf kind config n) (config .«growing_waits») (planOf kind config p n) p n w (by-settings config p n kind .0)
 
       by : (f : Phase) → phaseOf (startOf kind config p n w) ≡ f → Begins kind
       by phase.Waiting e =
-          let name = ceilings .some (config .«max_bus_retries») p n kind in
+          let name = ceilings .some (budgetOf kind config n) p n kind in
           record {
             outcomes = name .0;
             waits = name .1;
-            good = good-named config few kind p n w (name .0) (name .1) (name .2);
-            few = waits-few kind (name .0) (name .1) (name .2) e;
+            good = good-named config small kind p n w (name .0) (name .1) (name .2);
+            few = waits-few config (budgetOf kind config n) (few-on config small (sideOf kind n)) p n w kind (name .0) (name .1) (name .2) e;
             timed = timed;
           }
       by (phase.Ended a) e = record {

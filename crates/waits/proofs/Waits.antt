@@ -20,6 +20,7 @@ use Rattle.reading.specs.declared.call.ReadPlan.{ReadPlan}
 use Rattle.reading.specs.declared.call.ReadCall.{ReadCall}
 use Rattle.reading.specs.declared.call.ReadReported.{ReadReported}
 use Rattle.reading.specs.declared.call.ReadReported.the-variants as got
+use Rattle.calls.specs.Sides.{budgetOf}
 use Rattle.calls.specs.Call.{startWith, startOf, wroteOf, gotOf, reportOf, tallyOf}
 use Rattle.calls.specs.declared.call.Call.{Call}
 use Rattle.calls.specs.declared.call.Call.the-variants as call
@@ -99,25 +100,25 @@ module _ (config : Config) (few : TwoByteBudgets config) (kind : Kind) (p n w : 
   abbrev budgets : ℕ
   budgets = budgetsIn (planOf kind config p n) p
 
-  keeps : Keeps (config .«growing_waits») (config .«max_bus_retries») budgets taken (feed (startOf kind config p n w) es)
-  keeps = keeps-fed (config .«growing_waits») (config .«max_bus_retries») budgets es [] (startOf kind config p n w) (started config few p n w kind)
+  keeps : Keeps (config .«growing_waits») (budgetOf kind config n) budgets taken (feed (startOf kind config p n w) es)
+  keeps = keeps-fed (config .«growing_waits») (budgetOf kind config n) budgets es [] (startOf kind config p n w) (started config few p n w kind)
 
   total-reads : (its : ReadPlan) → planOf kind config p n ≡ plan.Read its → countsOf kind config p n w es .«waited_ms» ≡ budgetCost (config .«growing_waits») (countsOf kind config p n w es .waits)
   unfolding startOf startWith
   total-reads its e =
       let on = reads-on es (reading.startOf its n w) in
-      read-total (config .«growing_waits») (config .«max_bus_retries») budgets taken _ (on .0) (ap (λ (x : Plan). feed (startWith x p n w) es) e ∙ on .1) (keeps .timed)
+      read-total (config .«growing_waits») (budgetOf kind config n) budgets taken _ (on .0) (ap (λ (x : Plan). feed (startWith x p n w) es) e ∙ on .1) (keeps .timed)
 
   total-writes : (its : WritePlan) → planOf kind config p n ≡ plan.Write its
-      → countsOf kind config p n w es .«waited_ms» ≡ framesCost (config .«growing_waits») (config .«max_bus_retries») 0 taken
+      → countsOf kind config p n w es .«waited_ms» ≡ framesCost (config .«growing_waits») (budgetOf kind config n) 0 taken
   unfolding startOf startWith
   total-writes its e =
       let on = writes-on es (writing.startOf its p w) in
-      write-total (config .«growing_waits») (config .«max_bus_retries») budgets taken _ (on .0) (ap (λ (x : Plan). feed (startWith x p n w) es) e ∙ on .1) (keeps .timed)
-      ∙ ap (framesCost (config .«growing_waits») (config .«max_bus_retries») 0) (append-nil taken)
+      write-total (config .«growing_waits») (budgetOf kind config n) budgets taken _ (on .0) (ap (λ (x : Plan). feed (startWith x p n w) es) e ∙ on .1) (keeps .timed)
+      ∙ ap (framesCost (config .«growing_waits») (budgetOf kind config n) 0) (append-nil taken)
 
-  pub bounded : Bounds (config .«growing_waits») (config .«max_bus_retries») budgets (feed (startOf kind config p n w) es)
-  bounded = bounds (config .«growing_waits») (config .«max_bus_retries») budgets taken (feed (startOf kind config p n w) es) (keeps .timed)
+  pub bounded : Bounds (config .«growing_waits») (budgetOf kind config n) budgets (feed (startOf kind config p n w) es)
+  bounded = bounds (config .«growing_waits») (budgetOf kind config n) budgets taken (feed (startOf kind config p n w) es) (keeps .timed)
 
   small : (countsOf kind config p n w es .«waited_ms» ≤ 256 * 65535 * 80) × (256 * 65535 * 80 * 3 < 4294967295)
   small =
@@ -134,7 +135,7 @@ waits = record {
   writes = λ config few kind p n w its e es. total-writes config few kind p n w es its e;
   steady = λ config few off kind p n w es. bounded config few kind p n w es .tens off;
   grows = λ config few kind p n w es e.
-      reports (config .«growing_waits») (config .«max_bus_retries») _ _ (feed (startOf kind config p n w) es) (keeps config few kind p n w es) (e .outcome) (e .reply) (e .payload) (e .buffer) (e .work) .1;
+      reports (config .«growing_waits») (budgetOf kind config n) _ _ (feed (startOf kind config p n w) es) (keeps config few kind p n w es) (e .outcome) (e .reply) (e .payload) (e .buffer) (e .work) .1;
   small = λ config few kind p n w es. small config few kind p n w es;
   most = λ config few kind p n w es. bounded config few kind p n w es .most;
 }

@@ -14,6 +14,7 @@ use Rattle.writing.specs.Frames.{frameCount}
 use Rattle.writing.specs.declared.call.WritePlan.{WritePlan}
 use Rattle.reading.specs.declared.call.ReadPlan.{ReadPlan}
 use Rattle.calls.specs.Kind.{planOf}
+use Rattle.calls.specs.Sides.{budgetOf}
 use Rattle.calls.specs.Call.{startOf, nextOf, workAfter, partOf, bufferAfter, phaseOf, tallyOf, fitsOf}
 use Rattle.calls.specs.declared.call.Call.{Call}
 use Rattle.calls.specs.declared.call.Reported.{Reported}
@@ -55,7 +56,8 @@ pub data Growth (growing : Bool) (before after : Tally) : Type 0 where
 -- these settings, with waits that grow or do not
 abbrev pub withGrowing : Bool → Config → Config
 withGrowing growing config = record {
-  «max_bus_retries» = config .«max_bus_retries»;
+  «max_write_retries» = config .«max_write_retries»;
+  «max_read_retries» = config .«max_read_retries»;
   «pec_write» = config .«pec_write»;
   «pec_read» = config .«pec_read»;
   «growing_waits» = growing;
@@ -99,7 +101,7 @@ pub record Waits : Type 0 where
   -- a writing call has one for each frame
   pub writes : (config : Config) → TwoByteBudgets config → (kind : Kind) (p n w : ℕ) (its : WritePlan) → planOf kind config p n ≡ plan.Write its → (es : List Report)
       → countsOf kind config p n w es .«waited_ms»
-      ≡ framesCost (config .«growing_waits») (config .«max_bus_retries») 0 (outcomesOf (startOf kind config p n w) es)
+      ≡ framesCost (config .«growing_waits») (budgetOf kind config n) 0 (outcomesOf (startOf kind config p n w) es)
   -- with the setting off all waits are 10 ms, so that the total is ten times the count
   pub steady : (config : Config) → TwoByteBudgets config → config .«growing_waits» ≡ false → (kind : Kind) (p n w : ℕ) (es : List Report)
       → countsOf kind config p n w es .«waited_ms» ≡ countsOf kind config p n w es .waits * 10
@@ -111,4 +113,4 @@ pub record Waits : Type 0 where
       → (countsOf kind config p n w es .«waited_ms» ≤ 256 * 65535 * 80) × (256 * 65535 * 80 * 3 < 4294967295)
   -- and at most what r retried failures come to, for each budget
   pub most : (config : Config) → TwoByteBudgets config → (kind : Kind) (p n w : ℕ) (es : List Report)
-      → countsOf kind config p n w es .«waited_ms» ≤ budgetsIn (planOf kind config p n) p * budgetCost (config .«growing_waits») (config .«max_bus_retries»)
+      → countsOf kind config p n w es .«waited_ms» ≤ budgetsIn (planOf kind config p n) p * budgetCost (config .«growing_waits») (budgetOf kind config n)

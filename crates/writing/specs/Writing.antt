@@ -28,10 +28,10 @@ use Rattle.writing.specs.declared.call.WriteCall.{WriteCall}
 use Rattle.writing.specs.declared.call.WriteReported.{WriteReported}
 use Rattle.writing.specs.declared.call.WriteReported.the-variants as reported
 
--- by the settings' retries, waits and `pec_write`
+-- by the settings' waits, and by their retries and PEC for what writes
 unfoldable pub planOf : Config → Limit → Frames → WritePlan
 planOf config limit frames = record {
-  retries = config .«max_bus_retries»;
+  retries = config .«max_write_retries»;
   growing = config .«growing_waits»;
   pec = config .«pec_write»;
   limit = limit;

@@ -11,6 +11,7 @@ use engine::bus::Transfer;
 use engine::limit::Limit;
 use protocol::bytes;
 use protocol::common::Config;
+use protocol::common::Side;
 use protocol::error::Answer;
 ghost use mathlib.Core.Path.{_≡_};
 ghost use lib.ListN.{length};
@@ -26,14 +27,14 @@ pub struct WritePlan {
 }
 
 impl WritePlan {
-    // The frames of a call whose limit is this, by the settings' retries, waits and `pec_write`.
+    // The frames of a call whose limit is this, by the settings' waits and by their retries and PEC on the side of what writes.
     pub fn new(config: Config, limit: Limit, frames: Frames) -> WritePlan
         ensures { λ r. ⌜ r ≡ planOf config limit frames ⌝ }
     {
         WritePlan {
-            retries: config.max_bus_retries,
+            retries: config.retries(Side::Write),
             growing: config.growing_waits,
-            pec: config.pec_write,
+            pec: config.pec(Side::Write),
             limit,
             frames,
         }

@@ -4,7 +4,7 @@ use std::collections::BTreeSet;
 
 use super::rng::Rng;
 use super::step::{Replies, Step};
-use super::{Sink, request, with_setting, words};
+use super::{Sink, request, with_budgets, with_setting, words};
 use crate::bench::Report;
 use crate::line::Line;
 use crate::list::Case;
@@ -22,6 +22,10 @@ pub fn boundaries(sink: Sink<'_>) {
     retired_requests(sink);
     bad_outcomes(sink);
     after_the_end(sink);
+    two_budgets(sink);
+    counts_of_two_budgets(sink);
+    lengths_behind_two_budgets(sink);
+    bad_requests_with_two_budgets(sink);
 }
 
 /// Outcomes that come first, and the one that comes ever after.
@@ -99,18 +103,20 @@ fn usual(kind: Kind) -> Request {
     request(kind, usual_number(kind), usual_length(kind), &mut Rng::new(3, kind as u64))
 }
 
+/// Lengths around every limit of a call, and around the largest that a line may have.
+const SMALL: [usize; 36] = [
+    0, 1, 2, 3, 9, 10, 11, 15, 16, 17, 27, 28, 29, 30, 31, 32, 33, 34, 35, 36, 37, 38, 39, 40, 41, 63, 64,
+    65, 95, 96, 97, 127, 128, 255, 256, 257,
+];
+const LARGE: [usize; 3] = [8191, 8192, 8193];
+
 /// Every call at lengths around every limit there is.
 fn lengths(sink: Sink<'_>) {
-    let small = [
-        0, 1, 2, 3, 9, 10, 11, 15, 16, 17, 27, 28, 29, 30, 31, 32, 33, 34, 35, 36, 37, 38, 39, 40, 41, 63,
-        64, 65, 95, 96, 97, 127, 128, 255, 256, 257,
-    ];
-    let large = [8191, 8192, 8193];
     for kind in Kind::ALL.into_iter().filter(|kind| has_length(*kind)) {
-        for length in small {
+        for length in SMALL {
             each_length(kind, length, &[0, 1], &plays(), sink);
         }
-        for length in large {
+        for length in LARGE {
             each_length(kind, length, &[1], &plays()[..3], sink);
         }
     }
@@ -202,9 +208,9 @@ fn counts(sink: Sink<'_>) {
 
 /// A call that spends its whole budget, and one that fails once more.
 fn last_allowed(request: &Request, sink: Sink<'_>) {
-    let section = format!("count {}", request.retries);
+    let section = format!("count {}", request.budget());
     for (name, more) in [("as many as allowed", 0), ("one too many", 1)] {
-        let first = failures(usize::from(request.retries) + more);
+        let first = failures(usize::from(request.budget()) + more);
         give(&section, request, &play(name, &first, Some(Step::Good)), sink);
     }
 }
@@ -229,7 +235,7 @@ fn growing_waits(sink: Sink<'_>) {
         for flags in [8, 9, 10, 11] {
             for count in [0, 1, 3, 4, 6] {
                 for retries in BTreeSet::from([count.max(1) - 1, count, 3 * count]) {
-                    for play in growing_plays(usize::from(count)) {
+                    for play in failing_plays(usize::from(count)) {
                         let section = format!("growing waits, {count} failures");
                         give(&section, &with_setting(&call, flags, retries), &play, sink);
                     }
@@ -240,7 +246,7 @@ fn growing_waits(sink: Sink<'_>) {
 }
 
 /// So many failures together, at one place and at several, and the outcomes that end in between.
-fn growing_plays(count: usize) -> [Play; 7] {
+fn failing_plays(count: usize) -> [Play; 7] {
     let spell = failures(count);
     let last = &spell[count.min(1)..];
     let three = [&spell[..], &[Step::Good], &spell, &[Step::Good], &spell].concat();
@@ -297,7 +303,7 @@ fn bad_requests(sink: Sink<'_>) {
     }
     for kind in Kind::ALL {
         bad_texts(kind, sink);
-        all_flags(kind, sink);
+        all_flags("flags", &usual(kind), sink);
         if has_length(kind) {
             bad_lengths(kind, sink);
         }
@@ -305,12 +311,14 @@ fn bad_requests(sink: Sink<'_>) {
 }
 
 /// What may stand behind a retired kind, each with its sort; nothing of it is looked at.
-const BEHIND_RETIRED: [(&str, &str); 12] = [
+const BEHIND_RETIRED: [(&str, &str); 14] = [
     ("nothing else", ""),
     ("an old read", "030100120200"),
     ("an old write", "03010012AABB"),
     ("a short header", "00"),
     ("a bad setting", "FF0000120200"),
+    ("two budgets", "0400000100120200"),
+    ("one budget of two", "04000012"),
     ("too many arguments", "000000120200000000"),
     ("an odd number of digits", "0"),
     ("no digits", "ZZ"),
@@ -381,12 +389,12 @@ fn turned<T: Copy>(items: &[T], kind: Kind) -> Vec<T> {
 }
 
 /// Every flags byte, in an order that has the high bits in front.
-fn all_flags(kind: Kind, sink: Sink<'_>) {
+fn all_flags(sort: &str, request: &Request, sink: Sink<'_>) {
     let each: Vec<u8> = (0..=255).map(u8::reverse_bits).collect();
-    for flags in turned(&each, kind) {
-        let mut bytes = usual(kind).to_bytes();
+    for flags in turned(&each, request.kind) {
+        let mut bytes = request.to_bytes();
         bytes[1] = flags;
-        give_request("flags", &kind.name(), Some(Line::of(&bytes)), sink);
+        give_request(sort, &request.kind.name(), Some(Line::of(&bytes)), sink);
     }
 }
 
@@ -505,5 +513,80 @@ fn after_the_end(sink: Sink<'_>) {
         let (mut case, report) = Case::record(format!("after the end: {name}"), Some(refused), |_| None);
         case.input.push(Line::of(&usual(Kind::ReadDataflash).to_bytes()));
         sink(case, report);
+    }
+}
+
+/// Every call that goes through, a command with output and one with none.
+fn calls_of_both_sides() -> Vec<Request> {
+    let silent = request(Kind::DispatchCommand, usual_number(Kind::DispatchCommand), 0, &mut Rng::new(9, 0));
+    Kind::ALL.into_iter().map(usual).chain([silent]).collect()
+}
+
+/// Two budgets, one of them 0 or smaller by one than the other, and two that are equal: of each call 1, 2 and 3 failures together, so that
+/// it shows which budget it goes by.
+fn two_budgets(sink: Sink<'_>) {
+    for call in calls_of_both_sides() {
+        for budgets in [(0, 2), (2, 0), (1, 2), (2, 1), (2, 2)] {
+            for flags in [0, 3, 8, 11] {
+                for play in (1..=3).flat_map(failing_plays) {
+                    give("two budgets", &with_budgets(&call, flags, budgets), &play, sink);
+                }
+            }
+        }
+    }
+}
+
+/// Two budgets whose counts need their high bytes, each spent to the last and once more.
+fn counts_of_two_budgets(sink: Sink<'_>) {
+    for budgets in [(255, 256), (256, 255), (1, 257), (257, 1), (0, 512), (512, 0)] {
+        for call in calls_of_both_sides() {
+            last_allowed(&with_budgets(&call, 3, budgets), sink);
+        }
+    }
+    for budgets in [(0, u16::MAX), (u16::MAX, 0)] {
+        for kind in [Kind::PlainWrite, Kind::ReadRegister, Kind::ReadDataflash] {
+            last_allowed(&with_budgets(&usual(kind), 0, budgets), sink);
+        }
+    }
+}
+
+/// Every call at every length, where its arguments stand behind two budgets; the longest line there is, a command with its largest input.
+fn lengths_behind_two_budgets(sink: Sink<'_>) {
+    for kind in Kind::ALL.into_iter().filter(|kind| has_length(*kind)) {
+        for length in SMALL.into_iter().chain(LARGE) {
+            let sized = request(kind, usual_number(kind), length, &mut Rng::new(4, length as u64));
+            for flags in [0, 3] {
+                let section = format!("length {length}, two budgets");
+                give_all(&section, &with_budgets(&sized, flags, (1, 0)), &plays()[..2], sink);
+            }
+        }
+    }
+    for input in LARGE {
+        let mut longest = usual(Kind::DispatchCommand);
+        longest.payload = Rng::new(6, input as u64).bytes(input);
+        let line = Line::of(&with_budgets(&longest, 0, (1, 0)).to_bytes());
+        give_request(&format!("two budgets, an input of {input}"), &longest.kind.name(), Some(line), sink);
+    }
+}
+
+/// Request lines with two budgets that are cut short, that have more behind, or that set other flags.
+fn bad_requests_with_two_budgets(sink: Sink<'_>) {
+    for call in calls_of_both_sides() {
+        let good = with_budgets(&call, 0, (2, 1));
+        let text = Line::of(&good.to_bytes()).text;
+        let mut give = |sort: &str, line| {
+            give_request(&format!("two budgets, {sort}"), &call.kind.name(), Some(line), sink);
+        };
+        for cut in 2..text.len().min(44) {
+            let sort = if cut % 2 == 0 { format!("{} bytes", cut / 2) } else { "a digit too few".into() };
+            give(&sort, Line::raw(&text[..cut]));
+            give("cut short, no line feed", Line::raw(&text[..cut]).unended());
+        }
+        for extra in ["00", "0000", "0", " ", "\r"] {
+            give("more behind", Line::raw([&text, extra.as_bytes()].concat()));
+        }
+        give("no line feed", Line::raw(&text[..]).unended());
+        give("lower case", Line::raw(text.to_ascii_lowercase()));
+        all_flags("flags, two budgets", &good, sink);
     }
 }

@@ -2,7 +2,7 @@
 
 use super::rng::Rng;
 use super::step::{Replies, Step};
-use super::{Sink, request, with_setting, words};
+use super::{Sink, request, with_budgets, with_setting, words};
 use crate::bus::Transfer;
 use crate::line::Line;
 use crate::list::Case;
@@ -56,7 +56,8 @@ fn choices(replies: &Replies, transfer: &Transfer<'_>, place: usize) -> Vec<Step
     choices
 }
 
-/// Every call at lengths that differ in their transfers, with every flag and 0 to 2 retries; then those with more retries.
+/// Every call at lengths that differ in their transfers, with every flag and 0 to 2 retries; then those with more retries, and those with two
+/// budgets.
 fn requests() -> Vec<Request> {
     let mut requests = Vec::new();
     for (place, (kind, number, length)) in shapes().into_iter().enumerate() {
@@ -66,6 +67,7 @@ fn requests() -> Vec<Request> {
         }
     }
     requests.extend(patient_requests());
+    requests.extend(requests_with_two_budgets());
     requests
 }
 
@@ -84,6 +86,21 @@ fn patient_requests() -> Vec<Request> {
         let shape = request(kind, number, length, &mut Rng::new(2, place as u64));
         for flags in [8, 11] {
             requests.extend(patience.iter().map(|retries| with_setting(&shape, flags, *retries)));
+        }
+    }
+    requests
+}
+
+/// Every call with a budget for one side alone, where each PEC may be on, and with two that are equal or differ by one.
+fn requests_with_two_budgets() -> Vec<Request> {
+    let mut requests = Vec::new();
+    for (place, (kind, number, length)) in shapes().into_iter().enumerate() {
+        let shape = request(kind, number, length, &mut Rng::new(3, place as u64));
+        for flags in 0..4 {
+            requests.extend([(0, 2), (2, 0)].map(|budgets| with_budgets(&shape, flags, budgets)));
+        }
+        for flags in [0, 11] {
+            requests.extend([(1, 1), (1, 2), (2, 1)].map(|budgets| with_budgets(&shape, flags, budgets)));
         }
     }
     requests

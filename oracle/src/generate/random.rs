@@ -5,13 +5,13 @@ use super::step::{Replies, Step};
 use super::{Sink, request, words};
 use crate::line::Line;
 use crate::list::Case;
-use crate::request::{Kind, Request};
+use crate::request::{Kind, Request, Retries};
 
 /// `cases` random cases; each depends on the seed and on its place only.
 pub fn random(seed: u64, cases: u64, sink: Sink<'_>) {
     for place in 0..cases {
         let mut rng = Rng::new(seed, place);
-        let request = any_request(&mut rng);
+        let request = with_any_budgets(any_request(&mut rng), &mut Rng::new(seed, !place));
         let title = format!("random: seed {seed}, case {place}: {}", words(&request));
         let line = any_line(&request, &mut rng);
         let mut mood = Mood::any(&request, &mut rng);
@@ -45,8 +45,18 @@ fn any_request(rng: &mut Rng) -> Request {
     request.pec_write = rng.percent(50);
     request.pec_read = rng.percent(50);
     request.growing_waits = rng.percent(25);
-    request.retries = any_retries(request.growing_waits, rng);
+    request.retries = Retries::Both(any_retries(request.growing_waits, rng));
     request
+}
+
+/// The same call; one in four has two budgets, which are equal once in five times. `rng` is for them alone.
+fn with_any_budgets(request: Request, rng: &mut Rng) -> Request {
+    if !rng.percent(25) {
+        return request;
+    }
+    let write = any_retries(request.growing_waits, rng);
+    let read = if rng.percent(20) { write } else { any_retries(request.growing_waits, rng) };
+    Request { retries: Retries::Each(write, read), ..request }
 }
 
 /// Where waits grow, enough for some of the longest.

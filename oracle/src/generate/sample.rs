@@ -17,7 +17,8 @@ const RANDOM_CASES: u64 = 20_000;
 pub fn sample(sink: Sink<'_>) {
     let mut kept = Kept { seen: HashSet::new(), sink };
     exhaustive(DEPTH, &mut |case, report| {
-        let key = format!("exhaustive, {}, {} ms of waits", setting(&case), report.waited_ms);
+        let setting = budgets(&case).unwrap_or_else(|| setting(&case));
+        let key = format!("exhaustive, {setting}, {} ms of waits", report.waited_ms);
         kept.offer(key, case, report);
     });
     boundaries(&mut |case, report| kept.offer(boundary(&case), case, report));
@@ -60,7 +61,7 @@ fn boundary(case: &Case) -> String {
     }
 }
 
-/// The call's name in a title, without and with the flags behind it; where waits grow, the other flags are left out.
+/// The call's name in a title, without and with the flags behind it; where waits grow or there are two budgets, the other flags are left out.
 fn call(case: &Case) -> String {
     behind_sections(case, 1)
 }
@@ -69,7 +70,21 @@ fn setting(case: &Case) -> String {
     if has_flags(case, &[8, 9, 10, 11]) {
         return format!("{}, growing waits", call(case));
     }
+    if has_flags(case, &TWO_BUDGETS) {
+        return format!("{}, two budgets", call(case));
+    }
     behind_sections(case, 2)
+}
+
+/// The flags that have two budgets behind them.
+const TWO_BUDGETS: [u8; 8] = [4, 5, 6, 7, 12, 13, 14, 15];
+
+/// The call's name, its two budgets and its side in a title, where it has two.
+fn budgets(case: &Case) -> Option<String> {
+    let words = behind_sections(case, 4);
+    let (name, rest) = words.split_once(", flags ")?;
+    let (_, retries) = rest.split_once(", ")?;
+    has_flags(case, &TWO_BUDGETS).then(|| format!("{name}, {retries}"))
 }
 
 /// Whether a title's flags are one of these.
@@ -98,8 +113,8 @@ fn is_of_three_blocks(case: &Case) -> bool {
     has_65_bytes && starts.iter().any(|start| case.title.starts_with(start))
 }
 
-/// Runs of the largest length, a count of two bytes, waits that grow from block to block, a reply of one byte too many for a line, and
-/// retired lines that are longer than any line.
+/// Runs of the largest length, a count of two bytes, waits that grow from block to block, a reply of one byte too many for a line, the
+/// longest line and one that is longer, and retired lines that are longer than any line.
 fn is_large(case: &Case) -> bool {
     let titles = [
         "length 8192: write_dataflash, flags 3, retries 1: all good",
@@ -108,10 +123,14 @@ fn is_large(case: &Case) -> bool {
         "length 8193: write_dataflash, flags 3, retries 1: all good",
         "count 257: send_access_key, flags 3, retries 257: as many as allowed",
         "count 257: send_access_key, flags 3, retries 257: one too many",
+        "count 257: plain_write, flags 7, retries 257 and 1, a write: one too many",
+        "count 257: read_register, flags 7, retries 1 and 257, a read: one too many",
         "growing waits, 4 failures: write_dataflash, flags 8, retries 4: three times",
         "growing waits, 6 failures: write_dataflash, flags 11, retries 6: three times",
         "growing waits, 6 failures: read_dataflash, flags 11, retries 6: at each second transfer, with a bad PEC",
         "outcome, a reply of 8193: send_access_key, flags 0, retries 2: the last line",
+        "request, two budgets, an input of 8192: dispatch_command",
+        "request, two budgets, an input of 8193: dispatch_command",
         "request, retired, 20,000 digits: 0C",
         "request, retired, 20,000 digits, no line feed: 0D",
     ];

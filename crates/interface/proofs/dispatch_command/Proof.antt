@@ -6,9 +6,6 @@ use Rattle.interface.specs.Plans.{dispatchCommand}
 use Rattle.interface.proofs.dispatch_command.Statement.{statement}
 use Rattle.interface.proofs.dispatch_command.Tie as tie
 
-command-pec-requires : tie.Need-command-pec-requires
-command-pec-requires c κs = search needs
-
 command-reads-requires : tie.Need-command-reads-requires
 command-reads-requires c κs = search needs
 
@@ -17,8 +14,7 @@ new-requires c κs = search needs
 
 returns : tie.Need-returns
 unfolding dispatchCommand
-returns c = rw (c .before .command-reads .ensures, c .before .before .command-pec .ensures) at (c .new .ensures)
+returns c = rw (c .before .command-reads .ensures) at (c .new .ensures)
 
 pub dispatch-command-spec : {M : Type 1} → statement M
-dispatch-command-spec =
-    tie.close (tie.spec command-pec-requires command-reads-requires new-requires returns)
+dispatch-command-spec = tie.close (tie.spec command-reads-requires new-requires returns)

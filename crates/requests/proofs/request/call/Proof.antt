@@ -21,12 +21,15 @@ returns-3 : tie.Need-returns-3
 unfolding calledOf
 returns-3 c = search cases
 
-add-t8 : tie.Need-add-t8
-add-t8 c = search needs
+cast-t9 : tie.Need-cast-t9
+cast-t9 c = search needs
+
+add-t11 : tie.Need-add-t11
+add-t11 c = search needs
 
 returns-4 : tie.Need-returns-4
 unfolding calledOf
 returns-4 c = search cases
 
 pub call-spec : {M : Type 1} → statement M
-call-spec = tie.close (tie.spec returns returns-2 sub-if3 returns-3 add-t8 returns-4)
+call-spec = tie.close (tie.spec returns returns-2 sub-if3 returns-3 cast-t9 add-t11 returns-4)

@@ -11,9 +11,12 @@ byte-requires c κs = search needs
 pair-requires : tie.Need-pair-requires
 pair-requires c κs = search needs
 
+read-retries-requires : tie.Need-read-retries-requires
+read-retries-requires c κs = search needs
+
 returns : tie.Need-returns
 unfolding configOf
-returns c = rw (c .pair .ensures, c .before .byte .ensures)
+returns c = rw (c .read-retries .ensures, c .before .pair .ensures, c .before .before .byte .ensures)
 
 pub config-spec : {M : Type 1} → statement M
-config-spec = tie.close (tie.spec byte-requires pair-requires returns)
+config-spec = tie.close (tie.spec byte-requires pair-requires read-retries-requires returns)
