@@ -11,7 +11,7 @@ use lib.Dec.{ltb, eqb}
 use borrow.Author.Tests.{lt-ltb, le-ltb, eq-eqb, ne_eqb}
 use Rattle.protocol.specs.Pick.{if◌then◌else◌}
 use Rattle.calls.specs.declared.kind.Kind.{Kind}
-use Rattle.hex.specs.Digits.{in_digits}
+use Rattle.hexadecimal.specs.Digits.{in_digits}
 use Rattle.requests.specs.Fields.{pair_at, quad_at}
 use Rattle.requests.specs.Request as requests
 use Rattle.requests.specs.Request.{header_bytes, read_retries, config_of, header_of, called_of, exact_of}

@@ -27,7 +27,7 @@ use Rattle.requests.specs.Outcome.{acknowledged_line, error_line, timeout_line, 
 use Rattle.requests.specs.declared.outcome.Told.TheVariants as told
 use Rattle.printing.specs.Printing.{write_said, end_said}
 use Rattle.dialogue.specs.Dialogue.{asked, last, size_of, tell_of, zeros, line_shown}
-use Rattle.hex.specs.Line.{line_bytes}
+use Rattle.hexadecimal.specs.Line.{line_bytes}
 use Rattle.dialogue.specs.Bench.{then_say, report_then, told_then, call_lines, call_run}
 use Rattle.original.specs.Bus.{BusOutcome, Acknowledged, BusError, Timeout, delivered, Made, write, read, brings, Ok, Err, Waiting, Read, ◌leaving◌, waits_in}
 use Rattle.original.specs.Fed as feeding

@@ -9,12 +9,12 @@ use lib.ListN.{length, drop, get_or, replicate, length-drop}
 use lib.Dec.{ltb, eqb}
 use borrow.Author.Rules.{rules}
 use borrow.Author.Tests.{lt-ltb, le-ltb, eqb-true}
-use Rattle.hex.specs.Hex.{bytes_of, digit_of, hex_of}
-use Rattle.hex.specs.BothWays.{AllBytes}
-use Rattle.hex.specs.Digits.{in_digits}
-use Rattle.hex.specs.Line.{line_bytes}
-use Rattle.hex.proofs.Laws.{length_hex}
-use Rattle.hex.proofs.Digits.{encoded_line, hexadecimal}
+use Rattle.hexadecimal.specs.Hex.{bytes_of, digit_of, hex_of}
+use Rattle.hexadecimal.specs.BothWays.{AllBytes}
+use Rattle.hexadecimal.specs.Digits.{in_digits}
+use Rattle.hexadecimal.specs.Line.{line_bytes}
+use Rattle.hexadecimal.proofs.Laws.{length_hex}
+use Rattle.hexadecimal.proofs.Digits.{encoded_line, hexadecimal}
 use Rattle.protocol.specs.Pick.{if◌then◌else◌}
 use Rattle.protocol.specs.declared.common.Side.{Side}
 use Rattle.protocol.specs.declared.common.Side.TheVariants as side

@@ -8,9 +8,9 @@ use native.Mathlib.Omega.{arith}
 use lib.ListN.{length, take, drop, get_or}
 use lib.Dec.{ltb}
 use borrow.Author.Tests.{ltb-false}
-use Rattle.hex.specs.BothWays.{AllBytes}
-use Rattle.hex.specs.Line.{line_bytes, feeds}
-use Rattle.hex.proofs.Digits.{line_bytes_lem}
+use Rattle.hexadecimal.specs.BothWays.{AllBytes}
+use Rattle.hexadecimal.specs.Line.{line_bytes, feeds}
+use Rattle.hexadecimal.proofs.Digits.{line_bytes_lem}
 use Rattle.protocol.specs.Pick.{if◌then◌else◌}
 use Rattle.protocol.specs.Common.{TwoByteBudgets}
 use Rattle.protocol.specs.declared.common.Config.{Config}

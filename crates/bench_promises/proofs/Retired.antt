@@ -11,10 +11,10 @@ use lib.ListN.{length, take, drop, get_or, replicate}
 use lib.Seq.{take-nil}
 use lib.Dec.{ltb, eqb}
 use borrow.Author.Tests.{eq-eqb, ne_eqb, eqb-true, ltb-true, ltb-false}
-use Rattle.hex.specs.Hex.{digit_of, hex_of}
-use Rattle.hex.specs.Digits.{in_digits}
-use Rattle.hex.specs.Line.{line_bytes, feed_bytes, feeds}
-use Rattle.hex.specs.Text.{ascii}
+use Rattle.hexadecimal.specs.Hex.{digit_of, hex_of}
+use Rattle.hexadecimal.specs.Digits.{in_digits}
+use Rattle.hexadecimal.specs.Line.{line_bytes, feed_bytes, feeds}
+use Rattle.hexadecimal.specs.Text.{ascii}
 use Rattle.protocol.specs.Pick.{if◌then◌else◌}
 use Rattle.protocol.specs.Answer.{number_of}
 use Rattle.protocol.specs.declared.error.Answer.{Answer}

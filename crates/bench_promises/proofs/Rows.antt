@@ -9,7 +9,7 @@ use lib.ListN.{length, drop, get_or, replicate, length-replicate, drop_of_length
 use lib.Seq.{get_or-drop, drop-drop}
 use lib.Dec.{ltb, eqb}
 use borrow.Author.Tests.{eq-eqb, ne_eqb, ltb-true, ltb-false, eqb-true, eqb-false}
-use Rattle.hex.specs.BothWays.{AllBytes}
+use Rattle.hexadecimal.specs.BothWays.{AllBytes}
 use Rattle.protocol.specs.Pick.{if◌then◌else◌}
 use Rattle.protocol.specs.Common.{TwoByteBudgets}
 use Rattle.protocol.specs.declared.common.Side.{Side}

@@ -13,7 +13,7 @@ use Rattle.protocol.specs.Frame.{pair_of}
 use Rattle.protocol.specs.declared.error.Answer.{Answer}
 use Rattle.protocol.specs.declared.error.Answer.TheVariants as answer
 use Rattle.engine.specs.declared.budget.Tally.{Tally}
-use Rattle.hex.specs.BothWays.{AllBytes}
+use Rattle.hexadecimal.specs.BothWays.{AllBytes}
 use Rattle.printing.specs.Printing.{quad_of, read_said, end_said, cut_said}
 use Rattle.dialogue.specs.Dialogue.{last_of}
 use Rattle.bench_promises.specs.Numbers.{low_first, number, ReadBack}

@@ -1,8 +1,8 @@
 -- The kinds of docs/BENCH.md, one to a row: its arguments, and the Rust's function that they are for. (01, The bench program; 02, W-203, W-211)
 -- Assumes nothing.
 use Rattle.std.specs.Prelude.{ℕ, zero, suc, ◌-◌, ◌*◌, ◌/◌, ◌%◌, Bool, true, false, not, ◌&&◌, ◌||◌, List, [], ◌∷◌, map, length, drop, get_or, replicate, ltb, eqb}
-use Rattle.hex.specs.Digits.{in_digits}
-use Rattle.hex.specs.Line.{line_bytes}
+use Rattle.hexadecimal.specs.Digits.{in_digits}
+use Rattle.hexadecimal.specs.Line.{line_bytes}
 use Rattle.protocol.specs.Pick.{if◌then◌else◌}
 use Rattle.protocol.specs.declared.common.Side.{Side}
 use Rattle.protocol.specs.declared.common.Side.TheVariants as side

@@ -4,8 +4,8 @@
 use Rattle.std.specs.Prelude.{ℕ, ◌+◌, ◌<◌, ◌≡◌, Bool, false, ◌&&◌, ◌||◌, List, [], ◌∷◌, length, eqb}
 use Rattle.protocol.specs.Pick.{if◌then◌else◌}
 use Rattle.protocol.specs.declared.error.Answer.TheVariants as answer
-use Rattle.hex.specs.Line.{line_bytes}
-use Rattle.hex.specs.Digits.{Hexadecimal}
+use Rattle.hexadecimal.specs.Line.{line_bytes}
+use Rattle.hexadecimal.specs.Digits.{Hexadecimal}
 use Rattle.dialogue.specs.Bench.{bench_of}
 use Rattle.session.specs.Laws.{Writes}
 use Rattle.bench_promises.specs.Numbers.{field, ReadBack}

@@ -1,7 +1,7 @@
 -- Numbers in a line: low byte first, by one rule for every width. (01, The bench program)
 -- Assumes nothing.
 use Rattle.std.specs.Prelude.{ℕ, zero, suc, ◌+◌, ◌*◌, ◌/◌, ◌%◌, ◌^◌, ◌<◌, ◌≡◌, List, [], ◌∷◌, length, take, drop}
-use Rattle.hex.specs.BothWays.{AllBytes}
+use Rattle.hexadecimal.specs.BothWays.{AllBytes}
 
 -- a number in so many bytes
 unfoldable pub low_first : ℕ → ℕ → List ℕ

@@ -7,7 +7,7 @@ use Rattle.protocol.specs.Answer.{number_of, detail_of}
 use Rattle.protocol.specs.declared.error.Answer.{Answer}
 use Rattle.protocol.specs.declared.error.Answer.TheVariants as answer
 use Rattle.lines.specs.Input.{lines_from, rest_from}
-use Rattle.hex.specs.Line.{line_bytes, feeds}
+use Rattle.hexadecimal.specs.Line.{line_bytes, feeds}
 use Rattle.original.specs.Bus.{BusOutcome, Acknowledged, BusError, Timeout, Made, write, read, brings, Log, Ok, Err, Waiting, Read, ◌leaving◌}
 use Rattle.bench_promises.specs.Numbers.{low_first}
 use Rattle.bench_promises.specs.Kinds.{Asked, bad, retired, call, asked_line, asked_cut}

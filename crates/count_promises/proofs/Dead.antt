@@ -9,8 +9,8 @@ use lib.ListN.{length, length-append}
 use lib.Dec.{ltb, eqb}
 use borrow.Author.Tests.{ltb-false, eqb-true, ne_eqb}
 use Rattle.protocol.specs.Pick.{if◌then◌else◌}
-use Rattle.hex.specs.Hex.{value_of, byte_of, bytes_of}
-use Rattle.hex.specs.Line.{line_bytes}
+use Rattle.hexadecimal.specs.Hex.{value_of, byte_of, bytes_of}
+use Rattle.hexadecimal.specs.Line.{line_bytes}
 use Rattle.lines.specs.Input.{lines_from, rest_from}
 use Rattle.packs.specs.declared.Said.{Said}
 use Rattle.packs.specs.declared.Said.TheVariants as said

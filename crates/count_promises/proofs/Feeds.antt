@@ -10,7 +10,7 @@ use lib.Dec.{eqb, T}
 use borrow.Author.Tests.{ne_eqb}
 use Rattle.protocol.specs.Pick.{if◌then◌else◌}
 use Rattle.smbus_pec.proofs.Every.{below}
-use Rattle.hex.specs.Digits.{sixteen, in_digits}
+use Rattle.hexadecimal.specs.Digits.{sixteen, in_digits}
 use Rattle.lines.specs.Lines.{before_feed}
 use Rattle.lines.proofs.Any.{lines_whole}
 use Rattle.count_promises.specs.Packs.{line_says, said_in}

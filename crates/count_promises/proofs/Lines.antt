@@ -10,10 +10,10 @@ use native.Mathlib.Omega.{arith}
 use lib.Dec.{eqb}
 use borrow.Author.Tests.{eqb-true, eqb-false, ne_eqb}
 use Rattle.protocol.specs.Pick.{if◌then◌else◌}
-use Rattle.hex.specs.BothWays.{AllBytes}
-use Rattle.hex.specs.Digits.{in_digits}
-use Rattle.hex.specs.Line.{line_bytes}
-use Rattle.hex.proofs.Digits.{hexadecimal}
+use Rattle.hexadecimal.specs.BothWays.{AllBytes}
+use Rattle.hexadecimal.specs.Digits.{in_digits}
+use Rattle.hexadecimal.specs.Line.{line_bytes}
+use Rattle.hexadecimal.proofs.Digits.{hexadecimal}
 use Rattle.lines.specs.Input.{lines_from, rest_from}
 use Rattle.packs.specs.declared.Said.{Said}
 use Rattle.packs.specs.declared.Said.TheVariants as said

@@ -10,8 +10,8 @@ use lib.ListN.{length}
 use lib.Dec.{leb, eqb}
 use borrow.Author.Tests.{lt-ltb, le-ltb, le-leb, lt-leb, eqb-true, eqb-false}
 use Rattle.protocol.specs.Pick.{if◌then◌else◌}
-use Rattle.hex.specs.Hex.{value_of, byte_of, bytes_of}
-use Rattle.hex.specs.Line.{line_bytes}
+use Rattle.hexadecimal.specs.Hex.{value_of, byte_of, bytes_of}
+use Rattle.hexadecimal.specs.Line.{line_bytes}
 use Rattle.packs.specs.declared.Said.TheVariants as said
 use Rattle.packs.specs.Count.{said_of}
 use Rattle.count_promises.specs.Packs.{cycles_said, answer_said, bytes_say, line_says}

@@ -1,7 +1,7 @@
 -- Which lines are packs, and which files are refused. (02, W-212)
 -- Assumes nothing.
 use Rattle.std.specs.Prelude.{ℕ, suc, ◌/◌, ◌%◌, ◌≤◌, ◌<◌, ◌≡◌, List, [], ◌∷◌, ◌++◌, map, ◌⊎◌, length, get_or}
-use Rattle.hex.specs.Digits.{in_digits}
+use Rattle.hexadecimal.specs.Digits.{in_digits}
 use Rattle.lines.specs.Input.{lines_from, rest_from}
 use Rattle.packs.specs.declared.Said.{Said}
 use Rattle.packs.specs.declared.Said.TheVariants as said

@@ -3,7 +3,7 @@
 use Rattle.std.specs.Prelude.{ℕ, suc, ◌+◌, ◌*◌, ◌/◌, ◌%◌, min, max, List, [], ◌∷◌, ◌++◌, map, length, ltb, eqb}
 use Rattle.std.proofs.Math.Option.{Option, none, some}
 use Rattle.protocol.specs.Pick.{if◌then◌else◌}
-use Rattle.hex.specs.Line.{line_bytes}
+use Rattle.hexadecimal.specs.Line.{line_bytes}
 use Rattle.lines.specs.Input.{lines_from, rest_from}
 use Rattle.packs.specs.declared.Said.{Said}
 use Rattle.packs.specs.declared.Said.TheVariants as said

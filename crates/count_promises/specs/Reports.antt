@@ -2,7 +2,7 @@
 -- Assumes nothing.
 use Rattle.std.specs.Prelude.{ℕ, zero, suc, ◌+◌, ◌*◌, ◌≤◌, ◌<◌, min, max, ◌≡◌, List, ◌∷◌, ◌++◌, map, replicate}
 use Rattle.std.proofs.Math.Option.{Option, none, some}
-use Rattle.hex.specs.Text.{ascii}
+use Rattle.hexadecimal.specs.Text.{ascii}
 use Rattle.packs.specs.declared.Said.{Said}
 use Rattle.packs.specs.declared.Said.TheVariants as said
 use Rattle.report.specs.Report.{Figures, Report, report, refused, text_of}

@@ -4,7 +4,7 @@ use Rattle.std.specs.Prelude.{ℕ, ◌≤◌, ◌<◌, ◌≡◌, List}
 use Rattle.std.proofs.Math.Option.{some}
 use Rattle.protocol.specs.Answer.{number_of}
 use Rattle.protocol.specs.declared.error.Answer.TheVariants as answer
-use Rattle.hex.specs.Text.{ascii}
+use Rattle.hexadecimal.specs.Text.{ascii}
 use Rattle.report.specs.Decimal.{decimal_of}
 use Rattle.report.specs.Report.{Figures, Report, report, refused, text_of}
 use Rattle.count_promises.specs.Packs.{said_in, outcome_of, printed_of}

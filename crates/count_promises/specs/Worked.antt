@@ -3,9 +3,9 @@
 use Prim.Native.String.{String}
 use Rattle.std.specs.Prelude.{◌≡◌, refl, List, [], ◌∷◌}
 use Rattle.protocol.specs.Pick.{if◌then◌else◌}
-use Rattle.hex.specs.Text.{ascii}
-use Rattle.hex.specs.Hex as hex
-use Rattle.hex.specs.Line.{line_bytes}
+use Rattle.hexadecimal.specs.Text.{ascii}
+use Rattle.hexadecimal.specs.Hex as hex
+use Rattle.hexadecimal.specs.Line.{line_bytes}
 use Rattle.lines.specs.Input as input
 use Rattle.report.specs.Decimal as decimal
 use Rattle.report.specs.Report as report

@@ -14,7 +14,7 @@ use Rattle.requests.specs.declared.outcome.Told.{Told}
 use Rattle.requests.specs.declared.outcome.Told.TheVariants as told
 use Rattle.printing.specs.Printing.{end_said}
 use Rattle.dialogue.specs.Dialogue.{Saying, asked, last, bytes_said, line_shown, last_of}
-use Rattle.hex.specs.Line.{line_bytes}
+use Rattle.hexadecimal.specs.Line.{line_bytes}
 use Rattle.dialogue.specs.Bench.{then_say, report_then, told_then, call_lines, call_run}
 
 -- each of these lines

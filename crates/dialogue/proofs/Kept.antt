@@ -9,8 +9,8 @@ use lib.ListN.{length, take, drop, replicate, length-append, length-take, length
 use lib.Seq.{drop-append-le, take-append_seam}
 use lib.Dec.{ltb, leb, eqb}
 use borrow.Author.Tests.{ltb-false, leb-true, leb-false}
-use Rattle.hex.specs.Hex.{bytes_of, out_decoded}
-use Rattle.hex.proofs.Inverse.{length_bytes}
+use Rattle.hexadecimal.specs.Hex.{bytes_of, out_decoded}
+use Rattle.hexadecimal.proofs.Inverse.{length_bytes}
 use Rattle.protocol.specs.Pick.{if◌then◌else◌}
 use Rattle.protocol.specs.Bytes.{over, block_in, stored_at}
 use Rattle.protocol.proofs.Laws.{length_over, take_over}

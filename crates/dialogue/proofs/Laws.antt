@@ -9,7 +9,7 @@ use lib.ListN.{length, take, drop, length-take, drop_of_length-le}
 use lib.Seq.{drop-length, take_at}
 use lib.Dec.{leb}
 use borrow.Author.Tests.{leb-true, leb-false}
-use Rattle.hex.specs.Hex.{out_decoded}
+use Rattle.hexadecimal.specs.Hex.{out_decoded}
 use Rattle.protocol.proofs.Laws.{take_short}
 use Rattle.protocol.specs.declared.common.Config.{Config}
 use Rattle.calls.specs.Call.{start_of}

@@ -10,13 +10,13 @@ use lib.ListN.{length, drop}
 use lib.Seq.{take-append_seam}
 use lib.Dec.{ltb, eqb}
 use borrow.Author.Tests.{ltb-true, ltb-false, eqb-true, eqb-false}
-use Rattle.hex.specs.Hex.{bytes_of, decoded_of, out_decoded}
-use Rattle.hex.specs.declared.Decoded.{Decoded}
-use Rattle.hex.specs.declared.Decoded.TheVariants as decoded
-use Rattle.hex.proofs.Inverse.{length_bytes}
+use Rattle.hexadecimal.specs.Hex.{bytes_of, decoded_of, out_decoded}
+use Rattle.hexadecimal.specs.declared.Decoded.{Decoded}
+use Rattle.hexadecimal.specs.declared.Decoded.TheVariants as decoded
+use Rattle.hexadecimal.proofs.Inverse.{length_bytes}
 use Rattle.protocol.proofs.Cases.{cases}
 use Rattle.dialogue.specs.Dialogue.{count_in, byte_count, bytes_in}
-use Rattle.hex.specs.Line.{line_bytes}
+use Rattle.hexadecimal.specs.Line.{line_bytes}
 
 module _ (s : List ℕ) (room : ℕ) where
   odd : length s % 2 ≡ 1 → decoded_of s room ≡ decoded.Bad

@@ -35,7 +35,7 @@ use Rattle.printing.specs.Printing.{printed_of, out_printed, quad_of, write_said
 use Rattle.dialogue.specs.Dialogue.{bytes_said, size_of, tell_of, zeros, line_shown, last_of, unfinished_of, close_of}
 use Rattle.dialogue.specs.declared.Run.{Run}
 use Rattle.dialogue.specs.declared.Run.TheVariants as run
-use Rattle.hex.specs.Line.{line_bytes, feed_bytes}
+use Rattle.hexadecimal.specs.Line.{line_bytes, feed_bytes}
 use Rattle.dialogue.specs.Bench.{call_run, request_then, request_of, bench_of}
 use Rattle.dialogue.proofs.Kept.{length_after}
 use Rattle.dialogue.proofs.EachLine.{All, GoodAfter, each_run}

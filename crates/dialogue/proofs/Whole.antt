@@ -9,7 +9,7 @@ use native.Mathlib.Omega.{arith}
 use lib.ListN.{length, take, drop, length-append, length-drop, take-append-drop}
 use lib.Seq.{length-take-le, take_at}
 use borrow.Author.Tests.{le-leb}
-use Rattle.hex.specs.Hex.{out_decoded}
+use Rattle.hexadecimal.specs.Hex.{out_decoded}
 use Rattle.protocol.specs.Pick.{if◌then◌else◌}
 use Rattle.calls.specs.Call as calls
 use Rattle.calls.specs.declared.call.Call.{Call}
@@ -27,7 +27,7 @@ use Rattle.requests.proofs.Small.{Small, small_request}
 use Rattle.dialogue.specs.Dialogue as dialogue
 use Rattle.dialogue.specs.declared.Place.{Place}
 use Rattle.dialogue.specs.declared.Run.TheVariants as run
-use Rattle.hex.specs.Line.{line_bytes}
+use Rattle.hexadecimal.specs.Line.{line_bytes}
 use Rattle.dialogue.specs.Bench.{then_say, report_then, told_then, call_lines, call_run, request_then, request_of, bench_of}
 use Rattle.dialogue.proofs.Machine.{machine_of}
 use Rattle.dialogue.proofs.Lines.{decoded_line}

@@ -1,7 +1,7 @@
 -- The whole bench: from the lines of the input, and what follows its last line feed, to the lines that are printed. (01, The bench program)
 -- Assumes nothing.
 use Rattle.std.specs.Prelude.{ℕ, List, [], ◌∷◌, length, drop, replicate}
-use Rattle.hex.specs.Line.{line_bytes}
+use Rattle.hexadecimal.specs.Line.{line_bytes}
 use Rattle.protocol.specs.Pick.{if◌then◌else◌}
 use Rattle.protocol.specs.declared.error.Answer.TheVariants as answer
 use Rattle.engine.specs.Budget.{nothing}

@@ -1,9 +1,9 @@
 -- A run of the bench program, line by line: what a line leads to, and the line that answers it. (01, The bench program)
 -- Assumes nothing.
 use Rattle.std.specs.Prelude.{ℕ, min, List, [], ◌++◌, length, take, drop, replicate, leb, eqb}
-use Rattle.hex.specs.Hex.{decoded_of, out_decoded}
-use Rattle.hex.specs.declared.Decoded.{Decoded}
-use Rattle.hex.specs.declared.Decoded.TheVariants as decoded
+use Rattle.hexadecimal.specs.Hex.{decoded_of, out_decoded}
+use Rattle.hexadecimal.specs.declared.Decoded.{Decoded}
+use Rattle.hexadecimal.specs.declared.Decoded.TheVariants as decoded
 use Rattle.protocol.specs.Pick.{if◌then◌else◌}
 use Rattle.protocol.specs.Bytes.{over}
 use Rattle.protocol.specs.declared.common.Config.{Config}

@@ -1,6 +1,6 @@
 // A run of the bench program: a line in, a line out.
 ghost use Rattle.std.specs.Prelude.{◌≡◌, length};
-ghost use Rattle.hex.specs.Hex.{out_decoded};
+ghost use Rattle.hexadecimal.specs.Hex.{out_decoded};
 ghost use Rattle.printing.specs.Printing.{printed_of, out_printed};
 ghost use Rattle.dialogue.specs.Dialogue.{byte_count, filled, size_of, said_of, bytes_said, tell_of, show_of, turned_of, say_of, hear_of, hear_buffer, go_on, go_buffer, room_for, open_of, refused_of, begin_of, begin_buffer, first_of, first_request, first_buffer, answer_of, request_after, outcome_after, buffer_after, last_of, unfinished_of, close_of};
 
@@ -8,7 +8,7 @@ use calls::call::{Call, Reported};
 use calls::kind::Kind;
 use engine::budget::Tally;
 use engine::bus::Transfer;
-use hex::Decoded;
+use hexadecimal::Decoded;
 use protocol::bytes;
 use protocol::common::Config;
 use protocol::consts::LEAST_WORK_BUFFER;
@@ -55,7 +55,7 @@ pub struct Turned {
 fn decode(line: &[u8], out: &mut [u8]) -> usize
     ensures { (result ≡ byte_count line.now (length out.old)) × (out.new ≡ out_decoded line.now out.old) }
 {
-    match hex::decode(line, out) {
+    match hexadecimal::decode(line, out) {
         Decoded::Bytes(n) => n,
         Decoded::Bad => 0,
         Decoded::TooLong => 0,

@@ -1,7 +1,7 @@
 // The packs of a file, one a line, from chunks of any size: what a line says, and the count over the lines so far. A chunk's whole lines are taken where
 // they lie, and no line is copied or held: of one that is not whole yet, the number that its digits make is kept. (02, W-212)
 ghost use Rattle.std.specs.Prelude.{◌≡◌, ◌+◌, ◌%◌, ◌≤◌, ◌<◌, min, max, length, get_or};
-ghost use Rattle.hex.specs.Hex.{value_of};
+ghost use Rattle.hexadecimal.specs.Hex.{value_of};
 ghost use Rattle.packs.specs.Sheet.{sheet};
 ghost use Rattle.packs.specs.Count.{start_of, seen_of, is_refused, add_read, add_unread, one_more, between_of, refused_of, said_of, counted_of, digit_of, step_of, feed_of};
 ghost use Rattle.packs.specs.Ahead.{Tabled, pair_at, read_ahead, unread_ahead, ahead_of, line_at, used_by, turn_of};

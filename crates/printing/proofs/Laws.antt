@@ -6,10 +6,10 @@ use mathlib.Core.List.{List, [], ◌∷◌, ◌++◌}
 use native.Mathlib.Omega.{arith}
 use lib.ListN.{length, take, drop, set, length-append, length-drop}
 use borrow.Author.Tests.{le-ltb}
-use Rattle.hex.specs.Line.{feed_bytes}
+use Rattle.hexadecimal.specs.Line.{feed_bytes}
 use Rattle.protocol.specs.Pick.{if◌then◌else◌}
-use Rattle.hex.specs.Hex.{hex_of, out_encoded}
-use Rattle.hex.proofs.Laws.{hex_append, length_hex}
+use Rattle.hexadecimal.specs.Hex.{hex_of, out_encoded}
+use Rattle.hexadecimal.proofs.Laws.{hex_append, length_hex}
 use Rattle.protocol.specs.Bytes.{over}
 use Rattle.protocol.proofs.Laws.{over_set, take_over, over_over, length_over, laid_more, lent_back}
 

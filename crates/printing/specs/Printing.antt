@@ -1,7 +1,7 @@
 -- The lines that the bench program prints. (01, The bench program)
 -- Assumes nothing.
 use Rattle.std.specs.Prelude.{ℕ, ◌+◌, ◌*◌, ◌/◌, ◌%◌, List, [], ◌∷◌, ◌++◌, length, leb}
-use Rattle.hex.specs.Line.{feed_bytes}
+use Rattle.hexadecimal.specs.Line.{feed_bytes}
 use Rattle.protocol.specs.Pick.{if◌then◌else◌}
 use Rattle.protocol.specs.Bytes.{over}
 use Rattle.protocol.specs.Frame.{pair_of}

@@ -1,6 +1,6 @@
 // The lines that the bench program prints: upper-case hexadecimal and a line feed, laid at the front of a lent slice.
 ghost use Rattle.std.specs.Prelude.{◌≡◌, ◌++◌, ◌+◌, ◌*◌, ◌≤◌, length, leb};
-ghost use Rattle.hex.specs.Line.{feed_bytes};
+ghost use Rattle.hexadecimal.specs.Line.{feed_bytes};
 ghost use Rattle.printing.specs.Printing.{printed_of, out_printed, quad_of, write_said, read_said, end_said, cut_said};
 
 use engine::budget::Tally;
@@ -36,8 +36,8 @@ fn lay(head: &[u8], body: &[u8], out: &mut [u8]) -> usize
     ensures { (result ≡ length (feed_bytes (head.now ++ body.now))) × (out.new ≡ out_printed (head.now ++ body.now) out.old) }
 {
     let a = head.len() * 2;
-    hex::encode(head, out);
-    hex::encode(body, &mut out[a..]);
+    hexadecimal::encode(head, out);
+    hexadecimal::encode(body, &mut out[a..]);
     let b = a + body.len() * 2;
     out[b] = 10;
     b + 1

@@ -11,7 +11,7 @@ use lib.Dec.{eqb}
 use Rattle.protocol.specs.Pick.{if◌then◌else◌}
 use Rattle.protocol.specs.Bytes.{over}
 use Rattle.protocol.proofs.Cases.{cases}
-use Rattle.hex.specs.Text.{ascii}
+use Rattle.hexadecimal.specs.Text.{ascii}
 use Rattle.packs.specs.Count.{seen_of}
 use Rattle.packs.specs.Sheet.{sheet}
 use Rattle.packs.specs.declared.Count.{Count}

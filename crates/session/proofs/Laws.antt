@@ -9,7 +9,7 @@ use lib.ListN.{length, take, drop, length-drop}
 use lib.Seq.{take_all}
 use lib.Dec.{ltb, leb, eqb}
 use borrow.Author.Tests.{ltb-true, leb-true, leb-false, le-leb, lt-leb}
-use Rattle.hex.specs.Line.{feed_bytes}
+use Rattle.hexadecimal.specs.Line.{feed_bytes}
 use Rattle.protocol.specs.Pick.{if◌then◌else◌}
 use Rattle.printing.specs.Printing.{printed_of}
 use Rattle.printing.proofs.Laws.{length_feed}

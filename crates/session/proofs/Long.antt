@@ -10,8 +10,8 @@ use lib.ListN.{length, take, drop, length-append}
 use lib.Seq.{length-take-le, take_all, take-append-le}
 use lib.Dec.{ltb, eqb}
 use borrow.Author.Tests.{lt-ltb, ne_eqb, eqb-false, ltb-true, ltb-false}
-use Rattle.hex.specs.Hex.{decoded_of, bytes_of, out_decoded}
-use Rattle.hex.specs.declared.Decoded.TheVariants as decoded
+use Rattle.hexadecimal.specs.Hex.{decoded_of, bytes_of, out_decoded}
+use Rattle.hexadecimal.specs.declared.Decoded.TheVariants as decoded
 use Rattle.protocol.specs.Pick.{if◌then◌else◌}
 use Rattle.requests.specs.Outcome.{outcome_line}
 use Rattle.requests.specs.Retired.{retired_kind}

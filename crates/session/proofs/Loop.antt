@@ -11,7 +11,7 @@ use borrow.Author.Tests.{lt-ltb, le-ltb}
 use Rattle.protocol.specs.Pick.{if◌then◌else◌}
 use Rattle.lines.specs.declared.Took.{Took}
 use Rattle.lines.specs.declared.Took.TheVariants as took
-use Rattle.hex.specs.Line.{feed_bytes}
+use Rattle.hexadecimal.specs.Line.{feed_bytes}
 use Rattle.requests.specs.Request.{longest_request}
 use Rattle.printing.proofs.Laws.{length_feed}
 use Rattle.dialogue.specs.Dialogue.{last, bytes_said, said_of, close_of}

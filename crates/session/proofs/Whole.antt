@@ -9,7 +9,7 @@ use lib.ListN.{length, take, drop, drop_of_length-le}
 use lib.Seq.{length-take-le, take-nil}
 use lib.Dec.{ltb}
 use borrow.Author.Tests.{lt-ltb, le-ltb, le-leb, ltb-true, ltb-false}
-use Rattle.hex.specs.Line.{feed_bytes, feeds}
+use Rattle.hexadecimal.specs.Line.{feed_bytes, feeds}
 use Rattle.protocol.specs.Pick.{if◌then◌else◌}
 use Rattle.protocol.proofs.Cases.{is_true}
 use Rattle.lines.specs.Input.{lines_from, rest_from}

@@ -3,7 +3,7 @@
 use Rattle.std.specs.Prelude.{ℕ, ◌+◌, List, [], length, take, ltb}
 use Rattle.protocol.specs.Pick.{if◌then◌else◌}
 use Rattle.lines.specs.Input.{lines_from, rest_from}
-use Rattle.hex.specs.Line.{feeds}
+use Rattle.hexadecimal.specs.Line.{feeds}
 use Rattle.dialogue.specs.Bench.{bench_of}
 use Rattle.session.specs.Desk.{held_bytes}
 

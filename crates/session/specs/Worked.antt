@@ -2,8 +2,8 @@
 -- Assumes nothing.
 use Rattle.std.specs.Prelude.{ℕ, ◌*◌, ◌≡◌, refl, List, [], ◌∷◌, ◌++◌, replicate}
 use Prim.Native.String.{String}
-use Rattle.hex.specs.Line.{feeds}
-use Rattle.hex.specs.Text.{ascii}
+use Rattle.hexadecimal.specs.Line.{feeds}
+use Rattle.hexadecimal.specs.Text.{ascii}
 use Rattle.smbus_pec.specs.Pec.{bit_step, bit_steps, byte_step, pec_of}
 use Rattle.protocol.specs.Pick.{if◌then◌else◌}
 use Rattle.protocol.specs.Bytes as bytes
@@ -21,8 +21,8 @@ use Rattle.reading.specs.Parts as parts
 use Rattle.reading.specs.Reading as reading
 use Rattle.interface.specs.Plans as interface
 use Rattle.r5.specs.Plans as r5
-use Rattle.hex.specs.Hex as hex
-use Rattle.hex.specs.Line as line
+use Rattle.hexadecimal.specs.Hex as hex
+use Rattle.hexadecimal.specs.Line as line
 use Rattle.lines.specs.Input as input
 use Rattle.requests.specs.Fields as fields
 use Rattle.requests.specs.Request as request

@@ -48,7 +48,7 @@ pub(crate) fn voltages() {
     figure(v.recommended_temp_chrg_mv);
     let back = v.to_bytes();
     let mut digits = [0u8; 20];
-    hex::encode(&back, &mut digits);
+    hexadecimal::encode(&back, &mut digits);
     say::words(b" ");
     say::words(&digits);
     say::words(b"\n");

@@ -2,8 +2,8 @@
 -- Assumes nothing.
 use borrow.Author.Rules.{rules}
 use Rattle.packs.proofs.Cases.{cases}
-use Rattle.hex.proofs.Laws.{same_byte}
-use Rattle.hex.specs.Hex.{byte_of}
+use Rattle.hexadecimal.proofs.Laws.{same_byte}
+use Rattle.hexadecimal.specs.Hex.{byte_of}
 use Rattle.packs.specs.Ahead.{pair_at}
 use Rattle.packs.proofs.pair.Statement.{statement}
 use Rattle.packs.proofs.pair.Tie as tie

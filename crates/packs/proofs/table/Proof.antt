@@ -1,7 +1,7 @@
 -- `packs::table` meets its contract, the table's rule: one test over all its entries, which antt computes.
 -- Assumes nothing.
 use Rattle.protocol.specs.Pick.{if◌then◌else◌}
-use Rattle.hex.specs.Hex.{value_of}
+use Rattle.hexadecimal.specs.Hex.{value_of}
 use Rattle.smbus_pec.proofs.Every.{entry}
 use Rattle.packs.proofs.table.Statement.{statement}
 use Rattle.packs.proofs.table.Tie as tie

@@ -2,7 +2,7 @@
 -- Assumes nothing.
 use native.Mathlib.Omega.{arith}
 use borrow.Author.Rules.{rules}
-use Rattle.hex.specs.Text.{ascii}
+use Rattle.hexadecimal.specs.Text.{ascii}
 use Rattle.report.proofs.Texts.{laid_report, laid_refused}
 use Rattle.report.proofs.lay.Statement.{statement}
 use Rattle.report.proofs.lay.Tie as tie

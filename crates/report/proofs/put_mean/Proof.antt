@@ -1,7 +1,7 @@
 -- `report::put_mean` meets its contract: one line comes after the other.
 -- Assumes nothing.
 use borrow.Author.Rules.{rules}
-use Rattle.hex.specs.Text.{ascii}
+use Rattle.hexadecimal.specs.Text.{ascii}
 use Rattle.report.specs.Page.{put_mean}
 use Rattle.report.proofs.put_mean.Statement.{statement}
 use Rattle.report.proofs.put_mean.Tie as tie

@@ -1,7 +1,7 @@
 -- `report::put_packs` meets its contract: one line comes after the other.
 -- Assumes nothing.
 use borrow.Author.Rules.{rules}
-use Rattle.hex.specs.Text.{ascii}
+use Rattle.hexadecimal.specs.Text.{ascii}
 use Rattle.report.specs.Page.{put_packs}
 use Rattle.report.proofs.put_packs.Statement.{statement}
 use Rattle.report.proofs.put_packs.Tie as tie

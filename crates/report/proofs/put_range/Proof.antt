@@ -1,7 +1,7 @@
 -- `report::put_range` meets its contract: one line comes after the other.
 -- Assumes nothing.
 use borrow.Author.Rules.{rules}
-use Rattle.hex.specs.Text.{ascii}
+use Rattle.hexadecimal.specs.Text.{ascii}
 use Rattle.report.specs.Page.{put_range}
 use Rattle.report.proofs.put_range.Statement.{statement}
 use Rattle.report.proofs.put_range.Tie as tie

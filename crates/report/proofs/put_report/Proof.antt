@@ -1,7 +1,7 @@
 -- `report::put_report` meets its contract: one part comes after the other.
 -- Assumes nothing.
 use borrow.Author.Rules.{rules}
-use Rattle.hex.specs.Text.{ascii}
+use Rattle.hexadecimal.specs.Text.{ascii}
 use Rattle.report.specs.Page.{put_report}
 use Rattle.report.proofs.put_report.Statement.{statement}
 use Rattle.report.proofs.put_report.Tie as tie

@@ -2,7 +2,7 @@
 -- Assumes nothing.
 use borrow.Author.Rules.{rules}
 use Rattle.protocol.proofs.Cases.{cases, not_eq}
-use Rattle.hex.specs.Text.{ascii}
+use Rattle.hexadecimal.specs.Text.{ascii}
 use Rattle.report.specs.Page.{put_unread}
 use Rattle.report.proofs.put_unread.Statement.{statement}
 use Rattle.report.proofs.put_unread.Tie as tie

@@ -1,11 +1,11 @@
--- `hex::pair` meets its contract: each arm is a case of `byte_of`.
+-- `hexadecimal::pair` meets its contract: each arm is a case of `byte_of`.
 -- Assumes nothing.
 use borrow.Author.Rules.{rules}
-use Rattle.hex.proofs.Cases.{cases}
-use Rattle.hex.specs.Hex.{byte_of}
-use Rattle.hex.proofs.Laws.{same_byte}
-use Rattle.hex.proofs.pair.Statement.{statement}
-use Rattle.hex.proofs.pair.Tie as tie
+use Rattle.hexadecimal.proofs.Cases.{cases}
+use Rattle.hexadecimal.specs.Hex.{byte_of}
+use Rattle.hexadecimal.proofs.Laws.{same_byte}
+use Rattle.hexadecimal.proofs.pair.Statement.{statement}
+use Rattle.hexadecimal.proofs.pair.Tie as tie
 
 value_requires : tie.Need-value-requires
 value_requires c κs = search rules

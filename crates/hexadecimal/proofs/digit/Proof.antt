@@ -1,10 +1,10 @@
--- `hex::digit` meets its contract: each arm is a case of `digit_of`.
+-- `hexadecimal::digit` meets its contract: each arm is a case of `digit_of`.
 -- Assumes nothing.
 use borrow.Author.Rules.{rules}
-use Rattle.hex.proofs.Cases.{cases}
-use Rattle.hex.specs.Hex.{digit_of}
-use Rattle.hex.proofs.digit.Statement.{statement}
-use Rattle.hex.proofs.digit.Tie as tie
+use Rattle.hexadecimal.proofs.Cases.{cases}
+use Rattle.hexadecimal.specs.Hex.{digit_of}
+use Rattle.hexadecimal.proofs.digit.Statement.{statement}
+use Rattle.hexadecimal.proofs.digit.Tie as tie
 
 add_result : tie.Need-overflow-add-result
 add_result c = search rules

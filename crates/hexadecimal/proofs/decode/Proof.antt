@@ -1,4 +1,4 @@
--- `hex::decode` meets its contract: the loop keeps the bytes of the pairs passed at the front.
+-- `hexadecimal::decode` meets its contract: the loop keeps the bytes of the pairs passed at the front.
 -- Assumes nothing.
 use Prim.Native.Nat.{ℕ, ◌+◌, ◌-◌, ◌*◌, ◌/◌, ◌≤◌, ◌<◌}
 use mathlib.Core.Path.{◌≡◌, ◌∙◌}
@@ -6,12 +6,12 @@ use mathlib.Core.List.{List, [], ◌++◌, append-nil}
 use native.Mathlib.Omega.{arith}
 use lib.ListN.{length, take, drop, get_or, drop_of_length-le}
 use borrow.Author.Rules.{rules}
-use Rattle.hex.proofs.Cases.{cases}
-use Rattle.hex.specs.Hex.{byte_of, bytes_of, decoded_of, out_decoded}
-use Rattle.hex.proofs.Laws.{drop_more, bytes_none, decode_turn, decode_stop, bad_pair}
+use Rattle.hexadecimal.proofs.Cases.{cases}
+use Rattle.hexadecimal.specs.Hex.{byte_of, bytes_of, decoded_of, out_decoded}
+use Rattle.hexadecimal.proofs.Laws.{drop_more, bytes_none, decode_turn, decode_stop, bad_pair}
 use lib.Seq.{drop-set-lt}
-use Rattle.hex.proofs.decode.Statement.{statement}
-use Rattle.hex.proofs.decode.Tie as tie
+use Rattle.hexadecimal.proofs.decode.Statement.{statement}
+use Rattle.hexadecimal.proofs.decode.Tie as tie
 
 abbrev invariant_loop : tie.invariant_loop
 invariant_loop digits out₀ n i₀ out i =

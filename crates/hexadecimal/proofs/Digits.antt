@@ -10,12 +10,12 @@ use lib.ListN.{length, get_or}
 use lib.Dec.{eqb}
 use borrow.Author.Tests.{eq-eqb, eqb-true}
 use Rattle.protocol.specs.Pick.{if◌then◌else◌}
-use Rattle.hex.specs.Hex.{bytes_of, digit_of, hex_of}
-use Rattle.hex.specs.BothWays.{AllBytes}
-use Rattle.hex.specs.Line.{line_bytes}
-use Rattle.hex.specs.Digits.{sixteen, in_digits, Hexadecimal}
-use Rattle.hex.proofs.Laws.{length_hex}
-use Rattle.hex.proofs.Inverse.{bytes_hex, hex_bytes, bytes_small}
+use Rattle.hexadecimal.specs.Hex.{bytes_of, digit_of, hex_of}
+use Rattle.hexadecimal.specs.BothWays.{AllBytes}
+use Rattle.hexadecimal.specs.Line.{line_bytes}
+use Rattle.hexadecimal.specs.Digits.{sixteen, in_digits, Hexadecimal}
+use Rattle.hexadecimal.proofs.Laws.{length_hex}
+use Rattle.hexadecimal.proofs.Inverse.{bytes_hex, hex_bytes, bytes_small}
 
 digit_row : (v : ℕ) → v < 16 → digit_of v ≡ get_or sixteen v 0
 unfolding digit_of if◌then◌else◌

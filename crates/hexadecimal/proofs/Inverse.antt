@@ -9,11 +9,11 @@ use lib.ListN.{length}
 use lib.Dec.{ltb, eqb}
 use borrow.Author.Tests.{ltb-true, ltb-false, eqb-false}
 use Rattle.protocol.specs.Pick.{if◌then◌else◌}
-use Rattle.hex.specs.BothWays.{AllBytes, BothWays}
-use Rattle.hex.specs.Hex.{value_of, byte_of, bytes_of, decoded_of, digit_of, hex_of}
-use Rattle.hex.specs.declared.Decoded.TheVariants as decoded
-use Rattle.hex.proofs.Cases.{cases}
-use Rattle.hex.proofs.Laws.{length_hex}
+use Rattle.hexadecimal.specs.BothWays.{AllBytes, BothWays}
+use Rattle.hexadecimal.specs.Hex.{value_of, byte_of, bytes_of, decoded_of, digit_of, hex_of}
+use Rattle.hexadecimal.specs.declared.Decoded.TheVariants as decoded
+use Rattle.hexadecimal.proofs.Cases.{cases}
+use Rattle.hexadecimal.proofs.Laws.{length_hex}
 
 value_small : (v : ℕ) → v < 10 → v ≡ value_of (v + 48)
 unfolding value_of

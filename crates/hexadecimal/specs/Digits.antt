@@ -1,9 +1,9 @@
 -- The sixteen digits in ASCII, and what they make of bytes and of a line. (01, The bench program: upper-case hexadecimal)
 -- Assumes nothing.
 use Rattle.std.specs.Prelude.{ℕ, ◌/◌, ◌%◌, ◌≡◌, List, [], ◌∷◌, ◌⊎◌, get_or}
-use Rattle.hex.specs.Hex.{hex_of}
-use Rattle.hex.specs.BothWays.{AllBytes}
-use Rattle.hex.specs.Line.{line_bytes}
+use Rattle.hexadecimal.specs.Hex.{hex_of}
+use Rattle.hexadecimal.specs.BothWays.{AllBytes}
+use Rattle.hexadecimal.specs.Line.{line_bytes}
 
 -- the digits of 0 to 15
 abbrev pub sixteen : List ℕ

@@ -1,4 +1,4 @@
--- `hex::encode` meets its contract: the loop keeps the digits of the bytes passed at the front.
+-- `hexadecimal::encode` meets its contract: the loop keeps the digits of the bytes passed at the front.
 -- Assumes nothing.
 use Prim.Native.Nat.{ℕ, ◌+◌, ◌-◌, ◌*◌, ◌≤◌}
 use mathlib.Core.Path.{◌≡◌, refl, ap, ◌∙◌}
@@ -6,12 +6,12 @@ use mathlib.Core.List.{List, ◌++◌}
 use native.Mathlib.Omega.{arith}
 use lib.ListN.{length, take, drop, set, length-set}
 use borrow.Author.Rules.{rules}
-use Rattle.hex.proofs.Cases.{cases}
-use Rattle.hex.specs.Hex.{hex_of, encoded_of, out_encoded}
-use Rattle.hex.proofs.Laws.{encode_turn, length_hex}
+use Rattle.hexadecimal.proofs.Cases.{cases}
+use Rattle.hexadecimal.specs.Hex.{hex_of, encoded_of, out_encoded}
+use Rattle.hexadecimal.proofs.Laws.{encode_turn, length_hex}
 use lib.Seq.{take-length}
-use Rattle.hex.proofs.encode.Statement.{statement}
-use Rattle.hex.proofs.encode.Tie as tie
+use Rattle.hexadecimal.proofs.encode.Statement.{statement}
+use Rattle.hexadecimal.proofs.encode.Tie as tie
 
 abbrev invariant_loop : tie.invariant_loop
 invariant_loop bytes out₀ n i₀ out i = (i ≤ n) × ((length out ≡ length out₀) × (out ≡ hex_of (take i bytes) ++ drop (i * 2) out₀))

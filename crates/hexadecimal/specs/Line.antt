@@ -2,7 +2,7 @@
 -- Assumes nothing.
 use Rattle.std.specs.Prelude.{ℕ, ◌*◌, List, [], ◌∷◌, ◌++◌, length, eqb}
 use Rattle.protocol.specs.Pick.{if◌then◌else◌}
-use Rattle.hex.specs.Hex.{bytes_of, hex_of}
+use Rattle.hexadecimal.specs.Hex.{bytes_of, hex_of}
 
 -- the bytes of a line; one that is no hexadecimal has none, as an empty one
 unfoldable pub line_bytes : List ℕ → List ℕ

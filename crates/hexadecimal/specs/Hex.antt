@@ -2,10 +2,10 @@
 -- Assumes nothing.
 use Rattle.std.specs.Prelude.{ℕ, ◌+◌, ◌-◌, ◌*◌, ◌/◌, ◌%◌, List, [], ◌∷◌, ◌++◌, length, drop, ltb, eqb}
 use Rattle.protocol.specs.Pick.{if◌then◌else◌}
-use Rattle.hex.specs.declared.Decoded.{Decoded}
-use Rattle.hex.specs.declared.Decoded.TheVariants as decoded
-use Rattle.hex.specs.declared.Encoded.{Encoded}
-use Rattle.hex.specs.declared.Encoded.TheVariants as encoded
+use Rattle.hexadecimal.specs.declared.Decoded.{Decoded}
+use Rattle.hexadecimal.specs.declared.Decoded.TheVariants as decoded
+use Rattle.hexadecimal.specs.declared.Encoded.{Encoded}
+use Rattle.hexadecimal.specs.declared.Encoded.TheVariants as encoded
 
 -- a digit's value: 0 to 9, then A to F; 16 of any other byte
 unfoldable pub value_of : ℕ → ℕ

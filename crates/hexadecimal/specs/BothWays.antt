@@ -1,8 +1,8 @@
 -- Hexadecimal to bytes and back: digits are accepted exactly where they are the digits of some bytes that have room. (01, The bench program)
 -- Assumes nothing.
 use Rattle.std.specs.Prelude.{ℕ, ◌≤◌, ◌<◌, ◌≡◌, List, length, get_or}
-use Rattle.hex.specs.Hex.{bytes_of, decoded_of, hex_of}
-use Rattle.hex.specs.declared.Decoded.TheVariants as decoded
+use Rattle.hexadecimal.specs.Hex.{bytes_of, decoded_of, hex_of}
+use Rattle.hexadecimal.specs.declared.Decoded.TheVariants as decoded
 
 -- every element is a byte
 abbrev pub AllBytes : List ℕ → Type 0

@@ -10,7 +10,7 @@ use lib.ListN.{length, take, drop, get_or, set, length-append, take-append-drop}
 use lib.Seq.{length-take-le, drop-cons, take-suc, take-suc-set, drop-drop, set_at, append_snoc}
 use borrow.Author.Tests.{lt-ltb, le-ltb}
 use Rattle.protocol.specs.Pick.{if◌then◌else◌}
-use Rattle.hex.specs.Hex.{byte_of, bytes_of, digit_of, hex_of}
+use Rattle.hexadecimal.specs.Hex.{byte_of, bytes_of, digit_of, hex_of}
 
 -- two values that calls gave, as a byte
 pub same_byte : (u l a b : ℕ) → u ≡ a → l ≡ b → u * 16 + l ≡ a * 16 + b

@@ -1,10 +1,10 @@
--- `hex::value` meets its contract: each arm is a case of `value_of`.
+-- `hexadecimal::value` meets its contract: each arm is a case of `value_of`.
 -- Assumes nothing.
 use borrow.Author.Rules.{rules}
-use Rattle.hex.proofs.Cases.{cases}
-use Rattle.hex.specs.Hex.{value_of}
-use Rattle.hex.proofs.value.Statement.{statement}
-use Rattle.hex.proofs.value.Tie as tie
+use Rattle.hexadecimal.proofs.Cases.{cases}
+use Rattle.hexadecimal.specs.Hex.{value_of}
+use Rattle.hexadecimal.proofs.value.Statement.{statement}
+use Rattle.hexadecimal.proofs.value.Tie as tie
 
 sub_result : tie.Need-overflow-sub-result
 sub_result c = search rules
