@@ -85,7 +85,7 @@ module _ (call : WriteCall) where
 
   settle_ends : (o : Outcome) → Among (0 ∷ 1 ∷ 2 ∷ 6 ∷ []) (writing.settle_of (writing.counted_of call) o).phase
   unfolding Ending writing.settle_of writing.advance_of case◌acknowledged◌error◌timeout◌ writing.counted_of
-  settle_ends outcome.Acknowledged = phase_ends _ _ _
+  settle_ends outcome.Acknowledged = phase_ends (1 ∷ 2 ∷ 6 ∷ []) _ _
   settle_ends (outcome.BusError code) = fail_ends (answer.I2c code) (inr (inl refl))
   settle_ends outcome.Timeout = fail_ends answer.Timeout (inr (inr (inl refl)))
 
@@ -207,11 +207,11 @@ module _ (call : ReadCall) where
   -- a call that goes on or is done
   headed_ends : Among (0 ∷ 1 ∷ 2 ∷ 3 ∷ []) (reading.headed_of (reading.counted_of call)).phase
   unfolding reading.headed_of
-  headed_ends = phase_ends _ _ _
+  headed_ends = phase_ends (1 ∷ 2 ∷ 3 ∷ []) _ _
 
   block_ends : Among (0 ∷ 1 ∷ 2 ∷ 3 ∷ []) (reading.advance_of (reading.counted_of call)).phase
   unfolding reading.advance_of
-  block_ends = phase_ends _ _ _
+  block_ends = phase_ends (1 ∷ 2 ∷ 3 ∷ []) _ _
 
   -- once a block is handed over the call waits or is done
   block_kept : (before after : List ℕ) → Kept (reading.advance_of (reading.counted_of call)).phase before after
