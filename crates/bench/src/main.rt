@@ -1,4 +1,6 @@
 // The bench program: reads standard input in large chunks and writes what the lines of each give before it reads on. The rest is in `session`.
+#![tactic(auto)]
+
 ghost use Rattle.std.specs.Prelude.{◌≡◌, true, ◌≤◌, length, take as front};
 ghost use Rattle.session.specs.Desk.{desk, Sized};
 ghost use Rattle.session.specs.Session.{start_of, at_byte, take_of};

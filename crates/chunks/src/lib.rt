@@ -1,4 +1,6 @@
 // Standard input, chunk by chunk.
+#![tactic(auto)]
+
 ghost use Rattle.chunks.specs.Brings.{Brings};
 
 use libc::STDIN_FILENO;

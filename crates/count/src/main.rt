@@ -1,5 +1,7 @@
 // The count program: reads standard input in large chunks, to its end or to the first line that is refused, and prints the report. The rest is in `packs`
 // and `report`. (02, W-212)
+#![tactic(auto)]
+
 ghost use Rattle.std.specs.Prelude.{◌≡◌, length, replicate, take as front};
 ghost use Rattle.protocol.specs.Bytes.{over};
 ghost use Rattle.packs.specs.Sheet.{sheet};

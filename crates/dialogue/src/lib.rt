@@ -1,4 +1,6 @@
 // A run of the bench program: a line in, a line out.
+#![tactic(auto)]
+
 ghost use Rattle.std.specs.Prelude.{◌≡◌, length};
 ghost use Rattle.hexadecimal.specs.Hex.{out_decoded};
 ghost use Rattle.printing.specs.Printing.{printed_of, out_printed};

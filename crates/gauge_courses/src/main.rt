@@ -3,6 +3,8 @@
 // each setting has the runs, how they ended, at how many stops the block that is due was all old, at how many all new and at how many of these the
 // course has no 2, and how many flashes in the end had the payload over the old bytes and no other change. What a flash is compared with is laid
 // without the gauge. The file `stdout` comes from tests/gauge_courses.py, a program of its own that goes by document 01.
+#![tactic(auto)]
+
 use calls::call::Call;
 use calls::kind::Kind;
 use courses::course::End;

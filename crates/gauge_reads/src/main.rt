@@ -3,6 +3,8 @@
 // setting has the runs, how they ended, how many buffers in the end had the flash's bytes, and two digests: of ends, waits, transfers, pointers and buffers where
 // the runs stopped, and of pointers and buffers in the end. The file `stdout` comes from tests/gauge_reads.py, a program of its own that goes by
 // document 01.
+#![tactic(auto)]
+
 mod runs;
 mod seen;
 

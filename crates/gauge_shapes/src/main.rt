@@ -2,6 +2,8 @@
 // counted, with a right PEC there and a wrong one, each by every fate and with the pointer at four addresses: what the host hears, how often the flash changed where no block belongs, and a
 // digest of outcomes, pointers and both ends of the flash. A row for a pointer has reads of 0 to 40 bytes by every fate, and a digest of outcomes, pointers and replies.
 // The file `stdout` comes from tests/gauge_shapes.py, a program of its own that goes by document 01.
+#![tactic(auto)]
+
 mod frames;
 mod reads;
 mod seen;

@@ -2,6 +2,8 @@
 // page of 256 addresses to the next, that end at the last address, and that the window refuses. A line has the answer and its detail, the waits, the
 // transfers, the gauge's pointer, and digests of the flash and of a read's buffer. The file `stdout` comes from tests/gauge_starts.py, a program of its own
 // that goes by document 01.
+#![tactic(auto)]
+
 mod runs;
 mod say;
 

@@ -1,4 +1,6 @@
 // Upper-case hexadecimal: digits to bytes and bytes to digits, over lent slices.
+#![tactic(auto)]
+
 ghost use Rattle.std.specs.Prelude.{◌≡◌, length};
 ghost use Rattle.hexadecimal.specs.Hex.{value_of, byte_of, digit_of, decoded_of, out_decoded, encoded_of, out_encoded};
 

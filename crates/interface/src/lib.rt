@@ -1,4 +1,6 @@
 // The calls of interface.rs, each a plan that one of the two engines carries out: plain writes, registers, commands, buffers.
+#![tactic(auto)]
+
 ghost use Rattle.std.specs.Prelude.{◌≡◌};
 ghost use Rattle.interface.specs.Plans.{plain_limit, write_with_retries, write_register, read_register, command_reads, dispatch_command, read_buffer, write_buffer};
 

@@ -1,4 +1,6 @@
 // Input that comes in chunks of any size, put together to lines. A line that lies whole in a chunk is not copied.
+#![tactic(auto)]
+
 ghost use Rattle.std.specs.Prelude.{◌≡◌, length, drop};
 ghost use Rattle.lines.specs.Lines.{before_feed, took_by, kept_of, took_of, held_after};
 

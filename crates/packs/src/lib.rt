@@ -1,5 +1,7 @@
 // The packs of a file, one a line, from chunks of any size: what a line says, and the count over the lines so far. A chunk's whole lines are taken where
 // they lie, and no line is copied or held: of one that is not whole yet, the number that its digits make is kept. (02, W-212)
+#![tactic(auto)]
+
 ghost use Rattle.std.specs.Prelude.{◌≡◌, ◌+◌, ◌%◌, ◌≤◌, ◌<◌, min, max, length, get_or};
 ghost use Rattle.hexadecimal.specs.Hex.{value_of};
 ghost use Rattle.packs.specs.Sheet.{sheet};

@@ -1,6 +1,8 @@
 // Prints the packet error codes of many strings: four of each length from 0 to 64, and four of 8,192 bytes, cut one after the other from one
 // pseudo-random sequence of bytes. A line has a string's length, its code by `pec`, which goes a bit at a time, and its code by the table. The file
 // `stdout` comes from tests/pec_vectors.py, a program of its own that goes by the SMBus rule.
+#![tactic(auto)]
+
 use libc::STDOUT_FILENO;
 
 fn main() {

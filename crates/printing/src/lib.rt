@@ -1,4 +1,6 @@
 // The lines that the bench program prints: upper-case hexadecimal and a line feed, laid at the front of a lent slice.
+#![tactic(auto)]
+
 ghost use Rattle.std.specs.Prelude.{◌≡◌, ◌++◌, ◌+◌, ◌*◌, ◌≤◌, length, leb};
 ghost use Rattle.hexadecimal.specs.Line.{feed_bytes};
 ghost use Rattle.printing.specs.Printing.{printed_of, out_printed, quad_of, write_said, read_said, end_said, cut_said};

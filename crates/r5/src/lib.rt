@@ -1,5 +1,7 @@
 // The calls of versions/r5.rs that are carried over, by name, each a plan that one of the two engines carries out: keys, access key, manufacturer info,
 // charging voltage override, data flash.
+#![tactic(auto)]
+
 pub mod voltage;
 
 ghost use Rattle.std.specs.Prelude.{◌≡◌};

@@ -1,6 +1,8 @@
 // Replays a list of answers on the ported code: how many cases it ran, how many differ, and the first that does. The list, in the form
 // of docs/BENCH.md, is the file that the first argument names. It is read twice at the same time, once for what goes in and once for
 // what must come out, so that a case may have any number of lines.
+#![tactic(auto)]
+
 mod reader;
 
 use crate::reader::{HELD_BYTES, Reader};

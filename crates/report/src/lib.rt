@@ -1,4 +1,6 @@
 // The report over all packs, as text. (02, W-212)
+#![tactic(auto)]
+
 ghost use Rattle.std.specs.Prelude.{◌≡◌, ◌≤◌, length};
 ghost use Rattle.protocol.specs.Bytes.{over};
 ghost use Rattle.packs.specs.Sheet.{sheet};

@@ -1,5 +1,7 @@
 // The bench program without its reads and writes: chunks of input in, bytes to write out. Chunks become lines in `lines`, and each line is answered in
 // `dialogue`.
+#![tactic(auto)]
+
 ghost use Rattle.std.specs.Prelude.{◌≡◌, ◌+◌, ◌≤◌, length, leb};
 ghost use Rattle.dialogue.specs.Dialogue.{answer_of, request_after, outcome_after, buffer_after};
 ghost use Rattle.session.specs.Desk.{desk, longest_line, Sized};

@@ -2,12 +2,8 @@
 -- Assumes nothing.
 use Rattle.smbus_pec.specs.Pec.{bit_step, bit_steps}
 use Rattle.smbus_pec.proofs.Every.{entry}
-use Rattle.smbus_pec.proofs.table.Statement.{statement}
-use Rattle.smbus_pec.proofs.table.Tie as tie
+use Rattle.smbus_pec.proofs.table.Goals as goal
 
-returns : tie.Need-returns
+pub returns : goal.returns
 unfolding bit_step bit_steps
 returns c = λ k h. rw (entry (bit_steps 8))
-
-pub table_spec : {M : Type 1} → statement M
-table_spec = tie.close (tie.spec returns)
