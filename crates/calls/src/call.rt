@@ -12,21 +12,21 @@ use reading::call::{ReadCall, ReadReported};
 use writing::call::{WriteCall, WriteReported};
 
 // A call, by the engine that carries it out. It goes in by value and comes back.
-#[derive(Drop)]
+#[derive(Clone, Copy)]
 pub enum Call {
     Write(WriteCall),
     Read(ReadCall),
 }
 
 // A call and the transfer that it shows.
-#[derive(Drop)]
+#[derive(Clone, Copy)]
 pub struct Shown {
     pub call: Call,
     pub transfer: Transfer,
 }
 
 // What came of a report.
-#[derive(Drop)]
+#[derive(Clone, Copy)]
 pub enum Reported {
     // Refused, with the call as it was.
     Refused(Answer, Call),

@@ -8,7 +8,7 @@ use reading::call::ReadPlan;
 use writing::call::WritePlan;
 
 // Which call.
-#[derive(Drop)]
+#[derive(Clone, Copy)]
 pub enum Kind {
     // The plain write.
     WriteWithRetries,
@@ -35,7 +35,7 @@ pub enum Kind {
 }
 
 // What is carried out, and by which engine.
-#[derive(Drop)]
+#[derive(Clone, Copy)]
 pub enum Plan {
     Write(WritePlan),
     Read(ReadPlan),

@@ -6,7 +6,7 @@ ghost use Rattle.chunks.specs.Brings.{Brings};
 use libc::STDIN_FILENO;
 
 // What a read brought.
-#[derive(Drop)]
+#[derive(Clone, Copy)]
 pub enum Brought {
     // So many bytes of the next chunk.
     Bytes(usize),

@@ -7,7 +7,7 @@ use model_gauge::gauge::{FLASH_BYTES, Fate};
 use protocol::error::Answer;
 
 // How a run over a course ends.
-#[derive(Drop)]
+#[derive(Clone, Copy)]
 pub enum End {
     // With an answer: the call's, or the run's own refusal.
     Answered(Answer),
@@ -16,7 +16,7 @@ pub enum End {
 }
 
 // Whether a run may start.
-#[derive(Drop)]
+#[derive(Clone, Copy)]
 pub(crate) enum Admitted {
     Refused(Answer),
     Yes,

@@ -14,14 +14,14 @@ use protocol::bytes;
 use protocol::error::Answer;
 
 // A call and the gauge on the other side of the bus.
-#[derive(Drop)]
+#[derive(Clone, Copy)]
 pub struct Link {
     pub call: Call,
     pub gauge: Gauge,
 }
 
 // What a run leaves: call and gauge as they stand, and how it ended.
-#[derive(Drop)]
+#[derive(Clone, Copy)]
 pub struct Run {
     pub link: Link,
     pub end: End,

@@ -21,7 +21,7 @@ use requests::{fields, outcome, request};
 
 // Where a call's payload and buffer stand: the payload has `payload` bytes of the request line from byte `at` on, the buffer is the first `buffer` bytes
 // of what is lent.
-#[derive(Drop)]
+#[derive(Clone, Copy)]
 pub struct Place {
     pub at: usize,
     pub payload: usize,
@@ -29,7 +29,7 @@ pub struct Place {
 }
 
 // What a run is about.
-#[derive(Drop)]
+#[derive(Clone, Copy)]
 pub enum Run {
     // Nothing: no request line yet, or one that was refused.
     Fresh,
@@ -38,7 +38,7 @@ pub enum Run {
 }
 
 // What was printed.
-#[derive(Drop)]
+#[derive(Clone, Copy)]
 pub enum Said {
     // A transfer, in a line of so many bytes: the run goes on with its outcome.
     Asked(usize),
@@ -47,7 +47,7 @@ pub enum Said {
 }
 
 // The run after a line, and what was printed.
-#[derive(Drop)]
+#[derive(Clone, Copy)]
 pub struct Turned {
     pub run: Run,
     pub said: Said,

@@ -5,13 +5,13 @@ ghost use Rattle.engine.specs.Budget.{wait_of, failed, plus_of, more_of, nothing
 use protocol::consts::DEFAULT_ERROR_BACKOFF_DELAY_MS;
 
 // The retries that are left to a frame, or to a whole reading call.
-#[derive(Drop)]
+#[derive(Clone, Copy)]
 pub struct Budget {
     pub left: u16,
 }
 
 // What a failed attempt leads to.
-#[derive(Drop)]
+#[derive(Clone, Copy)]
 pub enum Failed {
     // Another attempt, after a wait of so many milliseconds.
     Retry(Budget, u32),
@@ -64,7 +64,7 @@ impl Budget {
 }
 
 // What a call counts beside its answer.
-#[derive(Drop)]
+#[derive(Clone, Copy)]
 pub struct Tally {
     // Waits, one for each failure that was retried.
     pub waits: u32,

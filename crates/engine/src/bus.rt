@@ -6,7 +6,7 @@ use protocol::error::Answer;
 use protocol::frame::Laid;
 
 // What the bus made of a transfer.
-#[derive(Drop)]
+#[derive(Clone, Copy)]
 pub enum Outcome {
     // Acknowledged; of a read, the reply is lent beside it.
     Acknowledged,
@@ -17,7 +17,7 @@ pub enum Outcome {
 }
 
 // What a call shows.
-#[derive(Drop)]
+#[derive(Clone, Copy)]
 pub enum Transfer {
     // A write of so many bytes, which `to_send` hands out.
     Write(usize),
@@ -30,7 +30,7 @@ pub enum Transfer {
 }
 
 // Where a call stands.
-#[derive(Drop)]
+#[derive(Clone, Copy)]
 pub enum Phase {
     Waiting,
     Ended(Answer),
@@ -62,7 +62,7 @@ impl Phase {
 }
 
 // The lengths of what was lent at the start: payload or buffer, and work buffer.
-#[derive(Drop)]
+#[derive(Clone, Copy)]
 pub struct Lent {
     pub length: usize,
     pub work: usize,

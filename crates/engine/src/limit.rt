@@ -8,7 +8,7 @@ use protocol::error::Answer;
 use protocol::window;
 
 // What a call asks of the length of the payload or buffer that is lent.
-#[derive(Drop)]
+#[derive(Clone, Copy)]
 pub enum Limit {
     // Nothing.
     Free,

@@ -5,7 +5,7 @@ ghost use Rattle.std.specs.Prelude.{◌≡◌, length};
 ghost use Rattle.hexadecimal.specs.Hex.{value_of, byte_of, digit_of, decoded_of, out_decoded, encoded_of, out_encoded};
 
 // What digits come to.
-#[derive(Drop)]
+#[derive(Clone, Copy)]
 pub enum Decoded {
     // So many bytes, which stand at the front of what was lent.
     Bytes(usize),
@@ -16,7 +16,7 @@ pub enum Decoded {
 }
 
 // What bytes come to.
-#[derive(Drop)]
+#[derive(Clone, Copy)]
 pub enum Encoded {
     // So many digits, which stand at the front of what was lent.
     Digits(usize),

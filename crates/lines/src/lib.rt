@@ -7,7 +7,7 @@ ghost use Rattle.lines.specs.Lines.{before_feed, took_by, kept_of, took_of, held
 use protocol::bytes;
 
 // What a chunk brings.
-#[derive(Drop)]
+#[derive(Clone, Copy)]
 pub enum Took {
     // A line lies whole in the chunk, so many bytes from the place it was read from; the chunk goes on at `next`, and nothing is held.
     Here { len: usize, next: usize },

@@ -7,7 +7,7 @@ use protocol::bytes;
 use protocol::consts::{BQ_ADDR, MAC_CMD};
 
 // What a frame says.
-#[derive(Drop)]
+#[derive(Clone, Copy)]
 pub enum Form {
     // Store so many bytes, the frame's fifth and on, from this address on.
     BlockWrite { address: u16, count: usize },

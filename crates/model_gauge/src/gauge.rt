@@ -19,7 +19,7 @@ pub const FLASH_BYTES: usize = DF_SIZE_BYTES;
 pub const REPLY_BYTES: usize = 36;
 
 // What becomes of a transfer on its way.
-#[derive(Drop)]
+#[derive(Clone, Copy)]
 pub enum Fate {
     // It is heard, and so is what the gauge makes of it.
     Heard,
@@ -30,13 +30,13 @@ pub enum Fate {
 }
 
 // The gauge's read pointer.
-#[derive(Drop)]
+#[derive(Clone, Copy)]
 pub struct Gauge {
     pub pointer: u16,
 }
 
 // What a transfer comes to, beside what it leaves in the lent bytes.
-#[derive(Drop)]
+#[derive(Clone, Copy)]
 pub struct Effect {
     pub outcome: Outcome,
     // How many bytes of a reply reach the host.

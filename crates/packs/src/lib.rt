@@ -24,7 +24,7 @@ const REFUSED: u32 = 0;
 const SIX_DIGITS: u32 = 0x1000000;
 
 // What a line says.
-#[derive(Drop)]
+#[derive(Clone, Copy)]
 pub enum Said {
     // A pack was read, and has so many cycles.
     Read(u16),
@@ -35,7 +35,7 @@ pub enum Said {
 }
 
 // The count over the packs so far. How often each answer stopped a read is counted beside it, in an array that is lent.
-#[derive(Drop)]
+#[derive(Clone, Copy)]
 pub struct Count {
     pub read: u16,
     pub unread: u16,
@@ -46,7 +46,7 @@ pub struct Count {
 }
 
 // Where the input stands: the count over the lines so far, and how far the line at hand is read.
-#[derive(Drop)]
+#[derive(Clone, Copy)]
 pub struct Reader {
     pub count: Count,
     // Its digits, as a number after a 1: 1 between two lines, 1ABC hex after A, B and C. 0 where it is refused; then nothing that follows is looked at.
@@ -353,7 +353,7 @@ fn line_at(line: u32, chunk: &[u8], at: usize, table: &[u8; 256]) -> Said
 }
 
 // Where the input stands after the next bytes of a chunk, and where that goes on.
-#[derive(Drop)]
+#[derive(Clone, Copy)]
 struct Turned {
     reader: Reader,
     at: usize,

@@ -3,7 +3,7 @@ ghost use Rattle.std.specs.Prelude.{◌≡◌};
 ghost use Rattle.protocol.specs.Answer.{number_of, detail_of};
 
 // How a call ended, or why it or a line was refused: a variant for each row of the table, under the Rust's name where it has one.
-#[derive(Drop)]
+#[derive(Clone, Copy)]
 pub enum Answer {
     // The call ended well.
     Done,

@@ -10,7 +10,7 @@ use crate::consts::{
 };
 
 // What came of laying a frame: its length, or that the work buffer has no room for it.
-#[derive(Drop)]
+#[derive(Clone, Copy)]
 pub enum Laid {
     Frame(usize),
     NoRoom,
@@ -129,7 +129,7 @@ pub fn lay_number(work: &mut [u8], number: usize, body: &[u8], pec: bool) -> Lai
 }
 
 // The MAC commands that have a fixed pair.
-#[derive(Drop)]
+#[derive(Clone, Copy)]
 pub enum MacCommand {
     SecurityKeys,
     AuthenticationKey,

@@ -6,7 +6,7 @@ use crate::bytes;
 use crate::consts::{BQ_ADDR, MAC_CMD};
 
 // A read as it goes out, and how its reply is laid out.
-#[derive(Drop)]
+#[derive(Clone, Copy)]
 pub struct Ask {
     // The command byte that is sent.
     pub command: u8,
@@ -21,7 +21,7 @@ pub struct Ask {
 }
 
 // What a reply comes to.
-#[derive(Drop)]
+#[derive(Clone, Copy)]
 pub enum Heard {
     // Its length is not the number asked.
     WrongLength,

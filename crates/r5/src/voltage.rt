@@ -26,7 +26,7 @@ fn figure(low: u8, high: u8) -> i16
 }
 
 // The five charging voltages that override the gauge's own, in millivolts.
-#[derive(Drop)]
+#[derive(Clone, Copy)]
 pub struct ChargingVoltageOverride {
     pub low_temp_chrg_mv: i16,
     pub std_low_temp_chrg_mv: i16,

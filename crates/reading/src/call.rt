@@ -15,7 +15,7 @@ use protocol::frame::MacCommand;
 use protocol::reply::{Ask, Heard};
 
 // What a reading call is: its retries and whether its waits grow, what it asks of the buffer's length, its head and whether that carries a PEC, and its reads.
-#[derive(Drop)]
+#[derive(Clone, Copy)]
 pub struct ReadPlan {
     pub retries: u16,
     pub growing: bool,
@@ -62,14 +62,14 @@ impl ReadPlan {
 }
 
 // What does not change while a reading call runs: the plan, and the lengths of buffer and work buffer at the start.
-#[derive(Drop)]
+#[derive(Clone, Copy)]
 pub struct ReadTask {
     pub plan: ReadPlan,
     pub lent: Lent,
 }
 
 // A reading call. It goes in by value and comes back.
-#[derive(Drop)]
+#[derive(Clone, Copy)]
 pub struct ReadCall {
     pub task: ReadTask,
     pub phase: Phase,
@@ -83,7 +83,7 @@ pub struct ReadCall {
 }
 
 // What a reported outcome comes to, before anything is changed.
-#[derive(Drop)]
+#[derive(Clone, Copy)]
 pub enum Verdict {
     // Refused: the call stays as it is.
     Refused(Answer),
@@ -96,7 +96,7 @@ pub enum Verdict {
 }
 
 // What came of a report.
-#[derive(Drop)]
+#[derive(Clone, Copy)]
 pub enum ReadReported {
     // Refused, with the call as it was.
     Refused(Answer, ReadCall),

@@ -10,7 +10,7 @@ use protocol::reply::Ask;
 use protocol::{bytes, frame};
 
 // The frame that opens a reading call, and opens it again after a failure.
-#[derive(Drop)]
+#[derive(Clone, Copy)]
 pub enum Head {
     // None: a plain read.
     Bare,
@@ -63,7 +63,7 @@ impl Head {
 }
 
 // The reads of a call.
-#[derive(Drop)]
+#[derive(Clone, Copy)]
 pub enum Reads {
     // None: a command with no output.
     Nothing,

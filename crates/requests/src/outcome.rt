@@ -10,7 +10,7 @@ use engine::bus::Outcome;
 pub const LONGEST_OUTCOME: usize = MOST_BYTES + 1;
 
 // What an outcome line says.
-#[derive(Drop)]
+#[derive(Clone, Copy)]
 pub enum Told {
     // How the transfer went.
     Outcome(Outcome),

@@ -27,14 +27,14 @@ const INPUT_AT: usize = 6;
 pub const LONGEST_REQUEST: usize = LONGEST_HEADER as usize + INPUT_AT + MOST_BYTES;
 
 // What a header says: the settings, in so many bytes (a `u8`, so that a place behind it is a number of the machine).
-#[derive(Drop)]
+#[derive(Clone, Copy)]
 pub struct Header {
     pub config: Config,
     pub bytes: u8,
 }
 
 // What a request line asks for.
-#[derive(Drop)]
+#[derive(Clone, Copy)]
 pub enum Request {
     // A call with its settings: its payload, or a command's input, is the line from byte `at` on, and its buffer has `len` bytes, none where it reads nothing.
     Call {

@@ -30,7 +30,7 @@ pub const LINE_BYTES: usize = LONGEST_LINE;
 pub const OUT_BYTES: usize = 65536;
 
 // Where the program stands.
-#[derive(Drop)]
+#[derive(Clone, Copy)]
 pub struct Session {
     pub run: Run,
     // How many bytes of a line are held.

@@ -12,7 +12,7 @@ use protocol::common::{Config, Side};
 use protocol::error::Answer;
 
 // What a writing call is: its retries and whether its waits grow, whether its frames carry a PEC, what it asks of the payload's length, and its frames.
-#[derive(Drop)]
+#[derive(Clone, Copy)]
 pub struct WritePlan {
     pub retries: u16,
     pub growing: bool,
@@ -37,14 +37,14 @@ impl WritePlan {
 }
 
 // What does not change while a writing call runs: the plan, and the lengths of payload and work buffer at the start.
-#[derive(Drop)]
+#[derive(Clone, Copy)]
 pub struct WriteTask {
     pub plan: WritePlan,
     pub lent: Lent,
 }
 
 // A writing call. It goes in by value and comes back.
-#[derive(Drop)]
+#[derive(Clone, Copy)]
 pub struct WriteCall {
     pub task: WriteTask,
     pub phase: Phase,
@@ -56,7 +56,7 @@ pub struct WriteCall {
 }
 
 // What came of a report.
-#[derive(Drop)]
+#[derive(Clone, Copy)]
 pub enum WriteReported {
     // Refused, with the call as it was.
     Refused(Answer, WriteCall),

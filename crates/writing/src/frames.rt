@@ -8,7 +8,7 @@ use protocol::frame::{Laid, MacCommand};
 use protocol::{bytes, frame};
 
 // The frames of a writing call.
-#[derive(Drop)]
+#[derive(Clone, Copy)]
 pub enum Frames {
     // One: the bytes that the caller built.
     Plain,
