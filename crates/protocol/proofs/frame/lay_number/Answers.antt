@@ -1,0 +1,8 @@
+-- `protocol::frame::lay_number` meets its contract: the pair is the number, low byte first.
+-- Assumes nothing.
+use Rattle.protocol.specs.Frame.{pair_of}
+use Rattle.protocol.proofs.frame.lay_number.Goals as goal
+
+pub returns : goal.returns
+unfolding pair_of
+returns c = c.lay_mac.ensures
