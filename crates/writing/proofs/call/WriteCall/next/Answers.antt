@@ -1,0 +1,21 @@
+-- `writing::call::WriteCall::next` meets its contract: each return is a case of `next_of`.
+-- Assumes nothing.
+use Rattle.engine.proofs.Cases.{cases}
+use Rattle.writing.specs.Writing.{next_of, work_after}
+use Rattle.writing.proofs.call.WriteCall.next.Goals as goal
+
+pub returns-in-Ended : goal.returns-in-Ended
+unfolding next_of work_after
+returns-in-Ended c = search cases
+
+pub returns-then-own_bytes : goal.returns-then-own_bytes
+unfolding next_of work_after
+returns-then-own_bytes c = search cases
+
+pub returns-else-own_bytes : goal.returns-else-own_bytes
+unfolding next_of work_after
+returns-else-own_bytes c = search cases
+
+pub returns-else-fits : goal.returns-else-fits
+unfolding next_of work_after
+returns-else-fits c = search cases

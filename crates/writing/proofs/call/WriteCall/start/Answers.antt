@@ -1,0 +1,8 @@
+-- `writing::call::WriteCall::start` meets its contract: the fields are those of `start_of`.
+-- Assumes nothing.
+use Rattle.writing.specs.Writing.{start_of}
+use Rattle.writing.proofs.call.WriteCall.start.Goals as goal
+
+pub returns : goal.returns
+unfolding start_of
+returns c = rw (c.new.ensures, c.admit.ensures, c.first_address.ensures)
