@@ -1,17 +1,14 @@
 -- What the gauge rests on: which form is neither a block write nor an address; a reply is its parts one after the other, and a read brings its front.
 -- Assumes nothing.
-use Prim.Native.Nat.{ℕ, ◌+◌, ◌-◌, ◌≤◌, min}
+use Prim.Native.Nat.{ℕ, ◌+◌, ◌≤◌, min}
 use mathlib.Core.Path.{◌≡◌, refl, sym, ap, ◌∙◌}
 use mathlib.Core.Bool.{Bool, true, false, false≢true}
 use mathlib.Core.List.{List, [], ◌∷◌, ◌++◌, append-nil}
-use mathlib.Core.Logic.{⊎_elim}
 use native.Mathlib.Omega.{arith}
 use lib.ListN.{length, replicate, take, drop, set, length-append, length-take, length-drop}
 use lib.Dec.{eqb}
 use lib.Seq.{take-length, drop-length, length-take-le}
 use borrow.Author.Tests.{leb-true, le-leb}
-use types.Run.{OneOf}
-use denote.Enum.Declared.{tag_of}
 use Rattle.protocol.specs.Pick.{if◌then◌else◌}
 use Rattle.protocol.specs.Bytes.{over, block_in, stored_at}
 use Rattle.protocol.specs.Window.{in_window}
@@ -26,12 +23,11 @@ use Rattle.model_gauge.specs.declared.gauge.Effect as handed
 use Rattle.model_gauge.specs.declared.gauge.Fate.{Fate}
 use Rattle.model_gauge.specs.declared.gauge.Fate.TheVariants as fate
 use Rattle.model_gauge.specs.declared.gauge.Gauge.{Gauge}
-use Rattle.model_gauge.specs.contracts.frame.Form.{the_type}
 
 -- what is neither a block write nor an address
-pub neither : (f : Form) → OneOf (1 ∷ 2 ∷ []) (tag_of the_type f) → OneOf (0 ∷ 2 ∷ []) (tag_of the_type f) → f ≡ form.Other
-neither (form.BlockWrite address count) k l = absurd (⊎_elim (λ e. omega arith) (λ e. omega arith) k)
-neither (form.Address address) k l = absurd (⊎_elim (λ e. omega arith) (λ e. omega arith) l)
+pub neither : (f : Form) → ((address count : ℕ) → f ≡ form.BlockWrite address count → ⊥) → ((address : ℕ) → f ≡ form.Address address → ⊥) → f ≡ form.Other
+neither (form.BlockWrite address count) k l = absurd (k address count refl)
+neither (form.Address address) k l = absurd (l address refl)
 neither form.Other k l = refl
 
 -- a block that has room is laid whole
