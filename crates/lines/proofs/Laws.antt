@@ -2,23 +2,18 @@
 -- Assumes nothing.
 use Prim.Native.Nat.{ℕ, suc, ◌+◌, ◌≤◌, ◌<◌}
 use mathlib.Core.Path.{◌≡◌, refl, ap}
-use mathlib.Core.Logic.{⊎_elim}
 use mathlib.Core.Bool.{Bool, true, false}
 use mathlib.Core.List.{List, [], ◌∷◌}
 use native.Mathlib.Numerals.{add-one}
-use native.Mathlib.Omega.{arith}
 use lib.ListN.{length, take, drop, get_or, drop_of_length-le}
 use lib.Seq.{drop-cons}
 use lib.Dec.{eqb}
 use borrow.Author.Tests.{eq-eqb, ne_eqb}
-use types.Run.{OneOf}
-use denote.Enum.Declared.{tag_of}
 use Rattle.protocol.specs.Pick.{if◌then◌else◌}
 use Rattle.protocol.specs.Bytes.{stored_at}
 use Rattle.lines.specs.Lines.{before_feed, kept_of}
 use Rattle.lines.specs.declared.Took.{Took}
 use Rattle.lines.specs.declared.Took.TheVariants as took
-use Rattle.lines.specs.contracts.Took.{the_type}
 
 -- no line feed at i: one byte more
 pub before_more : (s : List ℕ) (i : ℕ) → i < length s → (get_or s i 0 ≡ 10 → ⊥) → length (before_feed (drop i s)) ≡ suc (length (before_feed (drop (i + 1) s)))
@@ -46,9 +41,9 @@ take_before (b ∷ s) = by (take_before s) (eqb b 10)
     by rest false = ap (λ (l : List ℕ). b ∷ l) rest
 
 -- what does not lie whole in its chunk is put after what is held
-pub not_here : (t : Took) (line held : List ℕ) (have : ℕ) → OneOf (1 ∷ 2 ∷ 3 ∷ []) (tag_of the_type t) → stored_at have (length line) line held ≡ kept_of t line held have
+pub not_here : (t : Took) (line held : List ℕ) (have : ℕ) → ((n next : ℕ) → t ≡ took.Here n next → ⊥) → stored_at have (length line) line held ≡ kept_of t line held have
 unfolding kept_of
-not_here (took.Here n next) line held have k = absurd (⊎_elim (λ e. omega arith) (⊎_elim (λ e. omega arith) (λ e. omega arith)) k)
+not_here (took.Here n next) line held have k = absurd (k n next refl)
 not_here (took.Held n next) line held have k = refl
 not_here (took.More n) line held have k = refl
 not_here took.Long line held have k = refl

@@ -71,8 +71,8 @@ fn call(kind: Kind, header: Header, at: usize, len: usize, args: &[u8]) -> Reque
 
 // A call whose payload has exactly so many bytes.
 fn exact(kind: Kind, header: Header, at: usize, payload: usize, len: usize, args: &[u8]) -> Request
-    requires fact_1 { at < 256 }
-    requires fact_2 { payload < 256 }
+    requires at_in_bounds { at < 256 }
+    requires payload_in_bounds { payload < 256 }
     ensures { result ≡ exact_of kind header at payload len (length args.now) }
 {
     if args.len() == at + payload {

@@ -1,0 +1,22 @@
+-- `packs::counted` meets its contract: each arm is a case of `counted_of`.
+-- Assumes nothing.
+use Rattle.packs.proofs.Cases.{cases}
+use Rattle.packs.proofs.Laws.{sheets}
+use Rattle.packs.specs.Count.{counted_of}
+use Rattle.packs.proofs.counted.Goals as goal
+
+pub returns-then-seen-ge-MOST_PACKS : goal.returns-then-seen-ge-MOST_PACKS
+unfolding counted_of
+returns-then-seen-ge-MOST_PACKS c = search (cases, sheets)
+
+pub returns-in-Read : goal.returns-in-Read
+unfolding counted_of
+returns-in-Read c = search (cases, sheets)
+
+pub returns-in-Unread : goal.returns-in-Unread
+unfolding counted_of
+returns-in-Unread c = search (cases, sheets)
+
+pub returns-in-Nothing : goal.returns-in-Nothing
+unfolding counted_of
+returns-in-Nothing c = search (cases, sheets)

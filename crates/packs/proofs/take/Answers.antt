@@ -1,0 +1,39 @@
+-- `packs::take` meets its contract: before each turn, what is left of the chunk leads to where the whole of it does.
+use mathlib.Core.Path.{refl}
+use native.Mathlib.Omega.{arith}
+use Rattle.packs.proofs.Laws.{used_some}
+use Rattle.packs.proofs.Lies.{turn_leads, turn_on, all_fed}
+use Rattle.packs.proofs.take.Goals as goal
+
+pub loop-i-init : goal.loop-i-init
+loop-i-init c = (omega arith, refl)
+
+pub turn-turn-requires : goal.turn-turn-requires
+turn-turn-requires c =
+    let l = c.loop-i in
+    let a = c.args in
+    record {
+      tabled = c.table-table.ensures;
+      line_in_bounds = (turn_leads a.chunk.now l.i l.here l.numbers _ c.loop-i-test.true c.line_at-line.ensures).0;
+    }
+
+pub loop-i-smaller : goal.loop-i-smaller
+loop-i-smaller c =
+    let l = c.loop-i in
+    let t = c.turn-turn in
+    omega (arith, t.ensures.0, used_some c.line_at-line.result, c.loop-i-test.true)
+
+pub loop-i-preserved : goal.loop-i-preserved
+loop-i-preserved c =
+    let l = c.loop-i in
+    let a = c.args in
+    turn_on a.chunk.now l.i _ l.here _ l.numbers _ _ _ c.loop-i-test.true
+    c.line_at-line.ensures
+    c.turn-turn.ensures
+    l.invariant.1
+
+pub returns : goal.returns
+returns c =
+    let l = c.loop-i in
+    let a = c.args in
+    all_fed a.chunk.now l.i _ _ c.loop-i-test.false l.invariant.1
