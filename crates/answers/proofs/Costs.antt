@@ -1,6 +1,6 @@
 -- What a report costs, and what it leaves in a reading call's buffer.
 -- Assumes nothing.
-use Prim.Native.Nat.{ℕ, ◌+◌, ◌-◌, ◌*◌}
+use Prim.Native.Nat.{ℕ, ◌*◌}
 use mathlib.Core.Path.{◌≡◌, refl, sym, subst, ◌∙◌}
 use mathlib.Core.Bool.{Bool, true, false, false≢true}
 use mathlib.Core.Logic.{◌⊎◌, inl, inr}
@@ -29,7 +29,6 @@ use Rattle.writing.specs.declared.call.WriteReported.TheVariants as wrote
 use Rattle.reading.specs.Pick.{case◌refused◌fault◌headed◌block◌}
 use Rattle.reading.specs.Parts as parts
 use Rattle.reading.specs.Reading as reading
-use Rattle.reading.specs.declared.parts.Head.{Head}
 use Rattle.reading.specs.declared.call.ReadCall.{ReadCall}
 use Rattle.reading.specs.declared.call.Verdict.{Verdict}
 use Rattle.reading.specs.declared.call.Verdict.TheVariants as verdict

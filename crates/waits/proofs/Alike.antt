@@ -25,8 +25,6 @@ use Rattle.writing.specs.declared.call.WriteReported.TheVariants as wrote
 use Rattle.reading.specs.Pick.{case◌refused◌fault◌headed◌block◌}
 use Rattle.reading.specs.Reading as reading
 use Rattle.reading.specs.declared.call.ReadCall.{ReadCall}
-use Rattle.reading.specs.declared.call.ReadReported.{ReadReported}
-use Rattle.reading.specs.declared.call.ReadReported.TheVariants as got
 use Rattle.reading.specs.declared.call.Verdict.{Verdict}
 use Rattle.reading.specs.declared.call.Verdict.TheVariants as verdict
 use Rattle.calls.specs.Kind.{plan_of}
