@@ -2,7 +2,7 @@
 """respell.py: brings the definitions, lemmas and fields of specs/ and proofs/ to snake case. It was run once, after /opt/rattle/port/port.py, when this
 repository was brought to today's Rattle (docs/PORT.md); it stays so that the step can be made again on the tree of that time.
 
-The operator of a choice is `when◌then◌else◌`, since the library has an `if◌then◌else◌` of its own, which is not shut.
+The crate hex is hexadecimal, since the library has a crate hex. The operator of a choice is `when◌then◌else◌`, since the library has an `if◌then◌else◌` of its own, which is not shut.
 
 A name is respelled where a file of specs/ or proofs/ declares it or binds it as a variable, and no library has it: a dash becomes `_`, and so does the step to
 a capital. Two names that would fall together in one file are kept apart: the one with a dash, which is a lemma or a field about the other, gets `_lem`.
@@ -80,12 +80,27 @@ def mapping():
     return out
 
 
+def rename_hex():
+    old, new = (os.path.join(ROOT, "crates", name) for name in ("hex", "hexadecimal"))
+    if not os.path.isdir(old):
+        return
+    os.rename(old, new)
+    for path in [*files(".antt", ".rt", ".edit"), os.path.join(ROOT, "crates.txt")]:
+        text = open(path, encoding="utf-8").read()
+        turned = re.sub(r"(?<![\w.])hex(?=::)|(?<=Rattle\.)hex\b|(?<=use )hex\b", "hexadecimal", text)
+        if path.endswith("crates.txt"):
+            turned = "\n".join(line if line.startswith("#") else re.sub(r"\bhex\b", "hexadecimal", line) for line in text.split("\n"))
+        if turned != text:
+            open(path, "w", encoding="utf-8").write(turned)
+
+
 def main():
     out = mapping()
     if "--names" in sys.argv:
         for old in sorted(out):
             print(old, out[old])
         return
+    rename_hex()
     for path in files(".antt", ".rt", ".edit"):
         crate = os.path.relpath(path, ROOT).split(os.sep)[1]
         own = ALIKE.get(crate, {})
