@@ -1,0 +1,9 @@
+-- `printing::read` meets its contract: the head is 01, the command and the count.
+-- Assumes nothing.
+use Rattle.protocol.specs.Frame.{pair_of}
+use Rattle.printing.specs.Printing.{read_said}
+use Rattle.printing.proofs.read.Goals as goal
+
+pub returns : goal.returns
+unfolding read_said pair_of
+returns c = c.line.ensures
