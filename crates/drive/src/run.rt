@@ -6,7 +6,7 @@ use engine::bus::Transfer;
 use protocol::bytes;
 
 // What the calls of a group have in common: PEC either on writes or on reads, and whether they read, and so have scripts of their own and a buffer to show.
-#[derive(Drop)]
+#[derive(Clone, Copy)]
 pub(crate) struct Group {
     pub(crate) pec_write: bool,
     pub(crate) reads: bool,

@@ -1,7 +1,9 @@
 // What is printed.
 use engine::bus::{Phase, Transfer};
-use libc::STDOUT_FILENO;
 use protocol::error::Answer;
+
+// The number of standard output.
+const STDOUT_FILENO: i32 = 1;
 
 // Words as they stand.
 pub(crate) fn words(s: &[u8]) {

@@ -11,11 +11,13 @@ use courses::course::End;
 use courses::run::{Link, Run};
 use engine::budget;
 use fixture::{course, flash};
-use libc::STDOUT_FILENO;
 use model_gauge::gauge::{FLASH_BYTES, Gauge};
 use protocol::bytes;
 use protocol::common::Config;
 use protocol::error::Answer;
+
+// The number of standard output.
+const STDOUT_FILENO: i32 = 1;
 
 const ADDRESS: u16 = 0x5000;
 
@@ -40,7 +42,7 @@ fn main() {
 }
 
 // How runs ended, what they left, and what was left once they were gone on with.
-#[derive(Drop)]
+#[derive(Clone, Copy)]
 struct Counts {
     runs: u32,
     cuts: u32,

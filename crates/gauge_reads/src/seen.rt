@@ -3,10 +3,12 @@ use courses::course::End;
 use courses::run::Link;
 use engine::budget;
 use fixture::digest;
-use libc::STDOUT_FILENO;
+
+// The number of standard output.
+const STDOUT_FILENO: i32 = 1;
 
 // How many runs ended how, how many buffers had the flash's bytes in the end, and digests of what stood where the runs stopped and in the end.
-#[derive(Drop)]
+#[derive(Clone, Copy)]
 pub(crate) struct Seen {
     runs: u32,
     cuts: u32,

@@ -2,11 +2,13 @@
 use engine::budget;
 use engine::bus::Outcome;
 use fixture::digest;
-use libc::STDOUT_FILENO;
 use model_gauge::gauge::Effect;
 
+// The number of standard output.
+const STDOUT_FILENO: i32 = 1;
+
 // How often the host heard what, how often the flash changed where no block belongs, and a digest of it all.
-#[derive(Drop)]
+#[derive(Clone, Copy)]
 pub(crate) struct Seen {
     acknowledged: u32,
     bus_errors: u32,

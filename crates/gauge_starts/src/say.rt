@@ -2,9 +2,11 @@
 use courses::course::End;
 use courses::run::Run;
 use fixture::digest;
-use libc::STDOUT_FILENO;
 use protocol::common::Config;
 use protocol::error::Answer;
+
+// The number of standard output.
+const STDOUT_FILENO: i32 = 1;
 
 // Losses before the gauge acts and after, and then enough transfers that are heard.
 pub(crate) const COURSE: [u8; 12] = [1, 0, 2, 0, 0, 1, 0, 0, 0, 0, 0, 0];

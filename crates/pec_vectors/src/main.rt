@@ -3,7 +3,8 @@
 // `stdout` comes from tests/pec_vectors.py, a program of its own that goes by the SMBus rule.
 #![tactic(auto)]
 
-use libc::STDOUT_FILENO;
+// The number of standard output.
+const STDOUT_FILENO: i32 = 1;
 
 fn main() {
     let mut space = [0u8; 8192];

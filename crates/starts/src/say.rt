@@ -1,7 +1,9 @@
 // What is printed, and the settings that the rows share.
 use engine::bus::{Outcome, Phase, Transfer};
-use libc::STDOUT_FILENO;
 use protocol::common::Config;
+
+// The number of standard output.
+const STDOUT_FILENO: i32 = 1;
 
 // Words as they stand.
 pub(crate) fn words(text: &[u8]) {
