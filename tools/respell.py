@@ -2,6 +2,8 @@
 """respell.py: brings the definitions, lemmas and fields of specs/ and proofs/ to snake case. It was run once, after /opt/rattle/port/port.py, when this
 repository was brought to today's Rattle (docs/PORT.md); it stays so that the step can be made again on the tree of that time.
 
+The operator of a choice is `when◌then◌else◌`, since the library has an `if◌then◌else◌` of its own, which is not shut.
+
 A name is respelled where a file of specs/ or proofs/ declares it or binds it as a variable, and no library has it: a dash becomes `_`, and so does the step to
 a capital. Two names that would fall together in one file are kept apart: the one with a dash, which is a lemma or a field about the other, gets `_lem`.
 """
@@ -87,7 +89,7 @@ def main():
     for path in files(".antt", ".rt", ".edit"):
         crate = os.path.relpath(path, ROOT).split(os.sep)[1]
         own = ALIKE.get(crate, {})
-        text, lib = [], set()
+        text, lib, source = [], set(), ""
         lines = open(path, encoding="utf-8").read().split("\n")
         for line in lines:
             m = USE.match(split(line)[0])
@@ -103,10 +105,14 @@ def main():
             return out.get(t) or own.get(t) or t
 
         for line in lines:
+            if line.startswith("file: "):
+                source = line
             code, said = (line, "") if path.endswith(".edit") and re.match(r"(old|new): ", line) else split(line)
             if path.endswith(".edit") and not re.match(r"(old|new): ", line):
                 code, said = "", line
             code = TOKEN.sub(at, code)
+            if not path.endswith(".rt") and not (path.endswith(".edit") and source.endswith(".rt")):
+                code = re.sub(r"(?<![\w.-])if(?=◌then◌else◌|\s|$)", "when", code)
             said = re.sub(r"`[^`]*`", lambda m: TOKEN.sub(at, m.group(0)), said)
             text.append(code + TOKEN.sub(lambda m: at(m, True), said))
         new = "\n".join(text)

@@ -8,7 +8,7 @@ use native.Mathlib.Omega.{arith}
 use lib.ListN.{length}
 use lib.Dec.{ltb}
 use borrow.Author.Tests.{ltb-true}
-use Rattle.protocol.specs.Pick.{if◌then◌else◌}
+use Rattle.protocol.specs.Pick.{when◌then◌else◌}
 use Rattle.protocol.specs.Bytes.{over}
 use Rattle.protocol.specs.Frame.{sealed, work_laid}
 use Rattle.protocol.proofs.Laws.{length_over, take_over, over_same, length_sealed, length_laid}
@@ -26,7 +26,7 @@ use Rattle.reading.proofs.Shown.{read_work}
 use Rattle.answers.specs.Steps.{Again}
 
 laid_twice : (pec : Bool) (f work : List ℕ) → work_laid pec f (work_laid pec f work) ≡ work_laid pec f work
-unfolding work_laid if◌then◌else◌
+unfolding work_laid when◌then◌else◌
 laid_twice pec f work = by (ltb (length f) (length work)) refl
   where
     by : (t : Bool) → ltb (length f) (length work) ≡ t → work_laid pec f (work_laid pec f work) ≡ work_laid pec f work
@@ -40,12 +40,12 @@ laid_twice pec f work = by (ltb (length f) (length work)) refl
 -- what showing leaves, by where the call stands
 wrote_as : (call : WriteCall) (payload work : List ℕ) (p : Phase) → call.phase ≡ p → (t : Bool) → fits_of call.task.lent (length payload) (length work) ≡ t
     → (o : Bool) → writing.own_bytes call ≡ o
-    → writing.work_after call payload work ≡ case◌waiting◌ended◌ p (if t then (if o then work else writing.work_shown call payload work) else work) (λ a. work)
+    → writing.work_after call payload work ≡ case◌waiting◌ended◌ p (when t then (when o then work else writing.work_shown call payload work) else work) (λ a. work)
 unfolding writing.work_after
 wrote_as call payload work p e t f o q = rw (q, f, e)
 
 wrote_twice : (call : WriteCall) (payload work : List ℕ) → writing.work_after call payload (writing.work_after call payload work) ≡ writing.work_after call payload work
-unfolding writing.work_shown case◌waiting◌ended◌ if◌then◌else◌
+unfolding writing.work_shown case◌waiting◌ended◌ when◌then◌else◌
 wrote_twice call payload work = by call.phase refl (fits_of call.task.lent (length payload) (length work)) refl (writing.own_bytes call) refl
   where
     laid : List ℕ
@@ -64,12 +64,12 @@ wrote_twice call payload work = by call.phase refl (fits_of call.task.lent (leng
 
 read_as : (call : ReadCall) (n : ℕ) (work : List ℕ) (p : Phase) → call.phase ≡ p → (t : Bool) → fits_of call.task.lent n (length work) ≡ t
     → (h : Bool) → call.heading ≡ h
-    → reading.work_after call n work ≡ case◌waiting◌ended◌ p (if t then (if h then reading.work_head call work else work) else work) (λ a. work)
+    → reading.work_after call n work ≡ case◌waiting◌ended◌ p (when t then (when h then reading.work_head call work else work) else work) (λ a. work)
 unfolding reading.work_after reading.work_shown
 read_as call n work p e t f h q = rw (e, f, q)
 
 read_twice : (call : ReadCall) (n : ℕ) (work : List ℕ) → reading.work_after call n (reading.work_after call n work) ≡ reading.work_after call n work
-unfolding reading.work_head case◌waiting◌ended◌ if◌then◌else◌
+unfolding reading.work_head case◌waiting◌ended◌ when◌then◌else◌
 read_twice call n work = by call.phase refl (fits_of call.task.lent n (length work)) refl call.heading refl
   where
     head : List ℕ

@@ -1,7 +1,7 @@
 -- The limits of all calls, by name.
 -- Assumes nothing.
 use mathlib.Core.Path.{refl}
-use Rattle.protocol.specs.Pick.{if◌then◌else◌}
+use Rattle.protocol.specs.Pick.{when◌then◌else◌}
 use Rattle.protocol.specs.declared.common.Config.{Config}
 use Rattle.engine.specs.Budget.{nothing}
 use Rattle.writing.specs.Frames as frames
@@ -21,7 +21,7 @@ starts_as = record {
 }
 
 pub limits : (config : Config) → Limits config
-unfolding plain_limit write_with_retries write_register read_register dispatch_command read_buffer write_buffer mac_read mac_write send_access_key write_mfg_info_c read_mfg_info_c write_mfg_info read_mfg_info read_dataflash write_dataflash frames.first_address parts.first_address writing.plan_of reading.plain_plan reading.mac_plan if◌then◌else◌
+unfolding plain_limit write_with_retries write_register read_register dispatch_command read_buffer write_buffer mac_read mac_write send_access_key write_mfg_info_c read_mfg_info_c write_mfg_info read_mfg_info read_dataflash write_dataflash frames.first_address parts.first_address writing.plan_of reading.plain_plan reading.mac_plan when◌then◌else◌
 limits config = record {
   writes_with_pec = λ e. rw e;
   writes_plain = λ e. rw e;

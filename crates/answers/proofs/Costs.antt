@@ -1,6 +1,6 @@
 -- What a report costs, and what it leaves in a reading call's buffer.
 -- Assumes nothing.
-use Prim.Native.Nat.{ℕ, ◌+◌, ◌-◌, ◌*◌}
+use Prim.Native.Nat.{ℕ, ◌*◌}
 use mathlib.Core.Path.{◌≡◌, refl, sym, subst, ◌∙◌}
 use mathlib.Core.Bool.{Bool, true, false, false≢true}
 use mathlib.Core.Logic.{◌⊎◌, inl, inr}
@@ -10,7 +10,7 @@ use lib.Dec.{leb, eqb}
 use lib.ListN.{length, take, drop}
 use lib.Seq.{length-take-le, take-append_seam}
 use borrow.Author.Tests.{leb-true}
-use Rattle.protocol.specs.Pick.{if◌then◌else◌}
+use Rattle.protocol.specs.Pick.{when◌then◌else◌}
 use Rattle.protocol.specs.Bytes.{block_in, stored_at}
 use Rattle.protocol.specs.Reply as reply
 use Rattle.protocol.specs.declared.error.Answer.{Answer}
@@ -29,7 +29,6 @@ use Rattle.writing.specs.declared.call.WriteReported.TheVariants as wrote
 use Rattle.reading.specs.Pick.{case◌refused◌fault◌headed◌block◌}
 use Rattle.reading.specs.Parts as parts
 use Rattle.reading.specs.Reading as reading
-use Rattle.reading.specs.declared.parts.Head.{Head}
 use Rattle.reading.specs.declared.call.ReadCall.{ReadCall}
 use Rattle.reading.specs.declared.call.Verdict.{Verdict}
 use Rattle.reading.specs.declared.call.Verdict.TheVariants as verdict
@@ -66,7 +65,7 @@ module _ (call : WriteCall) where
 
   -- WHAT EVERY REPORT COSTS A WRITING CALL
   pub cost_w : (o : Outcome) (r n w : ℕ) → CostW call o (writing.report_of call o r n w)
-  unfolding writing.report_of case◌waiting◌ended◌ if◌then◌else◌ writing.counted_of tallied
+  unfolding writing.report_of case◌waiting◌ended◌ when◌then◌else◌ writing.counted_of tallied
   cost_w o r n w = by call.phase refl (fits_of call.task.lent n w) refl (writing.replied_of o r) refl
     where
       result : WriteReported
@@ -99,7 +98,7 @@ module _ (call : ReadCall) where
   Comes o bytes verdict.Block = (o ≡ outcome.Acknowledged) × (call.heading ≡ false) × (Damaged call bytes → ⊥)
 
   block_comes : (bytes : List ℕ) → call.heading ≡ false → Comes outcome.Acknowledged bytes (reading.heard_block (reading.due_ask call) bytes)
-  unfolding reading.heard_block reading.verdict_of reply.heard_of if◌then◌else◌
+  unfolding reading.heard_block reading.verdict_of reply.heard_of when◌then◌else◌
   block_comes bytes h =
       by (eqb (reply.bytes_asked (reading.due_ask call)) (length bytes)) refl (reading.due_ask call).pec refl
       (reply.checked_of (reading.due_ask call).covered bytes) refl
@@ -121,7 +120,7 @@ module _ (call : ReadCall) where
           subst (Comes outcome.Acknowledged bytes) (sym q) (inr (h, x, y))
 
   outcome_comes : (o : Outcome) (bytes : List ℕ) → Comes o bytes (reading.weigh_of call o bytes)
-  unfolding reading.weigh_of reading.acknowledged_of reading.heard_head case◌acknowledged◌error◌timeout◌ if◌then◌else◌
+  unfolding reading.weigh_of reading.acknowledged_of reading.heard_head case◌acknowledged◌error◌timeout◌ when◌then◌else◌
   outcome_comes (outcome.BusError code) bytes = inl tt
   outcome_comes outcome.Timeout bytes = inl tt
   outcome_comes outcome.Acknowledged bytes = by call.heading refl (eqb (length bytes) 0) refl
@@ -137,7 +136,7 @@ module _ (call : ReadCall) where
           subst (Comes outcome.Acknowledged bytes) (sym q) (block_comes bytes h)
 
   judge_comes : (o : Outcome) (bytes : List ℕ) (n w : ℕ) → Comes o bytes (reading.judge_of call o bytes n w)
-  unfolding reading.judge_of case◌waiting◌ended◌ if◌then◌else◌
+  unfolding reading.judge_of case◌waiting◌ended◌ when◌then◌else◌
   judge_comes o bytes n w = by call.phase refl (fits_of call.task.lent n w) refl
     where
       verdict_of_lem : Verdict
@@ -160,7 +159,7 @@ module _ (call : ReadCall) where
 
   -- WHAT EVERY REPORT COSTS A READING CALL
   pub cost_r : (o : Outcome) (bytes : List ℕ) (n w : ℕ) → CostR call o bytes (reading.report_of call o bytes n w)
-  unfolding MissesR reading.report_of reading.headed_of reading.advance_of reads_made case◌refused◌fault◌headed◌block◌ if◌then◌else◌ reading.counted_of tallied
+  unfolding MissesR reading.report_of reading.headed_of reading.advance_of reads_made case◌refused◌fault◌headed◌block◌ when◌then◌else◌ reading.counted_of tallied
   cost_r o bytes n w = by (reading.judge_of call o bytes n w) refl (judge_comes o bytes n w)
     where
       result : ReadReported
@@ -186,7 +185,7 @@ module _ (call : ReadCall) where
 
 -- a block that is stored changes nothing before it
 stored_before : (at most : ℕ) (b w : List ℕ) → take at (stored_at at most b w) ≡ take at w
-unfolding stored_at if◌then◌else◌
+unfolding stored_at when◌then◌else◌
 stored_before at most b w = by (leb at (length w)) refl
   where
     by : (t : Bool) → leb at (length w) ≡ t → take at (stored_at at most b w) ≡ take at w
@@ -230,7 +229,7 @@ module _ (call : ReadCall) (buffer : List ℕ) where
   by_same bytes verdict.Block h = absurd h
 
   judged : (o : Outcome) (bytes : List ℕ) (n w : ℕ) → NoBlock (reading.weigh_of call o bytes) → NoBlock (reading.judge_of call o bytes n w)
-  unfolding reading.judge_of case◌waiting◌ended◌ if◌then◌else◌
+  unfolding reading.judge_of case◌waiting◌ended◌ when◌then◌else◌
   judged o bytes n w h = by call.phase refl (fits_of call.task.lent n w) refl
     where
       by : (p : Phase) → call.phase ≡ p → (t : Bool) → fits_of call.task.lent n w ≡ t → NoBlock (reading.judge_of call o bytes n w)
@@ -239,7 +238,7 @@ module _ (call : ReadCall) (buffer : List ℕ) where
       by phase.Waiting e true f = let q : reading.judge_of call o bytes n w ≡ reading.weigh_of call o bytes = rw (f, e) in subst NoBlock (sym q) h
 
   head_none : (o : Outcome) (bytes : List ℕ) → call.heading ≡ true → NoBlock (reading.weigh_of call o bytes)
-  unfolding reading.weigh_of reading.acknowledged_of reading.heard_head case◌acknowledged◌error◌timeout◌ if◌then◌else◌
+  unfolding reading.weigh_of reading.acknowledged_of reading.heard_head case◌acknowledged◌error◌timeout◌ when◌then◌else◌
   head_none outcome.Acknowledged bytes h = by (eqb (length bytes) 0) refl
     where
       by : (t : Bool) → eqb (length bytes) 0 ≡ t → NoBlock (reading.weigh_of call outcome.Acknowledged bytes)
@@ -255,7 +254,7 @@ module _ (call : ReadCall) (buffer : List ℕ) where
   failure_none outcome.Timeout bytes h = tt
 
   damaged_none : (o : Outcome) (bytes : List ℕ) → Damaged call bytes → NoBlock (reading.weigh_of call o bytes)
-  unfolding reading.weigh_of reading.acknowledged_of reading.heard_block reading.verdict_of reply.heard_of reply.bytes_asked reading.due_ask case◌acknowledged◌error◌timeout◌ if◌then◌else◌
+  unfolding reading.weigh_of reading.acknowledged_of reading.heard_block reading.verdict_of reply.heard_of reply.bytes_asked reading.due_ask case◌acknowledged◌error◌timeout◌ when◌then◌else◌
   damaged_none outcome.Acknowledged bytes (head, pec, wrong) = by (eqb (reply.bytes_asked (reading.due_ask call)) (length bytes)) refl
     where
       by : (t : Bool) → eqb (reply.bytes_asked (reading.due_ask call)) (length bytes) ≡ t → NoBlock (reading.weigh_of call outcome.Acknowledged bytes)

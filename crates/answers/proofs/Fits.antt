@@ -6,7 +6,7 @@ use mathlib.Core.Bool.{Bool, true, false}
 use native.Mathlib.Omega.{arith}
 use lib.Dec.{ltb, eqb}
 use borrow.Author.Tests.{ltb-false, eqb-true, eqb-false}
-use Rattle.protocol.specs.Pick.{if◌then◌else◌}
+use Rattle.protocol.specs.Pick.{when◌then◌else◌}
 use Rattle.protocol.specs.Bytes.{blocks_of}
 use Rattle.protocol.specs.Window.{in_window}
 use Rattle.protocol.proofs.WindowLaws.{within}
@@ -25,7 +25,7 @@ Fits limit.Window start n = (0 < n) × (0x4000 ≤ start) × (start + (n - 1) �
 Fits (limit.Command input) start n = n ≤ 32
 
 window_fits : (start n : ℕ) → windowed start n ≡ phase.Waiting → Fits limit.Window start n
-unfolding windowed if◌then◌else◌
+unfolding windowed when◌then◌else◌
 window_fits start n e = by (in_window start n) refl (eqb n 0) refl
   where
     by : (a : Bool) → in_window start n ≡ a → (b : Bool) → eqb n 0 ≡ b → Fits limit.Window start n
@@ -37,7 +37,7 @@ window_fits start n e = by (in_window start n) refl (eqb n 0) refl
         (omega arith, w.0, omega (arith, w.1))
 
 command_fits : (input n : ℕ) → commanded input n ≡ phase.Waiting → n ≤ 32
-unfolding commanded if◌then◌else◌
+unfolding commanded when◌then◌else◌
 command_fits input n e = by (ltb 32 input) refl (ltb 32 n) refl
   where
     by : (a : Bool) → ltb 32 input ≡ a → (b : Bool) → ltb 32 n ≡ b → n ≤ 32
@@ -46,7 +46,7 @@ command_fits input n e = by (ltb 32 input) refl (ltb 32 n) refl
     by false a false p = ltb-false _ _ p
 
 fits : (l : Limit) (start n : ℕ) → measured l start n ≡ phase.Waiting → Fits l start n
-unfolding measured if◌then◌else◌
+unfolding measured when◌then◌else◌
 fits limit.Free start n e = tt
 fits (limit.AtMost most) start n e = by (ltb most n) refl
   where
@@ -62,7 +62,7 @@ fits limit.Window start n e = window_fits start n e
 fits (limit.Command input) start n e = command_fits input n e
 
 pub admitted_fits : (l : Limit) (start n w : ℕ) → admitted l start n w ≡ phase.Waiting → (39 ≤ w) × Fits l start n
-unfolding admitted if◌then◌else◌
+unfolding admitted when◌then◌else◌
 admitted_fits l start n w e = by (ltb w 39) refl
   where
     by : (t : Bool) → ltb w 39 ≡ t → (39 ≤ w) × Fits l start n

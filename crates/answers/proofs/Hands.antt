@@ -10,7 +10,7 @@ use lib.ListN.{length, take}
 use lib.Seq.{take-length}
 use borrow.Author.Tests.{ltb-true}
 use Rattle.protocol.specs.Common.{TwoByteBudgets}
-use Rattle.protocol.specs.Pick.{if◌then◌else◌}
+use Rattle.protocol.specs.Pick.{when◌then◌else◌}
 use Rattle.protocol.specs.Bytes.{over, send_of}
 use Rattle.protocol.specs.Frame.{sealed, laid_of, work_laid}
 use Rattle.protocol.proofs.Laws.{length_over, take_over, drop_over, length_sealed}
@@ -48,7 +48,7 @@ over_handed s payload work room = (ap length (take_over s work), refl, drop_over
 
 laid_handed : (pec : Bool) (f payload work : List ℕ) (n : ℕ) → write_of (laid_of pec f (length work)) ≡ transfer.Write n
     → Handed true payload work (work_laid pec f work) n (take n (work_laid pec f work))
-unfolding write_of laid_of work_laid if◌then◌else◌
+unfolding write_of laid_of work_laid when◌then◌else◌
 laid_handed pec f payload work n e = by (ltb (length f) (length work)) refl
   where
     by : (t : Bool) → ltb (length f) (length work) ≡ t → Handed true payload work (work_laid pec f work) n (take n (work_laid pec f work))
@@ -68,13 +68,13 @@ read_not_refused e = let z : ◌≡◌ {A = ℕ} 0 1 = cc in absurd (omega arith
 
 module _ (call : WriteCall) (payload work : List ℕ) where
   -- by whether its frames are built
-  hands_write : (built : Bool) → writing.own_bytes call ≡ if◌then◌else◌ built false true → (n : ℕ) → writing.next_of call payload (length work) ≡ transfer.Write n
+  hands_write : (built : Bool) → writing.own_bytes call ≡ when◌then◌else◌ built false true → (n : ℕ) → writing.next_of call payload (length work) ≡ transfer.Write n
       → Handed built payload work (writing.work_after call payload work) n (writing.part_of call payload (writing.work_after call payload work) n)
-  unfolding writing.next_of writing.work_after writing.part_of writing.shown_of writing.work_shown writing.due_bytes send_of case◌waiting◌ended◌ if◌then◌else◌
+  unfolding writing.next_of writing.work_after writing.part_of writing.shown_of writing.work_shown writing.due_bytes send_of case◌waiting◌ended◌ when◌then◌else◌
   hands_write built own n e = by call.phase refl (fits_of call.task.lent (length payload) (length work)) refl built own
     where
       by : (p : Phase) → call.phase ≡ p → (t : Bool) → fits_of call.task.lent (length payload) (length work) ≡ t
-          → (b : Bool) → writing.own_bytes call ≡ if◌then◌else◌ b false true
+          → (b : Bool) → writing.own_bytes call ≡ when◌then◌else◌ b false true
           → Handed b payload work (writing.work_after call payload work) n (writing.part_of call payload (writing.work_after call payload work) n)
       by (phase.Ended a) q t f b o = let z : ◌≡◌ {A = ℕ} 0 1 = cc (rw q at e) in absurd (omega arith)
       by phase.Waiting q false f b o = let z : ◌≡◌ {A = ℕ} 0 1 = cc (rw (f, q) at e) in absurd (omega arith)
@@ -86,20 +86,20 @@ module _ (call : WriteCall) (payload work : List ℕ) where
           rw (o, f, q) (subst (λ (m : ℕ). Handed false payload work work m (take m payload)) size (ap length (take-length payload), take-length payload, refl))
 
 -- of a frame that is built any front of the work buffer, otherwise of the caller's bytes
-any_front : (call : WriteCall) (payload : List ℕ) (built : Bool) → writing.own_bytes call ≡ if◌then◌else◌ built false true
-    → (work : List ℕ) (k : ℕ) → writing.part_of call payload work k ≡ if◌then◌else◌ built (take k work) (take k payload)
-unfolding writing.part_of send_of if◌then◌else◌
+any_front : (call : WriteCall) (payload : List ℕ) (built : Bool) → writing.own_bytes call ≡ when◌then◌else◌ built false true
+    → (work : List ℕ) (k : ℕ) → writing.part_of call payload work k ≡ when◌then◌else◌ built (take k work) (take k payload)
+unfolding writing.part_of send_of when◌then◌else◌
 any_front call payload true o work k = rw o
 any_front call payload false o work k = rw o
 
-head_front : (payload work : List ℕ) (k : ℕ) → take k work ≡ if◌then◌else◌ true (take k work) (take k payload)
-unfolding if◌then◌else◌
+head_front : (payload work : List ℕ) (k : ℕ) → take k work ≡ when◌then◌else◌ true (take k work) (take k payload)
+unfolding when◌then◌else◌
 head_front payload work k = refl
 
 -- which calls build their frames, by name
 own_by : (config : Config) (plan : WritePlan) (name : WritesBy config plan)
-    → if◌then◌else◌ (frames.is_plain plan.frames) (if◌then◌else◌ plan.pec false true) false ≡ if◌then◌else◌ (builds config plan name) false true
-unfolding write_with_retries write_register write_buffer mac_write send_access_key write_mfg_info_c write_mfg_info write_dataflash writing.plan_of frames.is_plain if◌then◌else◌
+    → when◌then◌else◌ (frames.is_plain plan.frames) (when◌then◌else◌ plan.pec false true) false ≡ when◌then◌else◌ (builds config plan name) false true
+unfolding write_with_retries write_register write_buffer mac_write send_access_key write_mfg_info_c write_mfg_info write_dataflash writing.plan_of frames.is_plain when◌then◌else◌
 own_by config plan (write_with_retries_lem) = refl
 own_by config plan (write_register_lem address) = refl
 own_by config plan (write_buffer_lem address) = refl
@@ -114,7 +114,7 @@ own_by config plan (write_dataflash_lem start) = refl
 
 -- the lengths that a call was started at
 task_own : (plan : WritePlan) (n w : ℕ) (call : WriteCall) → call.task ≡ (writing.start_of plan n w).task
-    → writing.own_bytes call ≡ if◌then◌else◌ (frames.is_plain plan.frames) (if◌then◌else◌ plan.pec false true) false
+    → writing.own_bytes call ≡ when◌then◌else◌ (frames.is_plain plan.frames) (when◌then◌else◌ plan.pec false true) false
 unfolding writing.own_bytes writing.start_of
 task_own plan n w call t = rw t
 
@@ -126,7 +126,7 @@ task_lent plan n w call t = rw t
 module _ (call : WriteCall) (payload work : List ℕ) where
   other_write : call.phase ≡ phase.Waiting → fits_of call.task.lent (length payload) (length work) ≡ false
       → writing.next_of call payload (length work) ≡ transfer.Refused answer.WrongBuffer
-  unfolding writing.next_of case◌waiting◌ended◌ if◌then◌else◌
+  unfolding writing.next_of case◌waiting◌ended◌ when◌then◌else◌
   other_write e f = rw (f, e)
 
   refused_write : writing.next_of call payload (length work) ≡ transfer.Refused answer.WrongBuffer → call.phase ≡ phase.Waiting
@@ -174,7 +174,7 @@ hands_w config r plan name n w es payload work = record {
 module _ (call : ReadCall) (buffer work : List ℕ) where
   hands_head : (n : ℕ) → reading.next_of call (length buffer) (length work) ≡ transfer.Write n
       → Handed true buffer work (reading.work_after call (length buffer) work) n (take n (reading.work_after call (length buffer) work))
-  unfolding reading.next_of reading.work_after reading.shown_of reading.work_shown reading.shown_head reading.work_head case◌waiting◌ended◌ if◌then◌else◌
+  unfolding reading.next_of reading.work_after reading.shown_of reading.work_shown reading.shown_head reading.work_head case◌waiting◌ended◌ when◌then◌else◌
   hands_head n e = by call.phase refl (fits_of call.task.lent (length buffer) (length work)) refl call.heading refl
     where
       head : List ℕ
@@ -191,7 +191,7 @@ module _ (call : ReadCall) (buffer work : List ℕ) where
 
 module _ (call : ReadCall) (n w : ℕ) where
   other_read : call.phase ≡ phase.Waiting → fits_of call.task.lent n w ≡ false → reading.next_of call n w ≡ transfer.Refused answer.WrongBuffer
-  unfolding reading.next_of case◌waiting◌ended◌ if◌then◌else◌
+  unfolding reading.next_of case◌waiting◌ended◌ when◌then◌else◌
   other_read e f = rw (f, e)
 
   refused_read : reading.next_of call n w ≡ transfer.Refused answer.WrongBuffer → call.phase ≡ phase.Waiting

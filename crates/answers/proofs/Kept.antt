@@ -1,6 +1,6 @@
 -- What a report can do to a reading call and its buffer, and what stays true however it is fed.
 -- Assumes nothing.
-use Prim.Native.Nat.{ℕ, ◌+◌, ◌-◌, ◌*◌, ◌≤◌, ◌<◌, min}
+use Prim.Native.Nat.{ℕ, ◌+◌, ◌*◌, ◌≤◌, ◌<◌, min}
 use mathlib.Core.Path.{◌≡◌, refl, sym, ap, subst, ◌∙◌}
 use mathlib.Core.Bool.{Bool, true, false}
 use mathlib.Core.Logic.{◌⊎◌, inl, inr}
@@ -10,7 +10,7 @@ use lib.Dec.{leb, eqb}
 use lib.ListN.{length, take, drop, length-take, length-drop, length-append}
 use lib.Seq.{drop-drop, drop-append-add, length-take-le}
 use borrow.Author.Tests.{leb-true, leb-false}
-use Rattle.protocol.specs.Pick.{if◌then◌else◌}
+use Rattle.protocol.specs.Pick.{when◌then◌else◌}
 use Rattle.protocol.specs.Bytes.{over, block_in, stored_at}
 use Rattle.protocol.proofs.Laws.{drop_over, length_over}
 use Rattle.protocol.specs.declared.error.Answer.{Answer}
@@ -40,7 +40,7 @@ use Rattle.answers.proofs.Laws.{not_done, either}
 
 -- a block that is stored changes nothing after it, and no length
 pub stored_after : (at most : ℕ) (b w : List ℕ) → drop (at + most) (stored_at at most b w) ≡ drop (at + most) w
-unfolding stored_at block_in if◌then◌else◌
+unfolding stored_at block_in when◌then◌else◌
 stored_after at most b w = by (leb at (length w)) refl
   where
     laid : List ℕ
@@ -59,7 +59,7 @@ stored_after at most b w = by (leb at (length w)) refl
         (drop-append-add (take at w) (over laid (drop at w)) most ∙ drop_over most laid (drop at w) short ∙ drop-drop most at w))
 
 pub stored_length : (at most : ℕ) (b w : List ℕ) → length (stored_at at most b w) ≡ length w
-unfolding stored_at block_in if◌then◌else◌
+unfolding stored_at block_in when◌then◌else◌
 stored_length at most b w = by (leb at (length w)) refl
   where
     laid : List ℕ
@@ -99,7 +99,7 @@ module _ (call : ReadCall) where
   block_means heard.Good p f = (p, f)
 
   head_means : (r : ℕ) → call.phase ≡ phase.Waiting → call.heading ≡ true → Means call (heard_head r)
-  unfolding heard_head if◌then◌else◌
+  unfolding heard_head when◌then◌else◌
   head_means r p h = by (eqb r 0) refl
     where
       by : (t : Bool) → eqb r 0 ≡ t → Means call (heard_head r)
@@ -107,7 +107,7 @@ module _ (call : ReadCall) where
       by false t = let q : heard_head r ≡ verdict.Refused answer.WrongReply = rw t in subst (Means call) (sym q) tt
 
   outcome_means : (o : Outcome) (bytes : List ℕ) → call.phase ≡ phase.Waiting → Means call (weigh_of call o bytes)
-  unfolding weigh_of acknowledged_of heard_block case◌acknowledged◌error◌timeout◌ if◌then◌else◌
+  unfolding weigh_of acknowledged_of heard_block case◌acknowledged◌error◌timeout◌ when◌then◌else◌
   outcome_means outcome.Acknowledged bytes p = by call.heading refl
     where
       by : (t : Bool) → call.heading ≡ t → Means call (weigh_of call outcome.Acknowledged bytes)
@@ -121,7 +121,7 @@ module _ (call : ReadCall) where
   outcome_means outcome.Timeout bytes p = p
 
   pub judge_means : (o : Outcome) (bytes : List ℕ) (n w : ℕ) → Means call (judge_of call o bytes n w)
-  unfolding judge_of case◌waiting◌ended◌ if◌then◌else◌
+  unfolding judge_of case◌waiting◌ended◌ when◌then◌else◌
   judge_means o bytes n w = by call.phase refl (fits_of call.task.lent n w) refl
     where
       by : (p : Phase) → call.phase ≡ p → (t : Bool) → fits_of call.task.lent n w ≡ t → Means call (judge_of call o bytes n w)
@@ -187,7 +187,7 @@ block_front : (count : ℕ) (start : List ℕ) (call : ReadCall) (bytes buffer :
     → parts.read_count call.task.plan.reads call.task.lent.length ≡ count → call.received < count
     → drop (call.received * 32) buffer ≡ drop (call.received * 32) start
     → Front count start (advance_of (counted_of call)) (stored_of call bytes buffer)
-unfolding advance_of stored_of phase_after parts.most_of parts.read_count if◌then◌else◌ counted_of tallied
+unfolding advance_of stored_of phase_after parts.most_of parts.read_count when◌then◌else◌ counted_of tallied
 block_front count start call bytes buffer few counts below same = by call.task.plan.reads refl (leb count (more_of call.received)) refl
   where
     next : more_of call.received ≡ call.received + 1

@@ -7,7 +7,7 @@ use mathlib.Core.Logic.{◌↔◌}
 use native.Mathlib.Omega.{arith}
 use lib.Dec.{leb, eqb}
 use borrow.Author.Tests.{leb-false, eqb-true, eqb-false, eq-eqb}
-use Rattle.protocol.specs.Pick.{if◌then◌else◌}
+use Rattle.protocol.specs.Pick.{when◌then◌else◌}
 use Rattle.protocol.specs.Answer.{number_of, detail_of}
 use Rattle.protocol.specs.declared.error.Answer.{Answer}
 use Rattle.engine.specs.Pick.{case◌retry◌spent◌}
@@ -79,7 +79,7 @@ bare_head (head.DataFlash start) = (λ e. absurd (false≢true (sym e)), λ e. l
 
 -- a call that waits has steps to make
 pub not_done : (count m : ℕ) → phase_after count m ≡ phase.Waiting → m < count
-unfolding phase_after if◌then◌else◌
+unfolding phase_after when◌then◌else◌
 not_done count m e = by (leb count m) refl
   where
     by : (t : Bool) → leb count m ≡ t → m < count
@@ -90,7 +90,7 @@ not_done count m e = by (leb count m) refl
 pub either : {A : Type 0} (P : A → Type 0) (r : ℕ) (growing : Bool) (left : Budget) (again : Budget → ℕ → A) (over : A)
     → ((b : Budget) → b.left + 1 ≡ left.left → P (again b (wait_of growing (r - left.left)))) → (left.left ≡ 0 → P over)
     → P (case◌retry◌spent◌ (failed r growing left) again over)
-unfolding failed case◌retry◌spent◌ if◌then◌else◌
+unfolding failed case◌retry◌spent◌ when◌then◌else◌
 either {A} P r growing left again over some none = by (eqb left.left 0) refl
   where
     by : (t : Bool) → eqb left.left 0 ≡ t → P (case◌retry◌spent◌ (failed r growing left) again over)

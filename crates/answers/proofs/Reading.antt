@@ -8,7 +8,7 @@ use mathlib.Core.Logic.{◌↔◌}
 use lib.ListN.{length}
 use lib.Dec.{leb, eqb}
 use borrow.Author.Tests.{leb-true, eqb-true, eqb-false, le-leb, eq-eqb, ne_eqb}
-use Rattle.protocol.specs.Pick.{if◌then◌else◌}
+use Rattle.protocol.specs.Pick.{when◌then◌else◌}
 use Rattle.protocol.specs.Reply as reply
 use Rattle.protocol.specs.Answer.{number_of, detail_of}
 use Rattle.protocol.specs.declared.error.Answer.{Answer}
@@ -55,7 +55,7 @@ module _ (call : ReadCall) (o : Outcome) (bytes : List ℕ) (n w : ℕ) where
   -- ---- an answer that is given is its row's
 
   fail_holds : (why : Answer) → (call.budget.left ≡ 0 → Reads call o bytes n w (number_of why) (detail_of why)) → Holds (fail_of (counted_of call) why).phase
-  unfolding fail_of failed retry_of end_of case◌retry◌spent◌ if◌then◌else◌ counted_of
+  unfolding fail_of failed retry_of end_of case◌retry◌spent◌ when◌then◌else◌ counted_of
   fail_holds why row = by (eqb call.budget.left 0) refl
     where
       by : (t : Bool) → eqb call.budget.left 0 ≡ t → Holds (fail_of (counted_of call) why).phase
@@ -65,7 +65,7 @@ module _ (call : ReadCall) (o : Outcome) (bytes : List ℕ) (n w : ℕ) where
   -- all reads are made, or some are left
   after_holds : (m : ℕ) (p : Phase) → p ≡ phase_after (parts.read_count call.task.plan.reads call.task.lent.length) m
       → (parts.read_count call.task.plan.reads call.task.lent.length ≤ m → Reads call o bytes n w 0 0) → Holds p
-  unfolding phase_after if◌then◌else◌
+  unfolding phase_after when◌then◌else◌
   after_holds m p is row = by (leb (parts.read_count call.task.plan.reads call.task.lent.length) m) refl
     where
       by : (t : Bool) → leb (parts.read_count call.task.plan.reads call.task.lent.length) m ≡ t → Holds p
@@ -74,7 +74,7 @@ module _ (call : ReadCall) (o : Outcome) (bytes : List ℕ) (n w : ℕ) where
 
   -- a head that was acknowledged
   head_holds : OpenR call n w → o ≡ outcome.Acknowledged → call.heading ≡ true → Holds (leads (heard_head (length bytes)))
-  unfolding heard_head headed_of asked reads_made if◌then◌else◌ counted_of
+  unfolding heard_head headed_of asked reads_made when◌then◌else◌ counted_of
   head_holds ready ack h = by (eqb (length bytes) 0) refl
     where
       none : asked call ≡ 0
@@ -92,7 +92,7 @@ module _ (call : ReadCall) (o : Outcome) (bytes : List ℕ) (n w : ℕ) where
 
   -- a read that was acknowledged
   block_holds : OpenR call n w → o ≡ outcome.Acknowledged → call.heading ≡ false → Holds (leads (heard_block (due_ask call) bytes))
-  unfolding heard_block verdict_of reply.heard_of advance_of asked reads_made if◌then◌else◌ counted_of
+  unfolding heard_block verdict_of reply.heard_of advance_of asked reads_made when◌then◌else◌ counted_of
   block_holds ready ack h = by (eqb (reply.bytes_asked (due_ask call)) (length bytes)) refl (due_ask call).pec refl (reply.checked_of (due_ask call).covered bytes) refl
     where
       some : asked call ≡ reply.bytes_asked (due_ask call)
@@ -114,7 +114,7 @@ module _ (call : ReadCall) (o : Outcome) (bytes : List ℕ) (n w : ℕ) where
           subst Holds (sym q) (fail_holds answer.Pec (wrong_pec ready ack (sym (some ∙ eqb-true _ _ t)) (h, x, y)))
 
   outcome_holds : OpenR call n w → (x : Outcome) → o ≡ x → Holds (leads (weigh_of call o bytes))
-  unfolding weigh_of acknowledged_of case◌acknowledged◌error◌timeout◌ if◌then◌else◌
+  unfolding weigh_of acknowledged_of case◌acknowledged◌error◌timeout◌ when◌then◌else◌
   outcome_holds ready outcome.Acknowledged e = by call.heading refl
     where
       by : (t : Bool) → call.heading ≡ t → Holds (leads (weigh_of call o bytes))
@@ -132,7 +132,7 @@ module _ (call : ReadCall) (o : Outcome) (bytes : List ℕ) (n w : ℕ) where
       subst (λ (v : Verdict). Holds (leads v)) (sym q) (fail_holds answer.Timeout (timed_out ready e))
 
   judge_holds : Holds (leads (judge_of call o bytes n w))
-  unfolding judge_of case◌waiting◌ended◌ if◌then◌else◌
+  unfolding judge_of case◌waiting◌ended◌ when◌then◌else◌
   judge_holds = by call.phase refl (fits_of call.task.lent n w) refl
     where
       by : (p : Phase) → call.phase ≡ p → (t : Bool) → fits_of call.task.lent n w ≡ t → Holds (leads (judge_of call o bytes n w))
@@ -149,11 +149,11 @@ module _ (call : ReadCall) (o : Outcome) (bytes : List ℕ) (n w : ℕ) where
   -- ---- and a row that holds is answered
 
   looked : OpenR call n w → judge_of call o bytes n w ≡ weigh_of call o bytes
-  unfolding judge_of case◌waiting◌ended◌ if◌then◌else◌
+  unfolding judge_of case◌waiting◌ended◌ when◌then◌else◌
   looked (e, same) = rw (e, same_fits call.task.lent n w same)
 
   gives_up : (why : Answer) → call.budget.left ≡ 0 → (fail_of (counted_of call) why).phase ≡ phase.Ended why
-  unfolding fail_of failed end_of case◌retry◌spent◌ if◌then◌else◌ counted_of
+  unfolding fail_of failed end_of case◌retry◌spent◌ when◌then◌else◌ counted_of
   gives_up why last = rw (eq-eqb call.budget.left 0 last)
 
   heard : OpenR call n w → o ≡ outcome.Acknowledged → judge_of call o bytes n w ≡ acknowledged_of call bytes
@@ -162,16 +162,16 @@ module _ (call : ReadCall) (o : Outcome) (bytes : List ℕ) (n w : ℕ) where
 
   -- a read, and not a head
   reading : call.heading ≡ false → acknowledged_of call bytes ≡ heard_block (due_ask call) bytes
-  unfolding acknowledged_of if◌then◌else◌
+  unfolding acknowledged_of when◌then◌else◌
   reading h = rw h
 
   asked_some : call.heading ≡ false → asked call ≡ reply.bytes_asked (due_ask call)
-  unfolding asked if◌then◌else◌
+  unfolding asked when◌then◌else◌
   asked_some h = rw h
 
   done_row : OpenR call n w → o ≡ outcome.Acknowledged → length bytes ≡ asked call → (Damaged call bytes → ⊥)
       → parts.read_count call.task.plan.reads call.task.lent.length ≤ reads_made call → leads (judge_of call o bytes n w) ≡ phase.Ended answer.Done
-  unfolding acknowledged_of heard_head heard_block verdict_of reply.heard_of headed_of advance_of phase_after asked reads_made if◌then◌else◌ counted_of
+  unfolding acknowledged_of heard_head heard_block verdict_of reply.heard_of headed_of advance_of phase_after asked reads_made when◌then◌else◌ counted_of
   done_row ready ack size fine all = ap leads (heard ready ack) ∙ by call.heading refl (due_ask call).pec refl (reply.checked_of (due_ask call).covered bytes) refl
     where
       by : (t : Bool) → call.heading ≡ t → (p : Bool) → (due_ask call).pec ≡ p → (k : Bool) → reply.checked_of (due_ask call).covered bytes ≡ k
@@ -189,13 +189,13 @@ module _ (call : ReadCall) (o : Outcome) (bytes : List ℕ) (n w : ℕ) where
 
   pec_row : OpenR call n w → o ≡ outcome.Acknowledged → length bytes ≡ asked call → Damaged call bytes → call.budget.left ≡ 0
       → leads (judge_of call o bytes n w) ≡ phase.Ended answer.Pec
-  unfolding acknowledged_of heard_block verdict_of reply.heard_of asked if◌then◌else◌
+  unfolding acknowledged_of heard_block verdict_of reply.heard_of asked when◌then◌else◌
   pec_row ready ack size (h, x, y) last =
       let t = eq-eqb (reply.bytes_asked (due_ask call)) (length bytes) (sym (size ∙ asked_some h)) in
       ap leads (heard ready ack ∙ reading h) ∙ rw (t, x, y) (gives_up answer.Pec last)
 
   wrong_row : OpenR call n w → o ≡ outcome.Acknowledged → (length bytes ≡ asked call → ⊥) → leads (judge_of call o bytes n w) ≡ phase.Ended answer.WrongReply
-  unfolding acknowledged_of heard_head heard_block verdict_of reply.heard_of asked if◌then◌else◌
+  unfolding acknowledged_of heard_head heard_block verdict_of reply.heard_of asked when◌then◌else◌
   wrong_row ready ack other = ap leads (heard ready ack) ∙ by call.heading refl
     where
       by : (t : Bool) → call.heading ≡ t → leads (acknowledged_of call bytes) ≡ phase.Ended answer.WrongReply
@@ -205,7 +205,7 @@ module _ (call : ReadCall) (o : Outcome) (bytes : List ℕ) (n w : ℕ) where
           ap leads (reading h) ∙ rw t
 
   report_row : (k d : ℕ) → Reads call o bytes n w k d → Says k d (leads (judge_of call o bytes n w))
-  unfolding judge_of weigh_of case◌waiting◌ended◌ case◌acknowledged◌error◌timeout◌ if◌then◌else◌
+  unfolding judge_of weigh_of case◌waiting◌ended◌ case◌acknowledged◌error◌timeout◌ when◌then◌else◌
   report_row k d (done ready ack size fine all) = says_of answer.Done (leads (judge_of call o bytes n w)) (done_row ready ack size fine all)
   report_row k d (bus_error code ready e last) =
       says_of (answer.I2c code) (leads (judge_of call o bytes n w)) (ap leads (looked ready) ∙ rw e (gives_up (answer.I2c code) last))

@@ -1,13 +1,13 @@
 -- What a report can lead to, and what stays true of a call however it is fed.
 -- Assumes nothing.
-use Prim.Native.Nat.{ℕ, ◌+◌, ◌-◌, ◌*◌, ◌≤◌, ◌<◌}
+use Prim.Native.Nat.{ℕ, ◌+◌, ◌*◌, ◌≤◌, ◌<◌}
 use mathlib.Core.Path.{◌≡◌, refl, sym, ap, subst, ◌∙◌}
 use mathlib.Core.Bool.{Bool, true, false}
 use mathlib.Core.List.{List, [], ◌∷◌}
 use native.Mathlib.Omega.{arith}
 use lib.Dec.{eqb}
 use borrow.Author.Tests.{eqb-true, eqb-false}
-use Rattle.protocol.specs.Pick.{if◌then◌else◌}
+use Rattle.protocol.specs.Pick.{when◌then◌else◌}
 use Rattle.protocol.specs.Bytes.{blocks_of}
 use Rattle.protocol.specs.Window.{in_window}
 use Rattle.protocol.proofs.WindowLaws.{within}
@@ -47,7 +47,7 @@ module _ (call : WriteCall) where
   settles outcome.Timeout e = fails answer.Timeout e
 
   pub steps : (o : Outcome) (r n w : ℕ) → Step call (call_w (report_of call o r n w))
-  unfolding report_of case◌waiting◌ended◌ if◌then◌else◌ counted_of tallied
+  unfolding report_of case◌waiting◌ended◌ when◌then◌else◌ counted_of tallied
   steps o r n w = by call.phase refl (fits_of call.task.lent n w) refl (replied_of o r) refl
     where
       by : (p : Phase) → call.phase ≡ p → (t : Bool) → fits_of call.task.lent n w ≡ t → (s : Bool) → replied_of o r ≡ s → Step call (call_w (report_of call o r n w))

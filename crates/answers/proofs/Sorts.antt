@@ -8,7 +8,7 @@ use mathlib.Core.Logic.{inl, inr}
 use native.Mathlib.Omega.{arith}
 use lib.ListN.{length}
 use lib.Dec.{ltb, leb, eqb}
-use Rattle.protocol.specs.Pick.{if◌then◌else◌}
+use Rattle.protocol.specs.Pick.{when◌then◌else◌}
 use Rattle.protocol.specs.Answer.{number_of}
 use Rattle.protocol.specs.Bytes.{over}
 use Rattle.protocol.specs.Frame.{laid_of, work_laid, sealed}
@@ -48,7 +48,7 @@ use Rattle.answers.proofs.Laws.{fits_same}
 
 -- a call goes on or is done
 phase_ends : (ks : List ℕ) (count m : ℕ) → Among (0 ∷ ks) (phase_after count m)
-unfolding phase_after if◌then◌else◌
+unfolding phase_after when◌then◌else◌
 phase_ends ks count m = by (leb count m) refl
   where
     by : (t : Bool) → leb count m ≡ t → Among (0 ∷ ks) (phase_after count m)
@@ -62,7 +62,7 @@ module _ (call : WriteCall) where
   Ending a = OneOf (0 ∷ 1 ∷ 2 ∷ 6 ∷ []) (number_of a)
 
   gives_up : (why : Answer) → Ending why → Ending (writing.gave_up call.task.plan.frames call.sent why)
-  unfolding Ending writing.gave_up if◌then◌else◌
+  unfolding Ending writing.gave_up when◌then◌else◌
   gives_up why ok = by (frames.is_flash call.task.plan.frames) refl (eqb call.sent 0) refl
     where
       answer_of : Answer
@@ -74,7 +74,7 @@ module _ (call : WriteCall) where
       by true f false q = rw (f, q) (inr (inr (inr (inl refl))))
 
   fail_ends : (why : Answer) → Ending why → Among (0 ∷ 1 ∷ 2 ∷ 6 ∷ []) (writing.fail_of (writing.counted_of call) why).phase
-  unfolding Ending writing.fail_of writing.retry_of writing.end_of failed case◌retry◌spent◌ if◌then◌else◌ writing.counted_of
+  unfolding Ending writing.fail_of writing.retry_of writing.end_of failed case◌retry◌spent◌ when◌then◌else◌ writing.counted_of
   fail_ends why ok = by (eqb call.budget.left 0) refl
     where
       by : (t : Bool) → eqb call.budget.left 0 ≡ t → Among (0 ∷ 1 ∷ 2 ∷ 6 ∷ []) (writing.fail_of (writing.counted_of call) why).phase
@@ -91,7 +91,7 @@ module _ (call : WriteCall) where
 
   -- EVERY REPORT TO A WRITING CALL
   pub sort_w : (o : Outcome) (r n w : ℕ) → SortW call (writing.report_of call o r n w)
-  unfolding writing.report_of case◌waiting◌ended◌ if◌then◌else◌ writing.counted_of
+  unfolding writing.report_of case◌waiting◌ended◌ when◌then◌else◌ writing.counted_of
   sort_w o r n w = by call.phase refl (fits_of call.task.lent n w) refl (writing.replied_of o r) refl
     where
       result : WriteReported
@@ -105,7 +105,7 @@ module _ (call : WriteCall) where
 
   -- WHAT A WRITING CALL SHOWS
   pub shows_w : (payload work : List ℕ) → Shown (Unit {0}) AsksNothing call.phase call.task.lent (length payload) (length work) work (writing.work_after call payload work) (writing.next_of call payload (length work))
-  unfolding writing.next_of writing.work_after writing.shown_of writing.work_shown laid_of work_laid write_of case◌waiting◌ended◌ if◌then◌else◌
+  unfolding writing.next_of writing.work_after writing.shown_of writing.work_shown laid_of work_laid write_of case◌waiting◌ended◌ when◌then◌else◌
   shows_w payload work =
       by call.phase refl (fits_of call.task.lent (length payload) (length work)) refl (writing.own_bytes call) refl
       (ltb (length (writing.due_bytes call payload)) (length work)) refl
@@ -147,7 +147,7 @@ module _ (call : WriteCall) where
 
 module _ (call : ReadCall) where
   reads_fail : (why : Answer) → OneOf (0 ∷ 1 ∷ 2 ∷ 3 ∷ []) (number_of why) → Among (0 ∷ 1 ∷ 2 ∷ 3 ∷ []) (reading.fail_of (reading.counted_of call) why).phase
-  unfolding reading.fail_of reading.retry_of reading.end_of failed case◌retry◌spent◌ if◌then◌else◌ reading.counted_of
+  unfolding reading.fail_of reading.retry_of reading.end_of failed case◌retry◌spent◌ when◌then◌else◌ reading.counted_of
   reads_fail why ok = by (eqb call.budget.left 0) refl
     where
       by : (t : Bool) → eqb call.budget.left 0 ≡ t → Among (0 ∷ 1 ∷ 2 ∷ 3 ∷ []) (reading.fail_of (reading.counted_of call) why).phase
@@ -168,7 +168,7 @@ module _ (call : ReadCall) where
   heard_fit heard.Good p = p
 
   head_fit : (r : ℕ) → call.phase ≡ phase.Waiting → Fit (reading.heard_head r)
-  unfolding reading.heard_head if◌then◌else◌
+  unfolding reading.heard_head when◌then◌else◌
   head_fit r p = by (eqb r 0) refl
     where
       by : (t : Bool) → eqb r 0 ≡ t → Fit (reading.heard_head r)
@@ -176,7 +176,7 @@ module _ (call : ReadCall) where
       by false t = let q : reading.heard_head r ≡ verdict.Refused answer.WrongReply = rw t in subst Fit (sym q) (inr (inl refl))
 
   outcome_fit : (o : Outcome) (bytes : List ℕ) → call.phase ≡ phase.Waiting → Fit (reading.weigh_of call o bytes)
-  unfolding reading.weigh_of reading.acknowledged_of reading.heard_block case◌acknowledged◌error◌timeout◌ if◌then◌else◌
+  unfolding reading.weigh_of reading.acknowledged_of reading.heard_block case◌acknowledged◌error◌timeout◌ when◌then◌else◌
   outcome_fit outcome.Acknowledged bytes p = by call.heading refl
     where
       by : (t : Bool) → call.heading ≡ t → Fit (reading.weigh_of call outcome.Acknowledged bytes)
@@ -190,7 +190,7 @@ module _ (call : ReadCall) where
   outcome_fit outcome.Timeout bytes p = (p, inr (inr (inl refl)))
 
   judge_fit : (o : Outcome) (bytes : List ℕ) (n w : ℕ) → Fit (reading.judge_of call o bytes n w)
-  unfolding reading.judge_of case◌waiting◌ended◌ if◌then◌else◌
+  unfolding reading.judge_of case◌waiting◌ended◌ when◌then◌else◌
   judge_fit o bytes n w = by call.phase refl (fits_of call.task.lent n w) refl
     where
       by : (p : Phase) → call.phase ≡ p → (t : Bool) → fits_of call.task.lent n w ≡ t → Fit (reading.judge_of call o bytes n w)
@@ -215,7 +215,7 @@ module _ (call : ReadCall) where
 
   -- once a block is handed over the call waits or is done
   block_kept : (before after : List ℕ) → Kept (reading.advance_of (reading.counted_of call)).phase before after
-  unfolding reading.advance_of phase_after if◌then◌else◌ reading.counted_of
+  unfolding reading.advance_of phase_after when◌then◌else◌ reading.counted_of
   block_kept before after going undone = by (leb (parts.read_count call.task.plan.reads call.task.lent.length) (more_of call.received)) refl
     where
       by : (t : Bool) → leb (parts.read_count call.task.plan.reads call.task.lent.length) (more_of call.received) ≡ t → after ≡ before
@@ -251,7 +251,7 @@ module _ (call : ReadCall) where
 
   -- WHAT A READING CALL SHOWS
   pub shows_r : (n : ℕ) (work : List ℕ) → Shown (call.heading ≡ true) (AsksOf call) call.phase call.task.lent n (length work) work (reading.work_after call n work) (reading.next_of call n (length work))
-  unfolding reading.next_of reading.work_after reading.shown_of reading.work_shown reading.shown_head reading.work_head laid_of work_laid write_of asked case◌waiting◌ended◌ if◌then◌else◌
+  unfolding reading.next_of reading.work_after reading.shown_of reading.work_shown reading.shown_head reading.work_head laid_of work_laid write_of asked case◌waiting◌ended◌ when◌then◌else◌
   shows_r n work =
       by call.phase refl (fits_of call.task.lent n (length work)) refl call.heading refl
       (ltb (length (parts.head_bytes call.task.plan.head call.received)) (length work)) refl

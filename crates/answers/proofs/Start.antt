@@ -1,13 +1,13 @@
 -- At the start each answer is given exactly when its row says so.
 -- Assumes nothing.
-use Prim.Native.Nat.{ℕ, ◌+◌, ◌-◌, ◌≤◌, ◌<◌}
+use Prim.Native.Nat.{ℕ, ◌+◌, ◌≤◌, ◌<◌}
 use mathlib.Core.Path.{◌≡◌, refl}
 use mathlib.Core.Bool.{Bool, true, false}
 use mathlib.Core.Logic.{◌⊎◌, inl, inr, ◌↔◌}
 use native.Mathlib.Omega.{arith}
 use lib.Dec.{ltb, eqb}
 use borrow.Author.Tests.{ltb-true, ltb-false, eqb-true, eqb-false, lt-ltb, le-ltb, eq-eqb, ne_eqb}
-use Rattle.protocol.specs.Pick.{if◌then◌else◌}
+use Rattle.protocol.specs.Pick.{when◌then◌else◌}
 use Rattle.protocol.specs.Window.{in_window}
 use Rattle.protocol.proofs.WindowLaws.{empty, outside, without}
 use Rattle.protocol.specs.declared.error.Answer.TheVariants as answer
@@ -26,7 +26,7 @@ Holds l start n w = InTable (Starts start n w l)
 -- ---- an answer that is given is its row's
 
 windowed_holds : (start n w : ℕ) → 39 ≤ w → Holds limit.Window start n w (windowed start n)
-unfolding windowed if◌then◌else◌
+unfolding windowed when◌then◌else◌
 windowed_holds start n w k = by (in_window start n) refl (eqb n 0) refl
   where
     out : 0 < n → (start < 0x4000) ⊎ (0x6000 < start + n) → Starts start n w limit.Window 5 0
@@ -39,7 +39,7 @@ windowed_holds start n w k = by (in_window start n) refl (eqb n 0) refl
     by true t false q = rw (t, q) tt
 
 commanded_holds : (input start n w : ℕ) → 39 ≤ w → Holds (limit.Command input) start n w (commanded input n)
-unfolding commanded if◌then◌else◌
+unfolding commanded when◌then◌else◌
 commanded_holds input start n w k = by (ltb 32 input) refl (ltb 32 n) refl (eqb input 0) refl
   where
     by : (a : Bool) → ltb 32 input ≡ a → (b : Bool) → ltb 32 n ≡ b → (c : Bool) → eqb input 0 ≡ c → Holds (limit.Command input) start n w (commanded input n)
@@ -49,7 +49,7 @@ commanded_holds input start n w k = by (ltb 32 input) refl (ltb 32 n) refl (eqb 
     by false a false p false q = let h = eqb-false input 0 q in rw (a, p, q) (input_given input k (omega arith) (ltb-false _ _ a) (ltb-false _ _ p))
 
 measured_holds : (l : Limit) (start n w : ℕ) → 39 ≤ w → Holds l start n w (measured l start n)
-unfolding measured if◌then◌else◌
+unfolding measured when◌then◌else◌
 measured_holds limit.Free start n w k = tt
 measured_holds (limit.AtMost most) start n w k = by (ltb most n) refl
   where
@@ -65,7 +65,7 @@ measured_holds limit.Window start n w k = windowed_holds start n w k
 measured_holds (limit.Command input) start n w k = commanded_holds input start n w k
 
 admitted_holds : (l : Limit) (start n w : ℕ) → Holds l start n w (admitted l start n w)
-unfolding admitted if◌then◌else◌
+unfolding admitted when◌then◌else◌
 admitted_holds l start n w = by (ltb w 39) refl
   where
     by : (t : Bool) → ltb w 39 ≡ t → Holds l start n w (admitted l start n w)
@@ -75,13 +75,13 @@ admitted_holds l start n w = by (ltb w 39) refl
 -- ---- and a row that holds is answered
 
 module _ (start n w : ℕ) where
-  large : (t : Bool) → Says 4 0 (if t then phase.Ended answer.DataTooLarge else phase.Ended answer.DataTooLarge)
-  unfolding if◌then◌else◌
+  large : (t : Bool) → Says 4 0 (when t then phase.Ended answer.DataTooLarge else phase.Ended answer.DataTooLarge)
+  unfolding when◌then◌else◌
   large true = (refl, refl)
   large false = (refl, refl)
 
   admitted_row : (l : Limit) (k d : ℕ) → Starts start n w l k d → Says k d (admitted l start n w)
-  unfolding admitted measured windowed commanded if◌then◌else◌
+  unfolding admitted measured windowed commanded when◌then◌else◌
   admitted_row l k d (nothing_to_do room none) = rw (le-ltb w 39 room, empty start n none, eq-eqb n 0 none) (refl, refl)
   admitted_row l k d (too_large most room h) = rw (le-ltb w 39 room, lt-ltb most n h) (refl, refl)
   admitted_row l k d (large_input input room h) = rw (le-ltb w 39 room, lt-ltb 32 input h) (refl, refl)

@@ -11,7 +11,7 @@ use lib.ListN.{length, length-take}
 use borrow.Author.Tests.{lt-ltb, eq-eqb}
 use Rattle.protocol.proofs.Shared.{few_on}
 use Rattle.protocol.specs.Common.{TwoByteBudgets}
-use Rattle.protocol.specs.Pick.{if◌then◌else◌}
+use Rattle.protocol.specs.Pick.{when◌then◌else◌}
 use Rattle.protocol.specs.Frame.{pair_of, mac_bytes, fixed_pair, command_bytes, register_bytes, info_bytes, sealed, laid_of}
 use Rattle.protocol.specs.Reply as reply
 use Rattle.protocol.specs.declared.common.Config.{Config}
@@ -55,18 +55,18 @@ record Sane (plan : WritePlan) (payload : List ℕ) : Type 0 where
   inside : (i : ℕ) → i < frames.frame_count plan.frames (length payload) → Inside plan.limit (frames.first_address plan.frames) (length payload) i
 
 length_half : (lower upper i : ℕ) → length (frames.half_bytes lower upper i) ≤ 38
-unfolding frames.half_bytes mac_bytes pair_of if◌then◌else◌
+unfolding frames.half_bytes mac_bytes pair_of when◌then◌else◌
 length_half lower upper i = by (eqb i 0)
   where
-    by : (t : Bool) → length (if t then mac_bytes (pair_of lower) [] else mac_bytes (pair_of upper) []) ≤ 38
+    by : (t : Bool) → length (when t then mac_bytes (pair_of lower) [] else mac_bytes (pair_of upper) []) ≤ 38
     by true = omega arith
     by false = omega arith
 
 length_info : (lower upper i : ℕ) (payload : List ℕ) → length payload ≤ 32 → length (frames.info_cbytes lower upper i payload) ≤ 38
-unfolding frames.info_cbytes mac_bytes if◌then◌else◌
+unfolding frames.info_cbytes mac_bytes when◌then◌else◌
 length_info lower upper i payload h = by (ltb i 2)
   where
-    by : (t : Bool) → length (if t then frames.half_bytes lower upper i else mac_bytes (fixed_pair mac.MfgInfoC) payload) ≤ 38
+    by : (t : Bool) → length (when t then frames.half_bytes lower upper i else mac_bytes (fixed_pair mac.MfgInfoC) payload) ≤ 38
     by true = length_half lower upper i
     by false = omega arith
 
@@ -88,7 +88,7 @@ module _ (config : Config) (payload : List ℕ) where
   one_frame plan one room at = record { some = omega (arith, one); few = omega (arith, one); room = λ i. inr (room i); inside = λ i h. at i }
 
   plain_sane : (pec : Bool) → config.pec_write ≡ pec → Fits (write_with_retries config).limit 0 (length payload) → Sane (write_with_retries config) payload
-  unfolding write_with_retries plain_limit writing.plan_of frames.first_address frames.frame_count frames.is_plain frames.bytes_at if◌then◌else◌
+  unfolding write_with_retries plain_limit writing.plan_of frames.first_address frames.frame_count frames.is_plain frames.bytes_at when◌then◌else◌
   plain_sane true e h =
       let q : (write_with_retries config).limit ≡ limit.AtMost 38 = rw e in
       let k : length payload ≤ 38 = subst (λ (l : Limit). Fits l 0 (length payload)) q h in
@@ -123,12 +123,12 @@ module _ (config : Config) (payload : List ℕ) where
 
 -- a frame is shown where it has room
 laid_shown : (pec : Bool) (f : List ℕ) (w : ℕ) → length f < w → write_of (laid_of pec f w) ≡ transfer.Write (length (sealed pec f))
-unfolding write_of laid_of if◌then◌else◌
+unfolding write_of laid_of when◌then◌else◌
 laid_shown pec f w h = rw (lt-ltb (length f) w h)
 
 shows_write : (call : WriteCall) (payload : List ℕ) (w : ℕ) → call.phase ≡ phase.Waiting → fits_of call.task.lent (length payload) w ≡ true
     → (writing.own_bytes call ≡ false → length (writing.due_bytes call payload) < w) → (n : ℕ) × (writing.next_of call payload w ≡ transfer.Write n)
-unfolding writing.next_of writing.shown_of writing.due_bytes case◌waiting◌ended◌ if◌then◌else◌
+unfolding writing.next_of writing.shown_of writing.due_bytes case◌waiting◌ended◌ when◌then◌else◌
 shows_write call payload w e f room = by (writing.own_bytes call) refl
   where
     by : (o : Bool) → writing.own_bytes call ≡ o → (n : ℕ) × (writing.next_of call payload w ≡ transfer.Write n)
@@ -142,7 +142,7 @@ module _ (plan : WritePlan) (payload : List ℕ) (w : ℕ) (s : Sane plan payloa
   fits_start = rw (t, eq-eqb (length payload) (length payload) refl, eq-eqb w w refl)
 
   has_room : writing.own_bytes call ≡ false → length (writing.due_bytes call payload) < w
-  unfolding writing.own_bytes writing.due_bytes writing.start_of if◌then◌else◌
+  unfolding writing.own_bytes writing.due_bytes writing.start_of when◌then◌else◌
   has_room o = by (s.room call.sent)
     where
       by : ((frames.is_plain plan.frames ≡ true) × (plan.pec ≡ false)) ⊎ (length (frames.bytes_at plan.frames call.sent payload) ≤ 38)
@@ -221,17 +221,17 @@ module _ (config : Config) (n : ℕ) where
   one_read plan one at asks = record { few = omega (arith, one); bare = λ h. omega (arith, one); inside = λ i h. at i; asks = asks }
 
   whole_asks : (pec : Bool) (size : ℕ) → size ≤ 33 → whole_ask pec size n ≤ n + 33
-  unfolding whole_ask if◌then◌else◌
+  unfolding whole_ask when◌then◌else◌
   whole_asks true size h = omega arith
   whole_asks false size h = omega arith
 
   block_asks : (left : ℕ) (pec : Bool) → (parts.block_ask left pec).wanted ≤ n + 33
-  unfolding parts.block_ask reply.mac_ask if◌then◌else◌
+  unfolding parts.block_ask reply.mac_ask when◌then◌else◌
   block_asks left true = omega arith
   block_asks left false = omega arith
 
   command_sane : (address input : ℕ) → SaneRead (dispatch_command config address input n) n
-  unfolding dispatch_command command_reads parts.read_count parts.ask_of parts.has_head reply.mac_ask if◌then◌else◌
+  unfolding dispatch_command command_reads parts.read_count parts.ask_of parts.has_head reply.mac_ask when◌then◌else◌
   command_sane address input = by (eqb n 0) refl
     where
       by : (t : Bool) → eqb n 0 ≡ t → SaneRead (dispatch_command config address input n) n
@@ -273,7 +273,7 @@ module _ (plan : ReadPlan) (n w : ℕ) (s : SaneRead plan n) (k : 39 ≤ w) (cal
   fits_begun = rw (t, eq-eqb n n refl, eq-eqb w w refl)
 
   shows_its_head : call.heading ≡ true → (m : ℕ) × (reading.next_of call n w ≡ transfer.Write m)
-  unfolding reading.next_of reading.shown_of reading.shown_head case◌waiting◌ended◌ if◌then◌else◌
+  unfolding reading.next_of reading.shown_of reading.shown_head case◌waiting◌ended◌ when◌then◌else◌
   shows_its_head h =
       let room = length_head call.task.plan.head call.received in (
         length (sealed call.task.plan.head_pec (parts.head_bytes call.task.plan.head call.received)),
@@ -281,14 +281,14 @@ module _ (plan : ReadPlan) (n w : ℕ) (s : SaneRead plan n) (k : 39 ≤ w) (cal
       )
 
   shows_its_read : call.heading ≡ false → reading.next_of call n w ≡ transfer.Read (reading.due_ask call).command (reply.bytes_asked (reading.due_ask call))
-  unfolding reading.next_of reading.shown_of case◌waiting◌ended◌ if◌then◌else◌
+  unfolding reading.next_of reading.shown_of case◌waiting◌ended◌ when◌then◌else◌
   shows_its_read h = rw (h, fits_begun, e)
 
   around_few : reply.around_of (reading.due_ask call) ≤ 4
-  unfolding reply.around_of reply.lead_of if◌then◌else◌
+  unfolding reply.around_of reply.lead_of when◌then◌else◌
   around_few = by (reading.due_ask call).pec (reading.due_ask call).prefixed
     where
-      by : (p h : Bool) → (if p then (if h then 3 else 0) + 1 else (if h then 3 else 0)) ≤ 4
+      by : (p h : Bool) → (when p then (when h then 3 else 0) + 1 else (when h then 3 else 0)) ≤ 4
       by true true = omega arith
       by true false = omega arith
       by false true = omega arith

@@ -7,7 +7,7 @@ use mathlib.Core.Logic.{◌↔◌}
 use native.Mathlib.Omega.{arith}
 use lib.Dec.{leb, eqb}
 use borrow.Author.Tests.{leb-true, eqb-true, eqb-false, le-leb, eq-eqb, ne_eqb}
-use Rattle.protocol.specs.Pick.{if◌then◌else◌}
+use Rattle.protocol.specs.Pick.{when◌then◌else◌}
 use Rattle.protocol.specs.Answer.{number_of, detail_of}
 use Rattle.protocol.specs.declared.error.Answer.{Answer}
 use Rattle.protocol.specs.declared.error.Answer.TheVariants as answer
@@ -55,7 +55,7 @@ module _ (call : WriteCall) (o : Outcome) (r n w : ℕ) where
 
   gave_up_lem : (why : Answer) → OpenW call n w → Failure o → call.budget.left ≡ 0
       → ((Partial call → ⊥) → Row why) → Row (gave_up call.task.plan.frames call.sent why)
-  unfolding Row gave_up if◌then◌else◌
+  unfolding Row gave_up when◌then◌else◌
   gave_up_lem why ready bad last row = by (frames.is_flash call.task.plan.frames) refl (eqb call.sent 0) refl
     where
       by : (f : Bool) → frames.is_flash call.task.plan.frames ≡ f → (z : Bool) → eqb call.sent 0 ≡ z
@@ -74,7 +74,7 @@ module _ (call : WriteCall) (o : Outcome) (r n w : ℕ) where
 
   fail_holds : (why : Answer) → OpenW call n w → Failure o
       → (call.budget.left ≡ 0 → (Partial call → ⊥) → Row why) → Holds (fail_of (counted_of call) why).phase
-  unfolding Row fail_of failed retry_of end_of case◌retry◌spent◌ if◌then◌else◌ counted_of
+  unfolding Row fail_of failed retry_of end_of case◌retry◌spent◌ when◌then◌else◌ counted_of
   fail_holds why ready bad row = by (eqb call.budget.left 0) refl
     where
       by : (t : Bool) → eqb call.budget.left 0 ≡ t → Holds (fail_of (counted_of call) why).phase
@@ -85,7 +85,7 @@ module _ (call : WriteCall) (o : Outcome) (r n w : ℕ) where
       by false t = let q : (fail_of (counted_of call) why).phase ≡ phase.Waiting = rw t in subst Holds (sym q) tt
 
   sent_holds : OpenW call n w → o ≡ outcome.Acknowledged → r ≡ 0 → Holds (advance_of (counted_of call)).phase
-  unfolding advance_of phase_after if◌then◌else◌ counted_of
+  unfolding advance_of phase_after when◌then◌else◌ counted_of
   sent_holds ready ack none = by (leb (frames.frame_count call.task.plan.frames call.task.lent.length) (more_of call.sent)) refl
     where
       by : (t : Bool) → leb (frames.frame_count call.task.plan.frames call.task.lent.length) (more_of call.sent) ≡ t → Holds (advance_of (counted_of call)).phase
@@ -95,12 +95,12 @@ module _ (call : WriteCall) (o : Outcome) (r n w : ℕ) where
       by false t = let q : (advance_of (counted_of call)).phase ≡ phase.Waiting = rw t in subst Holds (sym q) tt
 
   -- a report that is looked at
-  taken_holds : OpenW call n w → (x : Outcome) → o ≡ x → Holds (said_w (if◌then◌else◌ (replied_of o r) (wrote.Refused answer.WrongReply call) (wrote.Taken (settle_of (counted_of call) o))))
-  unfolding Row replied_of settle_of case◌acknowledged◌error◌timeout◌ if◌then◌else◌ counted_of
+  taken_holds : OpenW call n w → (x : Outcome) → o ≡ x → Holds (said_w (when◌then◌else◌ (replied_of o r) (wrote.Refused answer.WrongReply call) (wrote.Taken (settle_of (counted_of call) o))))
+  unfolding Row replied_of settle_of case◌acknowledged◌error◌timeout◌ when◌then◌else◌ counted_of
   taken_holds ready outcome.Acknowledged e = by (eqb r 0) refl
     where
       said : Phase
-      said = said_w (if◌then◌else◌ (replied_of o r) (wrote.Refused answer.WrongReply call) (wrote.Taken (settle_of (counted_of call) o)))
+      said = said_w (when◌then◌else◌ (replied_of o r) (wrote.Refused answer.WrongReply call) (wrote.Taken (settle_of (counted_of call) o)))
 
       by : (t : Bool) → eqb r 0 ≡ t → Holds said
       by true t =
@@ -110,14 +110,14 @@ module _ (call : WriteCall) (o : Outcome) (r n w : ℕ) where
           let q : said ≡ phase.Ended answer.WrongReply = rw (e, t) in
           subst Holds (sym q) (wrong_reply ready e (eqb-false r 0 t))
   taken_holds ready (outcome.BusError code) e =
-      let q : said_w (if◌then◌else◌ (replied_of o r) (wrote.Refused answer.WrongReply call) (wrote.Taken (settle_of (counted_of call) o))) ≡ (fail_of (counted_of call) (answer.I2c code)).phase = rw e in
+      let q : said_w (when◌then◌else◌ (replied_of o r) (wrote.Refused answer.WrongReply call) (wrote.Taken (settle_of (counted_of call) o))) ≡ (fail_of (counted_of call) (answer.I2c code)).phase = rw e in
       subst Holds (sym q) (fail_holds (answer.I2c code) ready (rw e tt) (bus_error code ready e))
   taken_holds ready outcome.Timeout e =
-      let q : said_w (if◌then◌else◌ (replied_of o r) (wrote.Refused answer.WrongReply call) (wrote.Taken (settle_of (counted_of call) o))) ≡ (fail_of (counted_of call) answer.Timeout).phase = rw e in
+      let q : said_w (when◌then◌else◌ (replied_of o r) (wrote.Refused answer.WrongReply call) (wrote.Taken (settle_of (counted_of call) o))) ≡ (fail_of (counted_of call) answer.Timeout).phase = rw e in
       subst Holds (sym q) (fail_holds answer.Timeout ready (rw e tt) (timed_out ready e))
 
   report_holds : Holds (said_w (report_of call o r n w))
-  unfolding report_of case◌waiting◌ended◌ if◌then◌else◌ counted_of
+  unfolding report_of case◌waiting◌ended◌ when◌then◌else◌ counted_of
   report_holds = by call.phase refl (fits_of call.task.lent n w) refl
     where
       by : (p : Phase) → call.phase ≡ p → (t : Bool) → fits_of call.task.lent n w ≡ t → Holds (said_w (report_of call o r n w))
@@ -128,21 +128,21 @@ module _ (call : WriteCall) (o : Outcome) (r n w : ℕ) where
           let q : said_w (report_of call o r n w) ≡ phase.Ended answer.WrongBuffer = rw (e, f) in
           subst Holds (sym q) (wrong_buffer e (other_fits call.task.lent n w f))
       by phase.Waiting e true f =
-          let q : said_w (report_of call o r n w) ≡ said_w (if◌then◌else◌ (replied_of o r) (wrote.Refused answer.WrongReply call) (wrote.Taken (settle_of (counted_of call) o))) = rw (e, f) in
+          let q : said_w (report_of call o r n w) ≡ said_w (when◌then◌else◌ (replied_of o r) (wrote.Refused answer.WrongReply call) (wrote.Taken (settle_of (counted_of call) o))) = rw (e, f) in
           subst Holds (sym q) (taken_holds (e, fits_same call.task.lent n w f) o refl)
 
   -- ---- and a row that holds is answered
 
-  looked : OpenW call n w → report_of call o r n w ≡ if◌then◌else◌ (replied_of o r) (wrote.Refused answer.WrongReply call) (wrote.Taken (settle_of (counted_of call) o))
-  unfolding report_of case◌waiting◌ended◌ if◌then◌else◌
+  looked : OpenW call n w → report_of call o r n w ≡ when◌then◌else◌ (replied_of o r) (wrote.Refused answer.WrongReply call) (wrote.Taken (settle_of (counted_of call) o))
+  unfolding report_of case◌waiting◌ended◌ when◌then◌else◌
   looked (e, same) = rw (e, same_fits call.task.lent n w same)
 
   gives_up : (why : Answer) → call.budget.left ≡ 0 → (fail_of (counted_of call) why).phase ≡ phase.Ended (gave_up call.task.plan.frames call.sent why)
-  unfolding fail_of failed end_of case◌retry◌spent◌ if◌then◌else◌ counted_of
+  unfolding fail_of failed end_of case◌retry◌spent◌ when◌then◌else◌ counted_of
   gives_up why last = rw (eq-eqb call.budget.left 0 last)
 
   whole_why : (why : Answer) → (Partial call → ⊥) → gave_up call.task.plan.frames call.sent why ≡ why
-  unfolding gave_up if◌then◌else◌
+  unfolding gave_up when◌then◌else◌
   whole_why why whole = by (frames.is_flash call.task.plan.frames) refl (eqb call.sent 0) refl
     where
       by : (f : Bool) → frames.is_flash call.task.plan.frames ≡ f → (z : Bool) → eqb call.sent 0 ≡ z → gave_up call.task.plan.frames call.sent why ≡ why
@@ -151,17 +151,17 @@ module _ (call : WriteCall) (o : Outcome) (r n w : ℕ) where
       by true f false q = let some = eqb-false call.sent 0 q in absurd (whole (flash_from _ f, omega arith))
 
   partial_why : (why : Answer) → Partial call → gave_up call.task.plan.frames call.sent why ≡ answer.PartialDataFlashWrite (call.sent * 32)
-  unfolding gave_up if◌then◌else◌
+  unfolding gave_up when◌then◌else◌
   partial_why why (f, some) = let p : call.sent ≡ 0 → ⊥ = λ e. omega arith in rw (from_flash _ f.0 f.1, ne_eqb call.sent 0 p)
 
   failure : OpenW call n w → (x : Outcome) → o ≡ x → Failure x → (a : Answer) → ((why : Answer) → (fail_of (counted_of call) why).phase ≡ phase.Ended a) → said_w (report_of call o r n w) ≡ phase.Ended a
-  unfolding replied_of settle_of case◌acknowledged◌error◌timeout◌ if◌then◌else◌ counted_of
+  unfolding replied_of settle_of case◌acknowledged◌error◌timeout◌ when◌then◌else◌ counted_of
   failure ready outcome.Acknowledged e bad a ends = absurd bad
   failure ready (outcome.BusError code) e bad a ends = ap said_w (looked ready) ∙ rw e (ends (answer.I2c code))
   failure ready outcome.Timeout e bad a ends = ap said_w (looked ready) ∙ rw e (ends answer.Timeout)
 
   report_row : (k d : ℕ) → Writes call o r n w k d → Says k d (said_w (report_of call o r n w))
-  unfolding report_of replied_of settle_of advance_of phase_after case◌waiting◌ended◌ case◌acknowledged◌error◌timeout◌ if◌then◌else◌ counted_of
+  unfolding report_of replied_of settle_of advance_of phase_after case◌waiting◌ended◌ case◌acknowledged◌error◌timeout◌ when◌then◌else◌ counted_of
   report_row k d (done ready ack none all) = says_of answer.Done (said_w (report_of call o r n w)) (ap said_w (looked ready) ∙ rw (ack, eq-eqb r 0 none, le-leb _ _ all))
   report_row k d (bus_error code ready e last whole) =
       says_of (answer.I2c code) (said_w (report_of call o r n w))

@@ -3,7 +3,7 @@
 -- The rows go by the paper's number and detail. `Starts`, `Writes` and `Reads` have a constructor for each case of a row that can come there: no other answer comes.
 -- Assumes nothing.
 use Rattle.std.specs.Prelude.{ℕ, ◌+◌, ◌-◌, ◌*◌, ◌≤◌, ◌<◌, ◌≡◌, true, false, List, [], ◌∷◌, ◌⊎◌, length}
-use Rattle.protocol.specs.Pick.{if◌then◌else◌}
+use Rattle.protocol.specs.Pick.{when◌then◌else◌}
 use Rattle.protocol.specs.Answer.{number_of, detail_of}
 use Rattle.protocol.specs.Reply as reply
 use Rattle.protocol.specs.declared.error.Answer.{Answer}
@@ -133,7 +133,7 @@ pub data Writes (call : WriteCall) (o : Outcome) (r n w : ℕ) : ℕ → ℕ →
 
 -- the number of bytes asked: none by a head
 unfoldable pub asked : ReadCall → ℕ
-asked call = if call.heading then 0 else reply.bytes_asked (due_ask call)
+asked call = when call.heading then 0 else reply.bytes_asked (due_ask call)
 
 -- a read's PEC differs
 abbrev pub Damaged : ReadCall → List ℕ → Type 0
@@ -141,7 +141,7 @@ Damaged call bytes = (call.heading ≡ false) × ((due_ask call).pec ≡ true) �
 
 -- the reads that are done with this one; a head is none
 unfoldable pub reads_made : ReadCall → ℕ
-reads_made call = if call.heading then call.received else more_of call.received
+reads_made call = when call.heading then call.received else more_of call.received
 
 pub data Reads (call : ReadCall) (o : Outcome) (bytes : List ℕ) (n w : ℕ) : ℕ → ℕ → Type 0 where
   -- 0: all reads are made, or its head where it has none

@@ -2,7 +2,7 @@
 -- Assumes nothing.
 use Rattle.std.specs.Prelude.{ℕ, ◌+◌, ◌-◌, ◌*◌, ◌≡◌, Bool, true, false, List, ◌⊎◌, ◌↔◌, length, take, drop}
 use Rattle.protocol.specs.Common.{TwoByteBudgets}
-use Rattle.protocol.specs.Pick.{if◌then◌else◌}
+use Rattle.protocol.specs.Pick.{when◌then◌else◌}
 use Rattle.protocol.specs.Answer.{number_of}
 use Rattle.protocol.specs.declared.common.Config.{Config}
 use Rattle.protocol.specs.declared.error.Answer.TheVariants as answer
@@ -84,7 +84,7 @@ pub record Hands (built : Bool) (p : Phase) (lent : Lent) (payload before after 
   -- a waiting call shows 8 exactly where the lent lengths differ
   pub refuses : (shown ≡ transfer.Refused answer.WrongBuffer) ↔ ((p ≡ phase.Waiting) × (Same lent (length payload) (length before) → ⊥))
   -- whatever number is asked for, the front of the work buffer is handed out, or of the caller's bytes
-  pub fronts : (work : List ℕ) (k : ℕ) → part work k ≡ if built then take k work else take k payload
+  pub fronts : (work : List ℕ) (k : ℕ) → part work k ≡ when built then take k work else take k payload
   -- what it shows as a write is handed out
   pub hands : (n : ℕ) → shown ≡ transfer.Write n → Handed built payload before after n (part after n)
 

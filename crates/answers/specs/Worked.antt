@@ -2,7 +2,7 @@
 -- Assumes nothing.
 use Rattle.std.specs.Prelude.{ℕ, ◌≡◌, refl, true, false, List, [], ◌∷◌, map}
 use Rattle.smbus_pec.specs.Pec.{bit_step, bit_steps, byte_step, pec_of}
-use Rattle.protocol.specs.Pick.{if◌then◌else◌}
+use Rattle.protocol.specs.Pick.{when◌then◌else◌}
 use Rattle.protocol.specs.Answer.{number_of, detail_of}
 use Rattle.protocol.specs.Window.{in_window}
 use Rattle.protocol.specs.Reply as reply
@@ -76,7 +76,7 @@ runs =
 -- 0 to 10, with the bus error's code and the 32 bytes committed
 pub runs_reach : map figures runs
     ≡ (0 ∷ 0 ∷ []) ∷ (1 ∷ 5 ∷ []) ∷ (2 ∷ 0 ∷ []) ∷ (3 ∷ 0 ∷ []) ∷ (4 ∷ 0 ∷ []) ∷ (5 ∷ 0 ∷ []) ∷ (6 ∷ 32 ∷ []) ∷ (7 ∷ 0 ∷ []) ∷ (8 ∷ 0 ∷ []) ∷ (9 ∷ 0 ∷ []) ∷ (10 ∷ 0 ∷ []) ∷ []
-unfolding bit_step bit_steps byte_step pec_of if◌then◌else◌ in_window case◌waiting◌ended◌ case◌acknowledged◌error◌timeout◌ case◌retry◌spent◌ failed nothing waited tallied phase_after fits_of windowed commanded measured admitted
+unfolding bit_step bit_steps byte_step pec_of when◌then◌else◌ in_window case◌waiting◌ended◌ case◌acknowledged◌error◌timeout◌ case◌retry◌spent◌ failed nothing waited tallied phase_after fits_of windowed commanded measured admitted
     frames.is_flash frames.first_address frames.frame_count writing.plan_of writing.start_of writing.advance_of writing.gave_up writing.retry_of writing.end_of writing.fail_of writing.settle_of writing.replied_of writing.counted_of writing.report_of
     case◌refused◌fault◌headed◌block◌ parts.has_head parts.first_address parts.read_count parts.ask_of parts.block_ask reading.plain_plan reading.start_of reading.due_ask reading.headed_of reading.advance_of reading.retry_of reading.end_of reading.fail_of reading.heard_head reading.verdict_of reading.heard_block reading.acknowledged_of reading.weigh_of reading.judge_of reading.counted_of reading.report_of
     reply.plain_ask reply.mac_ask reply.lead_of reply.around_of reply.bytes_asked reply.checked_of reply.heard_of write_register read_register dispatch_command read_dataflash write_dataflash

@@ -9,7 +9,7 @@ use lib.ListN.{length, drop, get_or}
 use lib.Seq.{drop-cons}
 use lib.Dec.{ltb, eqb}
 use borrow.Author.Tests.{lt-ltb, le-ltb, eq-eqb, ne_eqb}
-use Rattle.protocol.specs.Pick.{if◌then◌else◌}
+use Rattle.protocol.specs.Pick.{when◌then◌else◌}
 use Rattle.calls.specs.declared.kind.Kind.{Kind}
 use Rattle.hexadecimal.specs.Digits.{in_digits}
 use Rattle.requests.specs.Fields.{pair_at, quad_at}
@@ -50,63 +50,63 @@ module _ (line : List ℕ) (byte : get_or line 1 0 < 256) where
 
   -- with two budgets, and with one number that is both
   pub two_budgets : bit 2 flags ≡ true → header_of line ≡ record { config = settings flags (pair_at 2 line) (pair_at 4 line); bytes = 6 }
-  unfolding header_of header_bytes config_of read_retries if◌then◌else◌
+  unfolding header_of header_bytes config_of read_retries when◌then◌else◌
   two_budgets e = rw (two flags byte, e, pec_write flags byte, pec_read flags byte, growing flags byte)
 
   pub one_budget : bit 2 flags ≡ false → header_of line ≡ record { config = settings flags (pair_at 2 line) (pair_at 2 line); bytes = 4 }
-  unfolding header_of header_bytes config_of read_retries if◌then◌else◌
+  unfolding header_of header_bytes config_of read_retries when◌then◌else◌
   one_budget e = rw (two flags byte, e, pec_write flags byte, pec_read flags byte, growing flags byte)
 
 -- ---- the tests of a length
 
 module _ (k : Kind) (header : Header) (at size n : ℕ) where
   pub missing : n < at → called_of k header at size n ≡ requests.bad
-  unfolding called_of if◌then◌else◌
+  unfolding called_of when◌then◌else◌
   missing h = rw (lt-ltb n at h) (by (ltb 8192 size))
     where
-      by : (t : Bool) → (if t then requests.bad else requests.bad) ≡ requests.bad
+      by : (t : Bool) → (when t then requests.bad else requests.bad) ≡ requests.bad
       by true = refl
       by false = refl
 
   pub long : 8192 < n - at → called_of k header at size n ≡ requests.bad
-  unfolding called_of if◌then◌else◌
+  unfolding called_of when◌then◌else◌
   long h = rw (lt-ltb 8192 (n - at) h) (by (ltb 8192 size) (ltb n at))
     where
-      by : (t u : Bool) → (if t then requests.bad else if u then requests.bad else requests.bad) ≡ requests.bad
+      by : (t u : Bool) → (when t then requests.bad else when u then requests.bad else requests.bad) ≡ requests.bad
       by true u = refl
       by false true = refl
       by false false = refl
 
   pub wide : 8192 < size → called_of k header at size n ≡ requests.bad
-  unfolding called_of if◌then◌else◌
+  unfolding called_of when◌then◌else◌
   wide h = rw (lt-ltb 8192 size h)
 
   pub called : at ≤ n → n - at ≤ 8192 → size ≤ 8192 → called_of k header at size n ≡ request.Call k header.config (header.bytes + at) size
-  unfolding called_of if◌then◌else◌
+  unfolding called_of when◌then◌else◌
   called h l w = rw (le-ltb 8192 size w, le-ltb n at h, le-ltb 8192 (n - at) l)
 
   pub other : (p : ℕ) → (n ≡ at + p → ⊥) → exact_of k header at p size n ≡ requests.bad
-  unfolding exact_of if◌then◌else◌
+  unfolding exact_of when◌then◌else◌
   other p h = rw (ne_eqb n (at + p) h)
 
   pub exact : (p : ℕ) → n ≡ at + p → exact_of k header at p size n ≡ called_of k header at size n
-  unfolding exact_of if◌then◌else◌
+  unfolding exact_of when◌then◌else◌
   exact p h = rw (eq-eqb n (at + p) h)
 
 -- ---- a retired kind
 
 -- the two characters that are looked at are the two digits
 pub same_retired : (line : List ℕ) → retired_kind line ≡ is_retired line
-unfolding retired_kind is_retired begins in_digits if◌then◌else◌
+unfolding retired_kind is_retired begins in_digits when◌then◌else◌
 same_retired [] = refl
 same_retired (a ∷ []) = by (eqb a 0x30)
   where
-    by : (t : Bool) → (if t then false else false) ≡ ((t && false) || (t && false))
+    by : (t : Bool) → (when t then false else false) ≡ ((t && false) || (t && false))
     by true = refl
     by false = refl
 same_retired (a ∷ b ∷ line) = by (eqb a 0x30) (eqb b 0x43) (eqb b 0x44)
   where
-    by : (t u v : Bool) → (if t then (if u then true else if v then true else false) else false) ≡ ((t && (u && true)) || (t && (v && true)))
+    by : (t u v : Bool) → (when t then (when u then true else when v then true else false) else false) ≡ ((t && (u && true)) || (t && (v && true)))
     by true true v = refl
     by true false true = refl
     by true false false = refl

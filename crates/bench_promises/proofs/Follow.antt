@@ -9,7 +9,7 @@ use lib.ListN.{length, get_or, replicate}
 use lib.Seq.{take-append_seam}
 use lib.Dec.{ltb, eqb}
 use borrow.Author.Tests.{lt-ltb, le-ltb, ne_eqb, eqb-true, eqb-false, ltb-true, ltb-false}
-use Rattle.protocol.specs.Pick.{if◌then◌else◌}
+use Rattle.protocol.specs.Pick.{when◌then◌else◌}
 use Rattle.protocol.specs.Answer.{number_of}
 use Rattle.protocol.specs.declared.error.Answer.{Answer}
 use Rattle.protocol.specs.declared.error.Answer.TheVariants as answer
@@ -66,10 +66,10 @@ all_delivered n s e = rw (← e) (take-append_seam s (replicate (length s) 0))
 
 -- what a call has waited when the outcomes run out is what it counts
 waits_now : (c : Call) (payload buffer : List ℕ) (done : List Made) → (tally_of c).waits ≡ waits_in (fed c payload buffer lent done [])
-unfolding fed zeros answered waits_in shows◌sending◌transfer◌answer◌ if◌then◌else◌
+unfolding fed zeros answered waits_in shows◌sending◌transfer◌answer◌ when◌then◌else◌
 waits_now c payload buffer done = by (next_of c payload (length buffer) 39) refl
   where
-    answered_waits : (t : Bool) (a : Answer) → (tally_of c).waits ≡ waits_in ((if t then Ok (record { transfers = done; waits = (tally_of c).waits }) [] else Err a (record { transfers = done; waits = (tally_of c).waits }) []) leaving buffer)
+    answered_waits : (t : Bool) (a : Answer) → (tally_of c).waits ≡ waits_in ((when t then Ok (record { transfers = done; waits = (tally_of c).waits }) [] else Err a (record { transfers = done; waits = (tally_of c).waits }) []) leaving buffer)
     answered_waits true a = refl
     answered_waits false a = refl
 
@@ -101,11 +101,11 @@ module _ (per_frame growing : Bool) (retries : ℕ) (rust : List BusOutcome → 
 
   -- what a call that has ended prints
   ended : (a : Answer) (f : _) → (came_to (answered a (record { transfers = done; waits = waits }) [] leaving buffer) lasting ms os waiting f) ≡ transfer_lines done ++ (end_said a (tally_of c) buffer ∷ [])
-  unfolding answered came_to◌lasting◌waiting◌ if◌then◌else◌
+  unfolding answered came_to◌lasting◌waiting◌ when◌then◌else◌
   ended a f = by (eqb (number_of a) 0) refl
     where
       by : (t : Bool) → eqb (number_of a) 0 ≡ t
-          → (came_to ((if t then Ok (record { transfers = done; waits = waits }) [] else Err a (record { transfers = done; waits = waits }) []) leaving buffer) lasting ms os waiting f)
+          → (came_to ((when t then Ok (record { transfers = done; waits = waits }) [] else Err a (record { transfers = done; waits = waits }) []) leaving buffer) lasting ms os waiting f)
           ≡ transfer_lines done ++ (end_said a (tally_of c) buffer ∷ [])
       by true e = rw (end_said_lem, lasted, done_only a (eqb-true (number_of a) 0 e))
       by false e = rw (end_said_lem, lasted)
@@ -163,11 +163,11 @@ module _ (per_frame growing : Bool) (retries : ℕ) (rust : List BusOutcome → 
       acknowledged : (b : ℕ) (s : List ℕ)
           → (heard acknowledged_by (brings m) s goes onward stops stop)
           ≡ transfer_lines (done ++ (m ∷ [])) ++ told_then (acknowledged_line (length (b ∷ s))) c payload buffer (b ∷ s) go
-      unfolding acknowledged_by acknowledged_line heard◌goes◌stops◌ told_then report_then if◌then◌else◌ feeding.told reply
+      unfolding acknowledged_by acknowledged_line heard◌goes◌stops◌ told_then report_then when◌then◌else◌ feeding.told reply
       acknowledged b s = by (ltb 8192 (length s)) refl (eqb (length s) (brings m)) refl
         where
           by : (long : Bool) → ltb 8192 (length s) ≡ long → (right : Bool) → eqb (length s) (brings m) ≡ right
-              → (heard (if long then stopped answer.BadLine else if right then outcome (Acknowledged s) else stopped answer.WrongReply) goes onward stops stop)
+              → (heard (when long then stopped answer.BadLine else when right then outcome (Acknowledged s) else stopped answer.WrongReply) goes onward stops stop)
               ≡ transfer_lines (done ++ (m ∷ [])) ++ told_then (acknowledged_line (length (b ∷ s))) c payload buffer (b ∷ s) go
           by true l right r =
               let h : 8193 < length (b ∷ s) = omega (arith, ltb-true 8192 (length s) l) in
@@ -186,7 +186,7 @@ module _ (per_frame growing : Bool) (retries : ℕ) (rust : List BusOutcome → 
       error : (b : ℕ) (s : List ℕ)
           → (heard error_by s goes onward stops stop)
           ≡ transfer_lines (done ++ (m ∷ [])) ++ told_then (error_line (get_or (b ∷ s) 1 0) (length (b ∷ s))) c payload buffer (b ∷ s) go
-      unfolding error_by error_line heard◌goes◌stops◌ told_then if◌then◌else◌ feeding.told reply
+      unfolding error_by error_line heard◌goes◌stops◌ told_then when◌then◌else◌ feeding.told reply
       error b [] = broken answer.BadLine
       error b (code ∷ []) = missed (BusError code) (code ∷ []) tt refl
       error b (code ∷ x ∷ more) = rw (ne_eqb (length (b ∷ code ∷ x ∷ more)) 2 (λ e. omega arith)) (broken answer.BadLine)
@@ -195,24 +195,24 @@ module _ (per_frame growing : Bool) (retries : ℕ) (rust : List BusOutcome → 
       timeout : (b : ℕ) (s : List ℕ)
           → (heard timeout_by s goes onward stops stop)
           ≡ transfer_lines (done ++ (m ∷ [])) ++ told_then (timeout_line (length (b ∷ s))) c payload buffer (b ∷ s) go
-      unfolding timeout_by timeout_line heard◌goes◌stops◌ told_then if◌then◌else◌ feeding.told reply
+      unfolding timeout_by timeout_line heard◌goes◌stops◌ told_then when◌then◌else◌ feeding.told reply
       timeout b [] = missed Timeout [] tt refl
       timeout b (x ∷ more) = rw (ne_eqb (length (b ∷ x ∷ more)) 1 (λ e. omega arith)) (broken answer.BadLine)
 
       -- any line
       outcome_line_lem : (bytes : List ℕ)
           → (heard heard_in (brings m) bytes goes onward stops stop) ≡ transfer_lines (done ++ (m ∷ [])) ++ told_then (outcome_line bytes) c payload buffer bytes go
-      unfolding heard_in outcome_line heard◌goes◌stops◌ told_then if◌then◌else◌
+      unfolding heard_in outcome_line heard◌goes◌stops◌ told_then when◌then◌else◌
       outcome_line_lem [] = broken answer.BadLine
       outcome_line_lem (b ∷ s) = rw (ne_eqb (length (b ∷ s)) 0 (λ e. omega arith)) (by (eqb b 0) (eqb b 1) (eqb b 2))
         where
           by : (zero one two : Bool)
-              → (heard (if zero then acknowledged_by (brings m) s else if one then error_by s else if two then timeout_by s else stopped answer.BadLine) goes onward stops stop)
+              → (heard (when zero then acknowledged_by (brings m) s else when one then error_by s else when two then timeout_by s else stopped answer.BadLine) goes onward stops stop)
               ≡ transfer_lines (done ++ (m ∷ []))
               ++ told_then
-              (if zero then acknowledged_line (length (b ∷ s)) else
-              if one then error_line (get_or (b ∷ s) 1 0) (length (b ∷ s)) else
-              if two then timeout_line (length (b ∷ s)) else told.Bad) c payload buffer (b ∷ s) go
+              (when zero then acknowledged_line (length (b ∷ s)) else
+              when one then error_line (get_or (b ∷ s) 1 0) (length (b ∷ s)) else
+              when two then timeout_line (length (b ∷ s)) else told.Bad) c payload buffer (b ∷ s) go
           by true one two = acknowledged b s
           by false true two = error b s
           by false false true = timeout b s

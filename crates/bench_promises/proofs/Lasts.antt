@@ -5,7 +5,7 @@ use mathlib.Core.Path.{◌≡◌, refl, ap, subst, ◌∙◌}
 use mathlib.Core.Bool.{Bool, true, false}
 use mathlib.Core.List.{List, [], ◌∷◌, ◌++◌, map, append-nil}
 use lib.ListN.{length}
-use Rattle.protocol.specs.Pick.{if◌then◌else◌}
+use Rattle.protocol.specs.Pick.{when◌then◌else◌}
 use Rattle.protocol.specs.Common.{retries_on, TwoByteBudgets}
 use Rattle.protocol.specs.declared.common.Side.{Side}
 use Rattle.protocol.specs.declared.common.Side.TheVariants as sides
@@ -85,7 +85,7 @@ module _ (per_frame : Bool) (retries : ℕ) (rust : List BusOutcome → Read) (o
   Says growing c = (tally_of c).waited_ms ≡ waited_by per_frame growing retries rust os
 
   says : (growing : Bool) (c : Call) (f : ℕ) → Timed growing retries f (map told os) c → Budgeted per_frame c → (tally_of c).waits ≡ waits_in (rust os) → Says growing c
-  unfolding waited_by tally_of if◌then◌else◌
+  unfolding waited_by tally_of when◌then◌else◌
   says true (call.Write c) f t own same = rw own (writes.totals true retries f (map told os) c t ∙ ap (frames_cost true retries 0) (append-nil (map told os)))
   says false (call.Write c) f t own same = rw (← same) (t.tens refl)
   says true (call.Read c) f (t, one) own same = rw (own, ← same) t.total

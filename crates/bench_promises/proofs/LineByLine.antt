@@ -15,7 +15,7 @@ use Rattle.hexadecimal.specs.Digits.{in_digits}
 use Rattle.hexadecimal.specs.Line.{line_bytes}
 use Rattle.hexadecimal.proofs.Laws.{length_hex}
 use Rattle.hexadecimal.proofs.Digits.{encoded_line, hexadecimal}
-use Rattle.protocol.specs.Pick.{if◌then◌else◌}
+use Rattle.protocol.specs.Pick.{when◌then◌else◌}
 use Rattle.protocol.specs.declared.common.Side.{Side}
 use Rattle.protocol.specs.declared.common.Side.TheVariants as side
 use Rattle.protocol.specs.declared.common.Config.{Config}
@@ -36,10 +36,10 @@ use Rattle.bench_promises.proofs.Retired.{retired_kinds}
 
 -- a line of more than 2 n digits has no bytes, or more than n
 long_bytes : (line : List ℕ) (n : ℕ) → n * 2 < length line → (P : List ℕ → Type 0) → P [] → ((s : List ℕ) → n < length s → P s) → P (line_bytes line)
-unfolding line_bytes if◌then◌else◌
+unfolding line_bytes when◌then◌else◌
 long_bytes line n h P none some = by (eqb (length (bytes_of line) * 2) (length line)) refl
   where
-    by : (t : Bool) → eqb (length (bytes_of line) * 2) (length line) ≡ t → P (if t then bytes_of line else [])
+    by : (t : Bool) → eqb (length (bytes_of line) * 2) (length line) ≡ t → P (when t then bytes_of line else [])
     by true e = some (bytes_of line) (omega (arith, eqb-true (length (bytes_of line) * 2) (length line) e))
     by false e = none
 
@@ -52,35 +52,35 @@ few_rows : Few rows
 few_rows = search rules
 
 long_row : (row : Row) (c : Config) (args : List ℕ) → row.fixed ≤ 6 → row.most ≤ 8192 → 8198 < length args → asked_by row c args ≡ bad
-unfolding asked_by if◌then◌else◌
+unfolding asked_by when◌then◌else◌
 long_row row c args few most h =
     let l : row.most < length args - row.fixed = omega arith in
     rw (lt-ltb row.most (length args - row.fixed) l) (by (ltb (length args) row.fixed) (ltb (length args - row.fixed) row.least))
   where
-    by : (a b : Bool) → (if a then bad else if b then bad else bad) ≡ bad
+    by : (a b : Bool) → (when a then bad else when b then bad else bad) ≡ bad
     by true b = refl
     by false true = refl
     by false false = refl
 
 long_among : (table : List Row) → Few table → (k : ℕ) (c : Config) (args : List ℕ) → 8198 < length args → asked_among table k c args ≡ bad
-unfolding asked_among if◌then◌else◌
+unfolding asked_among when◌then◌else◌
 long_among [] few k c args h = refl
 long_among (row ∷ more) (fixed, most, few) k c args h = by (eqb k row.kind) (long_among more few k c args h)
   where
-    by : (t : Bool) → asked_among more k c args ≡ bad → (if t then asked_by row c args else asked_among more k c args) ≡ bad
+    by : (t : Bool) → asked_among more k c args ≡ bad → (when t then asked_by row c args else asked_among more k c args) ≡ bad
     by true e = long_row row c args fixed most h
     by false e = e
 
 -- a header has at most six bytes
 long_request : (s : List ℕ) → longest_request < length s → asked_in s ≡ bad
-unfolding asked_in if◌then◌else◌
+unfolding asked_in when◌then◌else◌
 long_request s h =
     let two : 8198 < length (drop 6 s) = rw length-drop (omega arith) in
     let one : 8198 < length (drop 4 s) = rw length-drop (omega arith) in
     rw (long_among rows few_rows (get_or s 0 0) _ (drop 6 s) two, long_among rows few_rows (get_or s 0 0) _ (drop 4 s) one)
     (by (unknown_flag (get_or s 1 0)) (bit 2 (get_or s 1 0)) (ltb (length s) 6) (ltb (length s) 4))
   where
-    by : (u t a b : Bool) → (if u then bad else if t then (if a then bad else bad) else (if b then bad else bad)) ≡ bad
+    by : (u t a b : Bool) → (when u then bad else when t then (when a then bad else bad) else (when b then bad else bad)) ≡ bad
     by true t a b = refl
     by false true true b = refl
     by false true false b = refl
@@ -88,7 +88,7 @@ long_request s h =
     by false false a false = refl
 
 long_outcome : (asked : ℕ) (s : List ℕ) → longest_request < length s → heard_in asked s ≡ stopped answer.BadLine
-unfolding heard_in acknowledged_by error_by timeout_by if◌then◌else◌
+unfolding heard_in acknowledged_by error_by timeout_by when◌then◌else◌
 long_outcome asked [] h = refl
 long_outcome asked (b ∷ []) h = absurd (omega arith)
 long_outcome asked (b ∷ x ∷ []) h = absurd (omega arith)
@@ -97,7 +97,7 @@ long_outcome asked (b ∷ x ∷ y ∷ s) h =
     rw (lt-ltb 8192 (length (x ∷ y ∷ s)) l) (by (eqb b 0) (eqb b 1) (eqb b 2))
   where
     by : (zero one two : Bool)
-        → (if zero then stopped answer.BadLine else if one then stopped answer.BadLine else if two then stopped answer.BadLine else stopped answer.BadLine)
+        → (when zero then stopped answer.BadLine else when one then stopped answer.BadLine else when two then stopped answer.BadLine else stopped answer.BadLine)
         ≡ stopped answer.BadLine
     by true one two = refl
     by false true two = refl
@@ -130,20 +130,20 @@ its_call retired e = absurd (false≢true e)
 its_call (call rust ms) e = (rust, ms, refl)
 
 command_asked : is_call (asked_in command) ≡ true
-unfolding asked_in asked_among asked_by bit number if◌then◌else◌ is_call
+unfolding asked_in asked_among asked_by bit number when◌then◌else◌ is_call
 command_asked = refl
 
 -- it begins with 05
 command_kept : is_retired (hex_of command) ≡ false
-unfolding is_retired begins in_digits hex_of digit_of if◌then◌else◌
+unfolding is_retired begins in_digits hex_of digit_of when◌then◌else◌
 command_kept = refl
 
 command_line : asked_line (hex_of command) ≡ asked_in command
-unfolding asked_line if◌then◌else◌
+unfolding asked_line when◌then◌else◌
 command_line = rw command_kept (ap asked_in (encoded_line command command_bytes))
 
 longer_line : (longer : List ℕ) → longest_digits < length longer → is_retired longer ≡ false → asked_line longer ≡ bad
-unfolding asked_line asked_in bit if◌then◌else◌
+unfolding asked_line asked_in bit when◌then◌else◌
 longer_line longer h e = rw e (long_bytes longer longest_request (omega arith) (λ s. asked_in s ≡ bad) refl long_request)
 
 longest_line : Longest longest_digits
@@ -168,11 +168,11 @@ abbrev Sided : List Row → Type 0
 Sided [] = Unit {0}
 Sided (row ∷ more) = ((args : List ℕ) → row.side (row.size args) ≡ line_side (line_writes row.kind args)) × Sided more
 
-command_side : (n : ℕ) → (if eqb n 0 then side.Write else side.Read) ≡ line_side (eqb n 0)
-unfolding if◌then◌else◌
+command_side : (n : ℕ) → (when eqb n 0 then side.Write else side.Read) ≡ line_side (eqb n 0)
+unfolding when◌then◌else◌
 command_side n = by (eqb n 0)
   where
-    by : (t : Bool) → (if t then side.Write else side.Read) ≡ line_side t
+    by : (t : Bool) → (when t then side.Write else side.Read) ≡ line_side t
     by true = refl
     by false = refl
 
@@ -202,12 +202,12 @@ module _ (flags writes reads : ℕ) (args : List ℕ) where
   same_set false = refl
 
   own_among : (table : List Row) → Sided table → (k : ℕ) → asked_among table k both args ≡ asked_among table k (one (line_writes k args)) args
-  unfolding asked_among if◌then◌else◌
+  unfolding asked_among when◌then◌else◌
   own_among [] s k = refl
   own_among (row ∷ more) (own, s) k = by (own_among more s k) (eqb k row.kind) refl
     where
       by : asked_among more k both args ≡ asked_among more k (one (line_writes k args)) args → (t : Bool) → eqb k row.kind ≡ t
-          → (if t then asked_by row both args else asked_among more k both args) ≡ (if t then asked_by row (one (line_writes k args)) args else asked_among more k (one (line_writes k args)) args)
+          → (when t then asked_by row both args else asked_among more k both args) ≡ (when t then asked_by row (one (line_writes k args)) args else asked_among more k (one (line_writes k args)) args)
       by rest true e =
           let its : row.side (row.size args) ≡ line_side (line_writes k args) = own args ∙ ap (λ (n : ℕ). line_side (line_writes n args)) (sym (eqb-true k row.kind e)) in
           by_side row both (one (line_writes k args)) args (rw its (same_set (line_writes k args))) refl
@@ -215,12 +215,12 @@ module _ (flags writes reads : ℕ) (args : List ℕ) where
 
 module _ (kind flags : ℕ) (flagged : OneNumber flags) (arguments : List ℕ) where
   one_line : (a b : ℕ) → asked_in (kind ∷ flags ∷ a ∷ b ∷ arguments) ≡ asked_among rows kind (settings flags (number (a ∷ b ∷ [])) (number (a ∷ b ∷ []))) arguments
-  unfolding asked_in if◌then◌else◌
+  unfolding asked_in when◌then◌else◌
   one_line a b =
       rw (known_one flags flagged.known flagged.clear, flagged.clear, le-ltb (length (kind ∷ flags ∷ a ∷ b ∷ arguments)) 4 (omega arith))
 
   two_line : (a b c d : ℕ) → asked_in (kind ∷ (flags + 4) ∷ a ∷ b ∷ c ∷ d ∷ arguments) ≡ asked_among rows kind (settings flags (number (a ∷ b ∷ [])) (number (c ∷ d ∷ []))) arguments
-  unfolding asked_in if◌then◌else◌
+  unfolding asked_in when◌then◌else◌
   two_line a b c d =
       let bits = other_bits flags flagged.known flagged.clear in
       rw (
@@ -233,12 +233,12 @@ module _ (kind flags : ℕ) (flagged : OneNumber flags) (arguments : List ℕ) w
       )
 
   own_number : (a b c d : ℕ) → asked_in (kind ∷ (flags + 4) ∷ a ∷ b ∷ c ∷ d ∷ arguments)
-      ≡ (if line_writes kind arguments then asked_in (kind ∷ flags ∷ a ∷ b ∷ arguments) else asked_in (kind ∷ flags ∷ c ∷ d ∷ arguments))
-  unfolding if◌then◌else◌
+      ≡ (when line_writes kind arguments then asked_in (kind ∷ flags ∷ a ∷ b ∷ arguments) else asked_in (kind ∷ flags ∷ c ∷ d ∷ arguments))
+  unfolding when◌then◌else◌
   own_number a b c d = two_line a b c d ∙ own_among flags (number (a ∷ b ∷ [])) (number (c ∷ d ∷ [])) arguments rows sided kind ∙ by (line_writes kind arguments)
     where
       by : (t : Bool) → asked_among rows kind (one flags (number (a ∷ b ∷ [])) (number (c ∷ d ∷ [])) arguments t) arguments
-          ≡ (if t then asked_in (kind ∷ flags ∷ a ∷ b ∷ arguments) else asked_in (kind ∷ flags ∷ c ∷ d ∷ arguments))
+          ≡ (when t then asked_in (kind ∷ flags ∷ a ∷ b ∷ arguments) else asked_in (kind ∷ flags ∷ c ∷ d ∷ arguments))
       by true = sym (one_line a b)
       by false = sym (one_line c d)
 

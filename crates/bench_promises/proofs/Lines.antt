@@ -11,7 +11,7 @@ use borrow.Author.Tests.{ltb-false}
 use Rattle.hexadecimal.specs.BothWays.{AllBytes}
 use Rattle.hexadecimal.specs.Line.{line_bytes, feeds}
 use Rattle.hexadecimal.proofs.Digits.{line_bytes_lem}
-use Rattle.protocol.specs.Pick.{if◌then◌else◌}
+use Rattle.protocol.specs.Pick.{when◌then◌else◌}
 use Rattle.protocol.specs.Common.{TwoByteBudgets}
 use Rattle.protocol.specs.declared.common.Config.{Config}
 use Rattle.protocol.specs.declared.error.Answer.TheVariants as answer
@@ -52,30 +52,30 @@ module _ (bytes : List ℕ) (small : AllBytes bytes) (lines : List (List ℕ)) (
     own = settings flags (pair_at i bytes) (pair_at j bytes)
 
     after_header : (t : Bool) → ltb (length bytes) before ≡ t
-        → request_then (if t then requests.bad else asked_of (get_or bytes 0 0) (record { config = own; bytes = before }) (drop before bytes)) bytes lines rest
-        ≡ run_asked (if t then bad else asked_among rows (get_or bytes 0 0) (settings flags (field i 2 bytes) (field j 2 bytes)) (drop before bytes)) lines rest
-    unfolding if◌then◌else◌
+        → request_then (when t then requests.bad else asked_of (get_or bytes 0 0) (record { config = own; bytes = before }) (drop before bytes)) bytes lines rest
+        ≡ run_asked (when t then bad else asked_among rows (get_or bytes 0 0) (settings flags (field i 2 bytes) (field j 2 bytes)) (drop before bytes)) lines rest
+    unfolding when◌then◌else◌
     after_header true e = same_bad bytes lines rest own before requests.bad refl
     after_header false e =
         let h : before ≤ length bytes = ltb-false (length bytes) before e in
         rw (pair_at_lem i bytes (omega arith), pair_at_lem j bytes (omega arith)) (every_kind bytes lines rest own before (few_retries flags _ _ (few bytes small i) (few bytes small j)) small (get_or bytes 0 0))
 
   request_line_lem : request_then (request_line bytes) bytes lines rest ≡ run_asked (asked_in bytes) lines rest
-  unfolding request_line asked_in if◌then◌else◌
+  unfolding request_line asked_in when◌then◌else◌
   request_line_lem = rw (unknown flags (small 1)) (by (unknown_flag flags) (bit 2 flags) refl)
     where
       by : (u t : Bool) → bit 2 flags ≡ t
-          → request_then (if u then requests.bad else if ltb (length bytes) (header_of bytes).bytes then requests.bad else asked_of (get_or bytes 0 0) (header_of bytes) (drop (header_of bytes).bytes bytes)) bytes lines rest
+          → request_then (when u then requests.bad else when ltb (length bytes) (header_of bytes).bytes then requests.bad else asked_of (get_or bytes 0 0) (header_of bytes) (drop (header_of bytes).bytes bytes)) bytes lines rest
           ≡ run_asked
-          (if u then bad else
-          if t then (if ltb (length bytes) 6 then bad else asked_among rows (get_or bytes 0 0) (settings flags (field 2 2 bytes) (field 4 2 bytes)) (drop 6 bytes))
-          else (if ltb (length bytes) 4 then bad else asked_among rows (get_or bytes 0 0) (settings flags (field 2 2 bytes) (field 2 2 bytes)) (drop 4 bytes))) lines rest
+          (when u then bad else
+          when t then (when ltb (length bytes) 6 then bad else asked_among rows (get_or bytes 0 0) (settings flags (field 2 2 bytes) (field 4 2 bytes)) (drop 6 bytes))
+          else (when ltb (length bytes) 4 then bad else asked_among rows (get_or bytes 0 0) (settings flags (field 2 2 bytes) (field 2 2 bytes)) (drop 4 bytes))) lines rest
       by true t e = same_bad bytes lines rest (header_of bytes).config 0 requests.bad refl
       by false true e = rw (two_budgets bytes (small 1) e) (after_header 2 4 6 (omega arith) (omega arith) (ltb (length bytes) 6) refl)
       by false false e = rw (one_budget bytes (small 1) e) (after_header 2 2 4 (omega arith) (omega arith) (ltb (length bytes) 4) refl)
 
 pub each_line : (lines : List (List ℕ)) (rest : List ℕ) → bench_of lines rest ≡ rust_bench lines rest
-unfolding bench_of request_of request_then unfinished_of rust_bench asked_line asked_cut run_asked nothing if◌then◌else◌
+unfolding bench_of request_of request_then unfinished_of rust_bench asked_line asked_cut run_asked nothing when◌then◌else◌
 each_line [] rest = by (retired_kind rest) refl
   where
     by : (t : Bool) → retired_kind rest ≡ t → bench_of [] rest ≡ rust_bench [] rest

@@ -4,7 +4,7 @@ use Prim.Native.Nat.{ℕ, zero, suc, ◌+◌, ◌/◌, ◌%◌, ◌≤◌, ◌<�
 use mathlib.Core.Path.{◌≡◌, refl, sym, ap, subst, ◌∙◌}
 use mathlib.Core.Bool.{Bool, true, false, ◌&&◌, ◌||◌, false≢true}
 use mathlib.Core.List.{List, [], ◌∷◌, ◌++◌, map, append-nil, append_assoc}
-use mathlib.Core.Logic.{◌⊎◌, inl, inr, ⊎_elim}
+use mathlib.Core.Logic.{inl, inr, ⊎_elim}
 use native.Mathlib.Nat.{suc-add}
 use native.Mathlib.Omega.{arith}
 use lib.ListN.{length, take, drop, get_or, replicate}
@@ -15,7 +15,7 @@ use Rattle.hexadecimal.specs.Hex.{digit_of, hex_of}
 use Rattle.hexadecimal.specs.Digits.{in_digits}
 use Rattle.hexadecimal.specs.Line.{line_bytes, feed_bytes, feeds}
 use Rattle.hexadecimal.specs.Text.{ascii}
-use Rattle.protocol.specs.Pick.{if◌then◌else◌}
+use Rattle.protocol.specs.Pick.{when◌then◌else◌}
 use Rattle.protocol.specs.Answer.{number_of}
 use Rattle.protocol.specs.declared.error.Answer.{Answer}
 use Rattle.protocol.specs.declared.error.Answer.TheVariants as answer
@@ -57,12 +57,12 @@ NoFeed [] = Unit {0}
 NoFeed (d ∷ ds) = (d ≡ 10 → ⊥) × NoFeed ds
 
 begins_before : (ds s : List ℕ) → NoFeed ds → begins ds (before_feed s) ≡ begins ds s
-unfolding begins before_feed if◌then◌else◌
+unfolding begins before_feed when◌then◌else◌
 begins_before [] s none = refl
 begins_before (d ∷ ds) [] none = refl
 begins_before (d ∷ ds) (b ∷ s) (this, none) = by (begins_before ds s none) (eqb b 10) refl
   where
-    by : begins ds (before_feed s) ≡ begins ds s → (t : Bool) → eqb b 10 ≡ t → begins (d ∷ ds) (if t then [] else b ∷ before_feed s) ≡ (eqb b d && begins ds s)
+    by : begins ds (before_feed s) ≡ begins ds s → (t : Bool) → eqb b 10 ≡ t → begins (d ∷ ds) (when t then [] else b ∷ before_feed s) ≡ (eqb b d && begins ds s)
     by same true e =
         let feed : b ≡ 10 = eqb-true b 10 e in
         let other : b ≡ d → ⊥ = λ f. this (sym f ∙ feed) in
@@ -126,13 +126,13 @@ so_retired input (inr b) = rw (← b.same, so_begins (0x30 ∷ 0x44 ∷ []) b.re
 -- ---- such an input
 
 retired_bench : (input : List ℕ) → is_retired input ≡ true → rust_bench (lines_from [] input) (rest_from [] input) ≡ end_line answer.RetiredKind 0 0 [] ∷ []
-unfolding rust_bench run_asked asked_line asked_cut if◌then◌else◌
+unfolding rust_bench run_asked asked_line asked_cut when◌then◌else◌
 retired_bench input e =
     let first : is_retired (before_feed input) ≡ true = first_retired input ∙ e in
     by_first (λ said. said ≡ end_line answer.RetiredKind 0 0 [] ∷ []) input (rw first) (λ lines rest. rw first)
 
 retired_printed : (input : List ℕ) → BeginsRetired input → rust_printed input ≡ ascii "FF0F00000000000000000000\n"
-unfolding rust_printed feeds feed_bytes hex_of digit_of end_line low_first ascii if◌then◌else◌
+unfolding rust_printed feeds feed_bytes hex_of digit_of end_line low_first ascii when◌then◌else◌
 retired_printed input b = rw (retired_bench input (so_retired input b))
 
 -- ---- any other: no line of it is an end with 15
@@ -147,18 +147,18 @@ unfolding ascii
 fronted s b = rw (← b.same) (refl, refl, refl, refl)
 
 zero_digit : (v : ℕ) → digit_of v ≡ 0x30 → v ≡ 0
-unfolding digit_of if◌then◌else◌
+unfolding digit_of when◌then◌else◌
 zero_digit v = by (ltb v 10)
   where
-    by : (t : Bool) → (if t then v + 48 else v % 16 + 55) ≡ 0x30 → v ≡ 0
+    by : (t : Bool) → (when t then v + 48 else v % 16 + 55) ≡ 0x30 → v ≡ 0
     by true e = omega arith
     by false e = omega arith
 
 last_digit : (v : ℕ) → v < 16 → digit_of v ≡ 0x46 → v ≡ 15
-unfolding digit_of if◌then◌else◌
+unfolding digit_of when◌then◌else◌
 last_digit v small = by (ltb v 10) refl
   where
-    by : (t : Bool) → ltb v 10 ≡ t → (if t then v + 48 else v % 16 + 55) ≡ 0x46 → v ≡ 15
+    by : (t : Bool) → ltb v 10 ≡ t → (when t then v + 48 else v % 16 + 55) ≡ 0x46 → v ≡ 15
     by true q e = omega (arith, ltb-true v 10 q)
     by false q e = omega arith
 
@@ -173,15 +173,15 @@ bad_line : number_of answer.BadLine ≡ 15 → ⊥
 bad_line e = omega arith
 
 other_last : (tally : Tally) (left : ℕ) (buffer : List ℕ) → Other (last_of tally left buffer)
-unfolding last_of if◌then◌else◌ cut_said hex_of digit_of
+unfolding last_of when◌then◌else◌ cut_said hex_of digit_of
 other_last tally left buffer = by (eqb left 0)
   where
-    by : (t : Bool) → Other (if t then cut_said tally buffer else end_said answer.BadLine tally buffer)
+    by : (t : Bool) → Other (when t then cut_said tally buffer else end_said answer.BadLine tally buffer)
     by true = λ b. let f = (fronted _ b).1 in omega (arith, f)
     by false = other_end answer.BadLine tally buffer bad_line
 
 other_tell : (t : Transfer) (frame : List ℕ) (tally : Tally) (buffer : List ℕ) → NotShown15 t → Other (bytes_said (tell_of t frame tally buffer))
-unfolding tell_of bytes_said write_said read_said hex_of digit_of if◌then◌else◌
+unfolding tell_of bytes_said write_said read_said hex_of digit_of when◌then◌else◌
 other_tell (transfer.Write n) frame tally buffer h = λ b. let f = (fronted _ b).0 in omega (arith, f)
 other_tell (transfer.Read command n) frame tally buffer h = λ b. let f = (fronted _ b).0 in omega (arith, f)
 other_tell (transfer.Refused a) frame tally buffer h = other_end a tally buffer h
@@ -200,8 +200,8 @@ abbrev Fine : Request → Type 0
 Fine (request.Call kind config at n) = Unit {0}
 Fine (request.Refused a) = number_of a ≡ 15 → ⊥
 
-fine_either : (t : Bool) (q : Request) → Fine q → Fine (if t then request.Refused answer.BadLine else q)
-unfolding if◌then◌else◌
+fine_either : (t : Bool) (q : Request) → Fine q → Fine (when t then request.Refused answer.BadLine else q)
+unfolding when◌then◌else◌
 fine_either true q h = bad_line
 fine_either false q h = h
 
@@ -227,7 +227,7 @@ first_of [] rest = rest
 first_of (line ∷ lines) rest = line
 
 other_bench : (lines : List (List ℕ)) (rest : List ℕ) → retired_kind (first_of lines rest) ≡ false → All Other (bench_of lines rest)
-unfolding bench_of request_of unfinished_of first_of if◌then◌else◌
+unfolding bench_of request_of unfinished_of first_of when◌then◌else◌
 other_bench [] rest e = rw e (other_end answer.BadLine nothing [] bad_line, tt)
 other_bench (line ∷ lines) rest e = rw e (other_request (request_line (line_bytes line)) (line_bytes line) lines rest (fine_request (line_bytes line)))
 
@@ -241,15 +241,15 @@ other_lines input e =
 -- ---- the text that is printed, line by line
 
 digit_no_feed : (v : ℕ) → digit_of v ≡ 10 → ⊥
-unfolding digit_of if◌then◌else◌
+unfolding digit_of when◌then◌else◌
 digit_no_feed v = by (ltb v 10)
   where
-    by : (t : Bool) → (if t then v + 48 else v % 16 + 55) ≡ 10 → ⊥
+    by : (t : Bool) → (when t then v + 48 else v % 16 + 55) ≡ 10 → ⊥
     by true e = omega arith
     by false e = omega arith
 
 fed_line : (s held more : List ℕ) → lines_from held (hex_of s ++ (10 ∷ []) ++ more) ≡ (held ++ hex_of s) ∷ lines_from [] more
-unfolding lines_from hex_of if◌then◌else◌
+unfolding lines_from hex_of when◌then◌else◌
 fed_line [] held more = rw append-nil
 fed_line (b ∷ s) held more =
     let high : List ℕ = digit_of (b / 16) ∷ [] in
@@ -305,7 +305,7 @@ one_line k x = rw (take-nil {A = List ℕ} k)
 
 no_more_read : (read wrote : List ℕ) → wrote ≡ rust_so_far read → length wrote < length (rust_printed read) → BeginsRetired read
     → (lines_from [] read ≡ []) × (length read ≤ longest_digits)
-unfolding rust_so_far rust_printed if◌then◌else◌
+unfolding rust_so_far rust_printed when◌then◌else◌
 no_more_read read wrote so_far left b =
     by (ltb longest_digits (length (rest_from [] read))) refl (length (lines_from [] read)) refl
   where
@@ -327,7 +327,7 @@ no_more_read read wrote so_far left b =
     by : (t : Bool) → ltb longest_digits (length (rest_from [] read)) ≡ t → (n : ℕ) → length (lines_from [] read) ≡ n
         → (lines_from [] read ≡ []) × (length read ≤ longest_digits)
     by t early (suc n) e =
-        absurd (answered (n + (if t then 1 else 0)) (so_far ∙ rw (early, e, said) (ap (λ (k : ℕ). feeds (take k (last ∷ []))) (suc-add n (if t then 1 else 0)))))
+        absurd (answered (n + (when t then 1 else 0)) (so_far ∙ rw (early, e, said) (ap (λ (k : ℕ). feeds (take k (last ∷ []))) (suc-add n (when t then 1 else 0)))))
     by true early zero e = absurd (answered 0 (so_far ∙ rw (early, e, said)))
     by false early zero e =
         let none = no_lines (lines_from [] read) e in

@@ -10,7 +10,7 @@ use lib.Seq.{get_or-drop, drop-drop}
 use lib.Dec.{ltb, eqb}
 use borrow.Author.Tests.{eq-eqb, ne_eqb, ltb-true, ltb-false, eqb-true, eqb-false}
 use Rattle.hexadecimal.specs.BothWays.{AllBytes}
-use Rattle.protocol.specs.Pick.{if◌then◌else◌}
+use Rattle.protocol.specs.Pick.{when◌then◌else◌}
 use Rattle.protocol.specs.Common.{TwoByteBudgets}
 use Rattle.protocol.specs.declared.common.Side.{Side}
 use Rattle.protocol.specs.declared.common.Side.TheVariants as side
@@ -59,8 +59,8 @@ abbrev row : ℕ → Row
 row k = row_among rows k
 
 -- a command with no output is a write
-command_side : (address n : ℕ) → (if eqb n 0 then side.Write else side.Read) ≡ side_of (kind.DispatchCommand address) n
-unfolding if◌then◌else◌
+command_side : (address n : ℕ) → (when eqb n 0 then side.Write else side.Read) ≡ side_of (kind.DispatchCommand address) n
+unfolding when◌then◌else◌
 command_side address zero = refl
 command_side address (suc n) = rw (ne_eqb (suc n) 0 (λ e. omega arith))
 
@@ -133,13 +133,13 @@ module _ (line : List ℕ) (lines : List (List ℕ)) (rest : List ℕ) (c : Conf
 
   leaf : TwoByteBudgets c → (row : Row) (k : Kind) (q : Request) → Own row k → Tests row k q → (Within row → (os : List BusOutcome) → rust_in row os ≡ fed_as row k os)
       → Same q (asked_by row c args)
-  unfolding asked_by if◌then◌else◌
+  unfolding asked_by when◌then◌else◌
   leaf small row k q own t e =
       by (ltb (length args) row.fixed) refl (ltb (length args - row.fixed) row.least) refl (ltb row.most (length args - row.fixed)) refl (ltb 8192 (row.size args)) refl
     where
       by : (a : Bool) → ltb (length args) row.fixed ≡ a → (b : Bool) → ltb (length args - row.fixed) row.least ≡ b
           → (d : Bool) → ltb row.most (length args - row.fixed) ≡ d → (w : Bool) → ltb 8192 (row.size args) ≡ w
-          → Same q (if a then bad else if b then bad else if d then bad else if w then bad else call (rust_in row) (ms_in row))
+          → Same q (when a then bad else when b then bad else when d then bad else when w then bad else call (rust_in row) (ms_in row))
       by true a b p d q' w r = same_bad q (t.missing (ltb-true _ _ a))
       by false a true p d q' w r = same_bad q (t.short (ltb-false _ _ a) (ltb-true _ _ p))
       by false a false p true q' w r = same_bad q (t.long (ltb-false _ _ a) (ltb-true _ _ q'))
@@ -187,19 +187,19 @@ module _ (line : List ℕ) (lines : List (List ℕ)) (rest : List ℕ) (c : Conf
   one small row k p size few b l m e f = leaf small row k (exact_of k header row.fixed p size (length args)) b (one_length row k p size few l m e) f
 
   -- two chains of choices, choice by choice
-  both : (t : Bool) (q r : Request) (a b : Asked) → Same q a → Same r b → Same (if t then q else r) (if t then a else b)
-  unfolding if◌then◌else◌
+  both : (t : Bool) (q r : Request) (a b : Asked) → Same q a → Same r b → Same (when t then q else r) (when t then a else b)
+  unfolding when◌then◌else◌
   both true q r a b x y = x
   both false q r a b x y = y
 
   -- the function, or the added refusal
-  either : (t : Bool) (x y : Came) (b : List ℕ) (f : Read) → (t ≡ true → f ≡ (x leaving b)) → (t ≡ false → f ≡ (y leaving b)) → ((if t then x else y) leaving b) ≡ f
-  unfolding if◌then◌else◌
+  either : (t : Bool) (x y : Came) (b : List ℕ) (f : Read) → (t ≡ true → f ≡ (x leaving b)) → (t ≡ false → f ≡ (y leaving b)) → ((when t then x else y) leaving b) ≡ f
+  unfolding when◌then◌else◌
   either true x y b f h g = sym (h refl)
   either false x y b f h g = sym (g refl)
 
-  either_read : (t : Bool) (x y f : Read) → (t ≡ true → f ≡ x) → (t ≡ false → f ≡ y) → (if t then x else y) ≡ f
-  unfolding if◌then◌else◌
+  either_read : (t : Bool) (x y f : Read) → (t ≡ true → f ≡ x) → (t ≡ false → f ≡ y) → (when t then x else y) ≡ f
+  unfolding when◌then◌else◌
   either_read true x y f h g = sym (h refl)
   either_read false x y f h g = sym (g refl)
 

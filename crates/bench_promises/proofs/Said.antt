@@ -7,7 +7,7 @@ use native.Mathlib.Nat.{pow-suc}
 use native.Mathlib.Omega.{arith}
 use lib.ListN.{length}
 use borrow.Author.Tests.{ne_eqb}
-use Rattle.protocol.specs.Pick.{if◌then◌else◌}
+use Rattle.protocol.specs.Pick.{when◌then◌else◌}
 use Rattle.protocol.specs.Answer.{detail_of}
 use Rattle.protocol.specs.Frame.{pair_of}
 use Rattle.protocol.specs.declared.error.Answer.{Answer}
@@ -36,7 +36,7 @@ unfolding end_said end_line
 end_said_lem a tally buffer = rw (← pair_low (detail_of a), ← quad_low tally.waits, ← quad_low tally.waited_ms)
 
 pub last_said : (tally : Tally) (rest buffer : List ℕ) → last_of tally (length rest) buffer ≡ cut_line rest tally.waits tally.waited_ms buffer
-unfolding last_of cut_said cut_line if◌then◌else◌
+unfolding last_of cut_said cut_line when◌then◌else◌
 last_said tally [] buffer = rw (← quad_low tally.waits, ← quad_low tally.waited_ms)
 last_said tally (b ∷ rest) buffer = rw (ne_eqb (suc (length rest)) 0 (λ e. omega arith)) (end_said_lem answer.BadLine tally buffer)
 

@@ -3,10 +3,10 @@
 use Prim.Native.Nat.{ℕ}
 use mathlib.Core.Path.{◌≡◌, refl, sym, subst, ◌∙◌}
 use mathlib.Core.Bool.{Bool, true, false}
-use mathlib.Core.List.{List, []}
+use mathlib.Core.List.{List}
 use lib.ListN.{length}
 use borrow.Author.Tests.{eq-eqb, ne_eqb}
-use Rattle.protocol.specs.Pick.{if◌then◌else◌}
+use Rattle.protocol.specs.Pick.{when◌then◌else◌}
 use Rattle.protocol.specs.Frame.{laid_of}
 use Rattle.protocol.specs.Reply.{bytes_asked, checked_of, heard_of}
 use Rattle.protocol.specs.declared.error.Answer.TheVariants as answer
@@ -71,7 +71,7 @@ pub record Takes (c : Call) (p : ℕ) (buffer : List ℕ) (asks : ℕ) : Type 0 
 
 module _ (c : WriteCall) (payload : List ℕ) where
   open_w : IsTransfer (writing.next_of c payload 39) → (c.phase ≡ phase.Waiting) × (fits_of c.task.lent (length payload) 39 ≡ true)
-  unfolding writing.next_of case◌waiting◌ended◌ if◌then◌else◌
+  unfolding writing.next_of case◌waiting◌ended◌ when◌then◌else◌
   open_w h = by c.phase refl (fits_of c.task.lent (length payload) 39) refl
     where
       by : (p : Phase) → c.phase ≡ p → (f : Bool) → fits_of c.task.lent (length payload) 39 ≡ f → (c.phase ≡ phase.Waiting) × (fits_of c.task.lent (length payload) 39 ≡ true)
@@ -80,7 +80,7 @@ module _ (c : WriteCall) (payload : List ℕ) where
       by (phase.Ended a) q f g = absurd (rw q at h)
 
   takes_w : (buffer : List ℕ) → IsTransfer (writing.next_of c payload 39) → Takes (call.Write c) (length payload) buffer 0
-  unfolding report_of buffer_after wrote_of writing.report_of writing.replied_of case◌waiting◌ended◌ case◌acknowledged◌error◌timeout◌ if◌then◌else◌
+  unfolding report_of buffer_after wrote_of writing.report_of writing.replied_of case◌waiting◌ended◌ case◌acknowledged◌error◌timeout◌ when◌then◌else◌
   takes_w buffer h =
       let o = open_w h in
       record {
@@ -99,11 +99,11 @@ module _ (c : WriteCall) (payload : List ℕ) where
 
   -- it never asks for a read
   reads_none : brought (writing.next_of c payload 39) ≡ 0
-  unfolding writing.next_of writing.shown_of case◌waiting◌ended◌ if◌then◌else◌ write_of
+  unfolding writing.next_of writing.shown_of case◌waiting◌ended◌ when◌then◌else◌ write_of
   reads_none = by c.phase (fits_of c.task.lent (length payload) 39) (writing.own_bytes c) (laid_of c.task.plan.pec (writing.due_bytes c payload) 39)
     where
       by : (p : Phase) (f own : Bool) (l : Laid)
-          → brought (case p waiting (if f then (if own then transfer.Write (length payload) else write_of l) else transfer.Refused answer.WrongBuffer) ended transfer.Ended) ≡ 0
+          → brought (case p waiting (when f then (when own then transfer.Write (length payload) else write_of l) else transfer.Refused answer.WrongBuffer) ended transfer.Ended) ≡ 0
       by phase.Waiting true true l = refl
       by phase.Waiting true false (laid.Frame n) = refl
       by phase.Waiting true false laid.NoRoom = refl
@@ -123,15 +123,15 @@ unfolding write_of
 brought_head (laid.Frame n) = refl
 brought_head laid.NoRoom = refl
 
-believed : (pec good : Bool) → NoRefusal (reading.verdict_of (if pec then (if good then heard.Good else heard.WrongPec) else heard.Good))
-unfolding reading.verdict_of if◌then◌else◌
+believed : (pec good : Bool) → NoRefusal (reading.verdict_of (when pec then (when good then heard.Good else heard.WrongPec) else heard.Good))
+unfolding reading.verdict_of when◌then◌else◌
 believed true true = tt
 believed true false = tt
 believed false good = tt
 
 module _ (c : ReadCall) (payload buffer : List ℕ) where
   open_r : IsTransfer (reading.next_of c (length buffer) 39) → (c.phase ≡ phase.Waiting) × (fits_of c.task.lent (length buffer) 39 ≡ true)
-  unfolding reading.next_of case◌waiting◌ended◌ if◌then◌else◌
+  unfolding reading.next_of case◌waiting◌ended◌ when◌then◌else◌
   open_r h = by c.phase refl (fits_of c.task.lent (length buffer) 39) refl
     where
       by : (p : Phase) → c.phase ≡ p → (f : Bool) → fits_of c.task.lent (length buffer) 39 ≡ f → (c.phase ≡ phase.Waiting) × (fits_of c.task.lent (length buffer) 39 ≡ true)
@@ -141,7 +141,7 @@ module _ (c : ReadCall) (payload buffer : List ℕ) where
 
   -- what is weighed is reported
   judged : IsTransfer (reading.next_of c (length buffer) 39) → (o : Outcome) (s : List ℕ) (v : Verdict) → reading.weigh_of c o s ≡ v → reading.judge_of c o s (length buffer) 39 ≡ v
-  unfolding reading.judge_of case◌waiting◌ended◌ if◌then◌else◌
+  unfolding reading.judge_of case◌waiting◌ended◌ when◌then◌else◌
   judged h o s v e =
       let w = open_r h in
       let q : reading.judge_of c o s (length buffer) 39 ≡ reading.weigh_of c o s = rw (w.1, w.0) in
@@ -171,31 +171,31 @@ module _ (c : ReadCall) (payload buffer : List ℕ) where
       (rw a tt, rw (a, b), rw (a, b))
 
   -- how many bytes are asked: none by a head
-  asked_r : IsTransfer (reading.next_of c (length buffer) 39) → brought (reading.next_of c (length buffer) 39) ≡ (if c.heading then 0 else bytes_asked (reading.due_ask c))
-  unfolding reading.next_of reading.shown_of reading.shown_head reading.due_ask case◌waiting◌ended◌ if◌then◌else◌ write_of
+  asked_r : IsTransfer (reading.next_of c (length buffer) 39) → brought (reading.next_of c (length buffer) 39) ≡ (when c.heading then 0 else bytes_asked (reading.due_ask c))
+  unfolding reading.next_of reading.shown_of reading.shown_head reading.due_ask case◌waiting◌ended◌ when◌then◌else◌ write_of
   asked_r h = let w = open_r h in rw (w.1, w.0) (by c.heading refl)
     where
       by : (b : Bool) → c.heading ≡ b
-          → brought (if b then write_of (laid_of c.task.plan.head_pec (parts.head_bytes c.task.plan.head c.received) 39)
+          → brought (when b then write_of (laid_of c.task.plan.head_pec (parts.head_bytes c.task.plan.head c.received) 39)
           else transfer.Read (reading.due_ask c).command (bytes_asked (reading.due_ask c)))
-          ≡ (if b then 0 else bytes_asked (reading.due_ask c))
+          ≡ (when b then 0 else bytes_asked (reading.due_ask c))
       by true e = brought_head (laid_of c.task.plan.head_pec (parts.head_bytes c.task.plan.head c.received) 39)
       by false e = refl
 
-  right_r : (s : List ℕ) → length s ≡ (if c.heading then 0 else bytes_asked (reading.due_ask c)) → NoRefusal (reading.weigh_of c outcome.Acknowledged s)
-  unfolding reading.weigh_of reading.acknowledged_of reading.heard_head reading.heard_block reading.verdict_of heard_of case◌acknowledged◌error◌timeout◌ if◌then◌else◌
+  right_r : (s : List ℕ) → length s ≡ (when c.heading then 0 else bytes_asked (reading.due_ask c)) → NoRefusal (reading.weigh_of c outcome.Acknowledged s)
+  unfolding reading.weigh_of reading.acknowledged_of reading.heard_head reading.heard_block reading.verdict_of heard_of case◌acknowledged◌error◌timeout◌ when◌then◌else◌
   right_r s = by c.heading
     where
-      by : (b : Bool) → length s ≡ (if b then 0 else bytes_asked (reading.due_ask c)) → NoRefusal (if b then reading.heard_head (length s) else reading.heard_block (reading.due_ask c) s)
+      by : (b : Bool) → length s ≡ (when b then 0 else bytes_asked (reading.due_ask c)) → NoRefusal (when b then reading.heard_head (length s) else reading.heard_block (reading.due_ask c) s)
       by true e = rw (eq-eqb (length s) 0 e) tt
       by false e = rw (eq-eqb (bytes_asked (reading.due_ask c)) (length s) (sym e)) (believed (reading.due_ask c).pec (checked_of (reading.due_ask c).covered s))
 
-  wrong_r : (s : List ℕ) → (length s ≡ (if c.heading then 0 else bytes_asked (reading.due_ask c)) → ⊥) → reading.weigh_of c outcome.Acknowledged s ≡ verdict.Refused answer.WrongReply
-  unfolding reading.weigh_of reading.acknowledged_of reading.heard_head reading.heard_block reading.verdict_of heard_of case◌acknowledged◌error◌timeout◌ if◌then◌else◌
+  wrong_r : (s : List ℕ) → (length s ≡ (when c.heading then 0 else bytes_asked (reading.due_ask c)) → ⊥) → reading.weigh_of c outcome.Acknowledged s ≡ verdict.Refused answer.WrongReply
+  unfolding reading.weigh_of reading.acknowledged_of reading.heard_head reading.heard_block reading.verdict_of heard_of case◌acknowledged◌error◌timeout◌ when◌then◌else◌
   wrong_r s = by c.heading
     where
-      by : (b : Bool) → (length s ≡ (if b then 0 else bytes_asked (reading.due_ask c)) → ⊥)
-          → (if b then reading.heard_head (length s) else reading.heard_block (reading.due_ask c) s) ≡ verdict.Refused answer.WrongReply
+      by : (b : Bool) → (length s ≡ (when b then 0 else bytes_asked (reading.due_ask c)) → ⊥)
+          → (when b then reading.heard_head (length s) else reading.heard_block (reading.due_ask c) s) ≡ verdict.Refused answer.WrongReply
       by true e = rw (ne_eqb (length s) 0 e)
       by false e = rw (ne_eqb (bytes_asked (reading.due_ask c)) (length s) (λ q. e (sym q)))
 

@@ -3,7 +3,7 @@
 use Rattle.std.specs.Prelude.{ℕ, zero, suc, ◌-◌, ◌*◌, ◌/◌, ◌%◌, Bool, true, false, not, ◌&&◌, ◌||◌, List, [], ◌∷◌, map, length, drop, get_or, replicate, ltb, eqb}
 use Rattle.hexadecimal.specs.Digits.{in_digits}
 use Rattle.hexadecimal.specs.Line.{line_bytes}
-use Rattle.protocol.specs.Pick.{if◌then◌else◌}
+use Rattle.protocol.specs.Pick.{when◌then◌else◌}
 use Rattle.protocol.specs.declared.common.Side.{Side}
 use Rattle.protocol.specs.declared.common.Side.TheVariants as side
 use Rattle.protocol.specs.declared.common.Config as driver
@@ -74,7 +74,7 @@ fills kind size call = record {
 
 -- the Rust's function, or the added refusal where it panics or has no such length: with no transfer
 abbrev refused_if : Bool → Answer → Log → List BusOutcome → Came → Came
-refused_if refused a log os came = if refused then Err a log os else came
+refused_if refused a log os came = when refused then Err a log os else came
 
 -- another length than n
 abbrev pub unlike : ℕ → List ℕ → Bool
@@ -93,10 +93,10 @@ rows =
       least = 0;
       most = 8192;
       size = λ arguments. field 4 2 arguments;
-      side = λ n. if eqb n 0 then side.Write else side.Read;
+      side = λ n. when eqb n 0 then side.Write else side.Read;
       per_frame = false;
       call = λ config arguments input output os.
-          if rust.dispatch_panics input output then Err answer.NotACommand begun os leaving output
+          when rust.dispatch_panics input output then Err answer.NotACommand begun os leaving output
           else rust.dispatch_command config (field 0 4 arguments) input output begun os;
     }
     ∷ reads 0x06 3 (λ config arguments buffer. rust.buffer_read config (field 0 1 arguments) buffer)
@@ -138,7 +138,7 @@ rows =
 -- is in closed words (`waits`), with a budget of so many retries for each frame or for the whole call
 unfoldable pub waited_by : (per_frame growing : Bool) (retries : ℕ) → (List BusOutcome → Read) → List BusOutcome → ℕ
 waited_by per_frame growing retries rust os =
-    if growing then (if per_frame then frames_cost true retries 0 (map told os) else budget_cost true (waits_in (rust os)))
+    when growing then (when per_frame then frames_cost true retries 0 (map told os) else budget_cost true (waits_in (rust os)))
     else waits_in (rust os) * 10
 
 -- what a request line asks for: a function of the Rust and how long its waits are, or nothing, since it is bad or its kind is retired
@@ -151,10 +151,10 @@ pub data Asked : Type 0 where
 -- is set for the side of the row, with that side's budget as `max_bus_retries`
 unfoldable pub asked_by : Row → driver.Config → List ℕ → Asked
 asked_by row config arguments =
-    if ltb (length arguments) row.fixed then bad else
-    if ltb (length arguments - row.fixed) row.least then bad else
-    if ltb row.most (length arguments - row.fixed) then bad else
-    if ltb 8192 (row.size arguments) then bad else
+    when ltb (length arguments) row.fixed then bad else
+    when ltb (length arguments - row.fixed) row.least then bad else
+    when ltb row.most (length arguments - row.fixed) then bad else
+    when ltb 8192 (row.size arguments) then bad else
     let its : Config = set_for (row.side (row.size arguments)) config in
     let rust : List BusOutcome → Read = row.call its arguments (drop row.fixed arguments) (replicate (row.size arguments) 0xA5) in
     call rust (waited_by row.per_frame config.growing_waits its.max_bus_retries rust)
@@ -162,7 +162,7 @@ asked_by row config arguments =
 -- by the first row of the kind; bad where there is none
 unfoldable pub asked_among : List Row → ℕ → driver.Config → List ℕ → Asked
 asked_among [] kind config arguments = bad
-asked_among (row ∷ more) kind config arguments = if eqb kind row.kind then asked_by row config arguments else asked_among more kind config arguments
+asked_among (row ∷ more) kind config arguments = when eqb kind row.kind then asked_by row config arguments else asked_among more kind config arguments
 
 -- bit k of a number
 unfoldable pub bit : ℕ → ℕ → Bool
@@ -187,11 +187,11 @@ settings flags writes reads = record {
 unfoldable pub asked_in : List ℕ → Asked
 asked_in line =
     let flags : ℕ = get_or line 1 0 in
-    if unknown_flag flags then bad else
-    if bit 2 flags then
-    (if ltb (length line) 6 then bad else asked_among rows (get_or line 0 0) (settings flags (field 2 2 line) (field 4 2 line)) (drop 6 line))
+    when unknown_flag flags then bad else
+    when bit 2 flags then
+    (when ltb (length line) 6 then bad else asked_among rows (get_or line 0 0) (settings flags (field 2 2 line) (field 4 2 line)) (drop 6 line))
     else
-    (if ltb (length line) 4 then bad else asked_among rows (get_or line 0 0) (settings flags (field 2 2 line) (field 2 2 line)) (drop 4 line))
+    (when ltb (length line) 4 then bad else asked_among rows (get_or line 0 0) (settings flags (field 2 2 line) (field 2 2 line)) (drop 4 line))
 
 -- ---- a request line as characters
 
@@ -207,8 +207,8 @@ is_retired line = begins (in_digits (0x0C ∷ [])) line || begins (in_digits (0x
 
 -- a retired kind comes before anything else on the line (02, W-210)
 unfoldable pub asked_line : List ℕ → Asked
-asked_line line = if is_retired line then retired else asked_in (line_bytes line)
+asked_line line = when is_retired line then retired else asked_in (line_bytes line)
 
 -- the same of a line that lacks its line feed, which is bad otherwise
 unfoldable pub asked_cut : List ℕ → Asked
-asked_cut line = if is_retired line then retired else bad
+asked_cut line = when is_retired line then retired else bad

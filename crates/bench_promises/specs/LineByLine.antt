@@ -2,7 +2,7 @@
 -- the kinds that were retired and, where waits grow, for their milliseconds, which are in closed words. (01, The bench program; 02, W-203, W-210, W-211)
 -- Assumes nothing.
 use Rattle.std.specs.Prelude.{ℕ, ◌+◌, ◌<◌, ◌≡◌, Bool, false, ◌&&◌, ◌||◌, List, [], ◌∷◌, length, eqb}
-use Rattle.protocol.specs.Pick.{if◌then◌else◌}
+use Rattle.protocol.specs.Pick.{when◌then◌else◌}
 use Rattle.protocol.specs.declared.error.Answer.TheVariants as answer
 use Rattle.hexadecimal.specs.Line.{line_bytes}
 use Rattle.hexadecimal.specs.Digits.{Hexadecimal}
@@ -51,7 +51,7 @@ pub record LineByLine : Type 0 where
   -- of two budgets a line goes by the one of its side: it asks for what the line asks for that has this number alone
   pub own_number : (kind flags a b c d : ℕ) (arguments : List ℕ) → OneNumber flags
       → asked_in (kind ∷ (flags + 4) ∷ a ∷ b ∷ c ∷ d ∷ arguments)
-      ≡ (if line_writes kind arguments then asked_in (kind ∷ flags ∷ a ∷ b ∷ arguments) else asked_in (kind ∷ flags ∷ c ∷ d ∷ arguments))
+      ≡ (when line_writes kind arguments then asked_in (kind ∷ flags ∷ a ∷ b ∷ arguments) else asked_in (kind ∷ flags ∷ c ∷ d ∷ arguments))
   -- an old line means what it did: its one number fills both budgets, as if it stood there twice behind bit 2
   pub old_lines : (kind flags low high : ℕ) (arguments : List ℕ) → OneNumber flags
       → asked_in (kind ∷ flags ∷ low ∷ high ∷ arguments) ≡ asked_in (kind ∷ (flags + 4) ∷ low ∷ high ∷ low ∷ high ∷ arguments)

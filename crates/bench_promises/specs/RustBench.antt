@@ -2,7 +2,7 @@
 -- (01, The bench program; 02, W-203)
 -- Assumes nothing.
 use Rattle.std.specs.Prelude.{ℕ, ◌+◌, List, [], ◌∷◌, ◌++◌, length, take, ltb, eqb}
-use Rattle.protocol.specs.Pick.{if◌then◌else◌}
+use Rattle.protocol.specs.Pick.{when◌then◌else◌}
 use Rattle.protocol.specs.Answer.{number_of, detail_of}
 use Rattle.protocol.specs.declared.error.Answer.{Answer}
 use Rattle.protocol.specs.declared.error.Answer.TheVariants as answer
@@ -42,8 +42,8 @@ pub data Heard : Type 0 where
 -- 00 and a reply: over 8,192 bytes the line is bad, and of another length than the number asked it is a wrong reply
 unfoldable pub acknowledged_by : ℕ → List ℕ → Heard
 acknowledged_by asked reply =
-    if ltb 8192 (length reply) then stopped answer.BadLine else
-    if eqb (length reply) asked then outcome (Acknowledged reply) else stopped answer.WrongReply
+    when ltb 8192 (length reply) then stopped answer.BadLine else
+    when eqb (length reply) asked then outcome (Acknowledged reply) else stopped answer.WrongReply
 
 -- 01 and a code
 unfoldable pub error_by : List ℕ → Heard
@@ -59,9 +59,9 @@ timeout_by (b ∷ more) = stopped answer.BadLine
 unfoldable pub heard_in : ℕ → List ℕ → Heard
 heard_in asked [] = stopped answer.BadLine
 heard_in asked (b ∷ s) =
-    if eqb b 0 then acknowledged_by asked s else
-    if eqb b 1 then error_by s else
-    if eqb b 2 then timeout_by s else stopped answer.BadLine
+    when eqb b 0 then acknowledged_by asked s else
+    when eqb b 1 then error_by s else
+    when eqb b 2 then timeout_by s else stopped answer.BadLine
 
 -- how many bytes the last transfer asks for
 unfoldable pub last_asks : List Made → ℕ
@@ -119,7 +119,7 @@ longest_digits = 16408
 
 -- one line more, where what follows the last line feed is already longer
 abbrev early : List ℕ → ℕ
-early rest = if ltb longest_digits (length rest) then 1 else 0
+early rest = when ltb longest_digits (length rest) then 1 else 0
 
 -- the same for an input that may go on: a line for each line that is whole, and for one that is begun and is too long already
 unfoldable pub rust_so_far : List ℕ → List ℕ

@@ -6,7 +6,7 @@ use mathlib.Core.Bool.{false}
 use native.Mathlib.Omega.{arith}
 use lib.Dec.{eqb}
 use borrow.Author.Tests.{ne_eqb}
-use Rattle.protocol.specs.Pick.{if◌then◌else◌}
+use Rattle.protocol.specs.Pick.{when◌then◌else◌}
 use Rattle.protocol.specs.declared.common.Config.{Config}
 use Rattle.writing.specs.Writing as writing
 use Rattle.reading.specs.Reading as reading
@@ -24,7 +24,7 @@ some n = ne_eqb (suc n) 0 (λ e. omega arith)
 by_kind : (kind : Kind) (config : Config) (p n : ℕ)
     → (retries_in (plan_of kind config p n) ≡ budget_of kind config n) × ((r : ℕ) → plan_of kind (with_budget (other_side (side_of kind n)) r config) p n ≡ plan_of kind config p n)
     × (retries_in (plan_of kind config p n) ≡ retries_due config (plan_of kind config p n))
-unfolding if◌then◌else◌ plan_of writing.plan_of reading.plain_plan reading.mac_plan plain_limit write_with_retries write_register read_register command_reads dispatch_command read_buffer write_buffer
+unfolding when◌then◌else◌ plan_of writing.plan_of reading.plain_plan reading.mac_plan plain_limit write_with_retries write_register read_register command_reads dispatch_command read_buffer write_buffer
     mac_read mac_write send_access_key write_mfg_info_c whole_ask read_mfg_info_c write_mfg_info read_mfg_info read_dataflash write_dataflash
 by_kind kind.WriteWithRetries config p n = (refl, λ r. refl, refl)
 by_kind (kind.WriteRegister address) config p n = (refl, λ r. refl, refl)

@@ -9,7 +9,7 @@ use lib.Dec.{ltb, eqb}
 use borrow.Author.Tests.{eqb-false, ne_eqb}
 use Rattle.protocol.proofs.Shared.{few_on}
 use Rattle.protocol.specs.Common.{TwoByteBudgets}
-use Rattle.protocol.specs.Pick.{if◌then◌else◌}
+use Rattle.protocol.specs.Pick.{when◌then◌else◌}
 use Rattle.protocol.specs.Bytes.{blocks_of}
 use Rattle.protocol.specs.Window.{in_window}
 use Rattle.protocol.proofs.WindowLaws.{within}
@@ -40,7 +40,7 @@ use Rattle.ceilings.proofs.Starts.{idle, by_frames, by_reads, by_head, by_head_a
 -- ---- a data-flash transfer that waits has bytes, and at most 8,192
 
 window_some : (start n : ℕ) → windowed start n ≡ phase.Waiting → (0 < n) × (n ≤ 8192)
-unfolding windowed if◌then◌else◌
+unfolding windowed when◌then◌else◌
 window_some start n e = by (in_window start n) refl (eqb n 0) refl
   where
     by : (a : Bool) → in_window start n ≡ a → (b : Bool) → eqb n 0 ≡ b → (0 < n) × (n ≤ 8192)
@@ -52,7 +52,7 @@ window_some start n e = by (in_window start n) refl (eqb n 0) refl
         (omega arith, omega (arith, w.0, w.1))
 
 pub admits_some : (start n w : ℕ) → admitted limit.Window start n w ≡ phase.Waiting → (0 < n) × (n ≤ 8192)
-unfolding admitted measured if◌then◌else◌
+unfolding admitted measured when◌then◌else◌
 admits_some start n w e = by (ltb w 39) refl
   where
     by : (t : Bool) → ltb w 39 ≡ t → (0 < n) × (n ≤ 8192)
@@ -150,13 +150,13 @@ module _ (config : Config) (small : TwoByteBudgets config) (p n w : ℕ) where
   command_few address = few_on config small (parts.reads_side (command_reads config address n))
 
   command_reads_lem : (address : ℕ) → 0 < n → Shape p n w (plan.Read (command address)) (2 * ((command address).retries + 1)) (command address).retries
-  unfolding dispatch_command command_reads parts.has_head parts.read_count if◌then◌else◌
+  unfolding dispatch_command command_reads parts.has_head parts.read_count when◌then◌else◌
   command_reads_lem address some =
       let one : parts.read_count (command_reads config address n) n ≡ 1 = rw (ne_eqb n 0 (λ e. omega (arith, some, e))) in
       mac_read_lem p n w (command address) (command_few address) refl one
 
   command_reads_not : (address : ℕ) → n ≡ 0 → Shape p n w (plan.Read (command address)) ((command address).retries + 1) (command address).retries
-  unfolding dispatch_command command_reads parts.has_head parts.read_count if◌then◌else◌
+  unfolding dispatch_command command_reads parts.has_head parts.read_count when◌then◌else◌
   command_reads_not address none =
       let no : parts.read_count (command_reads config address n) n ≡ 0 = rw none in
       of_head_alone (command address) refl no (command_few address)

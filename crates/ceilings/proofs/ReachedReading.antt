@@ -10,7 +10,7 @@ use lib.Seq.{take-append_seam, get_or-append_seam}
 use lib.Dec.{eqb}
 use borrow.Author.Tests.{eq-eqb, ne_eqb, lt-leb}
 use Rattle.smbus_pec.specs.Pec.{pec_of}
-use Rattle.protocol.specs.Pick.{if◌then◌else◌}
+use Rattle.protocol.specs.Pick.{when◌then◌else◌}
 use Rattle.protocol.specs.Reply.{around_of, bytes_asked, checked_of, heard_of}
 use Rattle.protocol.specs.declared.error.Answer.TheVariants as answer
 use Rattle.protocol.specs.declared.reply.Ask.{Ask}
@@ -39,7 +39,7 @@ use Rattle.ceilings.proofs.ReachedBy.{no_more, one_more, same_reach, spends}
 
 -- bytes, and their PEC after them
 checked : (covered : ℕ) (front : List ℕ) → checked_of covered (front ++ (pec_of 0 (0x16 ∷ covered ∷ 0x17 ∷ front) ∷ [])) ≡ true
-unfolding checked_of if◌then◌else◌
+unfolding checked_of when◌then◌else◌
 checked covered front =
     let pec = pec_of 0 (0x16 ∷ covered ∷ 0x17 ∷ front) in
     let long : length (front ++ (pec ∷ [])) ≡ length front + 1 = length-append front (pec ∷ []) in
@@ -49,7 +49,7 @@ checked covered front =
 
 -- a read with a PEC asks for it at the least
 some_asked : (ask : Ask) → ask.pec ≡ true → 0 < bytes_asked ask
-unfolding bytes_asked around_of if◌then◌else◌
+unfolding bytes_asked around_of when◌then◌else◌
 some_asked ask t = rw t (omega arith)
 
 -- zeros of the number asked, with their PEC where it is asked for
@@ -89,26 +89,26 @@ module _ (its : ReadPlan) (p n w : ℕ) where
   -- a timeout with a retry left
   retried : (h : Bool) (i left v : ℕ) (t : Tally) → report_of (call.Read (at h i (suc left) v t)) outcome.Timeout [] p n w ≡ reported.Taken (call.Read (at (has_head its.head) i left (more_of v) (missed left t)))
   unfolding report_of got_of reading.report_of reading.judge_of reading.weigh_of reading.fail_of reading.counted_of reading.retry_of
-      case◌waiting◌ended◌ case◌acknowledged◌error◌timeout◌ case◌retry◌spent◌ case◌refused◌fault◌headed◌block◌ waited tallied fits_of if◌then◌else◌
+      case◌waiting◌ended◌ case◌acknowledged◌error◌timeout◌ case◌retry◌spent◌ case◌refused◌fault◌headed◌block◌ waited tallied fits_of when◌then◌else◌
   retried h i left v t = rw (eq-eqb n n refl, eq-eqb w w refl, laws.retries its.retries left its.growing)
 
   -- and with none
   gives_up : (h : Bool) (i v : ℕ) (t : Tally) → report_of (call.Read (at h i 0 v t)) outcome.Timeout [] p n w ≡ reported.Taken (call.Read (reading.end_of (at h i 0 v (tallied t)) answer.Timeout))
   unfolding report_of got_of reading.report_of reading.judge_of reading.weigh_of reading.fail_of reading.counted_of
-      case◌waiting◌ended◌ case◌acknowledged◌error◌timeout◌ case◌retry◌spent◌ case◌refused◌fault◌headed◌block◌ tallied fits_of if◌then◌else◌
+      case◌waiting◌ended◌ case◌acknowledged◌error◌timeout◌ case◌retry◌spent◌ case◌refused◌fault◌headed◌block◌ tallied fits_of when◌then◌else◌
   gives_up h i v t = rw (eq-eqb n n refl, eq-eqb w w refl, laws.spent its.retries its.growing)
 
   -- a head that goes through, before a read
   opened : (i left v : ℕ) (t : Tally) → i < read_count its.reads n → report_of (call.Read (at true i left v t)) outcome.Acknowledged [] p n w ≡ reported.Taken (call.Read (at false i left v (tallied t)))
   unfolding report_of got_of reading.report_of reading.judge_of reading.weigh_of reading.acknowledged_of reading.heard_head reading.counted_of reading.headed_of
-      case◌waiting◌ended◌ case◌acknowledged◌error◌timeout◌ case◌refused◌fault◌headed◌block◌ phase_after tallied fits_of if◌then◌else◌
+      case◌waiting◌ended◌ case◌acknowledged◌error◌timeout◌ case◌refused◌fault◌headed◌block◌ phase_after tallied fits_of when◌then◌else◌
   opened i left v t more = rw (eq-eqb n n refl, eq-eqb w w refl, lt-leb (read_count its.reads n) i more)
 
   -- a reply that is believed, before another
   advanced : (i left v : ℕ) (t : Tally) (reply : List ℕ) → heard_of (ask_of its.reads n i) reply ≡ heard.Good → more_of i < read_count its.reads n
       → report_of (call.Read (at false i left v t)) outcome.Acknowledged reply p n w ≡ reported.Taken (call.Read (at false (more_of i) left v (tallied t)))
   unfolding report_of got_of reading.report_of reading.judge_of reading.weigh_of reading.acknowledged_of reading.heard_block reading.verdict_of reading.due_ask reading.counted_of reading.advance_of
-      case◌waiting◌ended◌ case◌acknowledged◌error◌timeout◌ case◌refused◌fault◌headed◌block◌ phase_after tallied fits_of if◌then◌else◌
+      case◌waiting◌ended◌ case◌acknowledged◌error◌timeout◌ case◌refused◌fault◌headed◌block◌ phase_after tallied fits_of when◌then◌else◌
   advanced i left v t reply good more = rw (eq-eqb n n refl, eq-eqb w w refl, good, lt-leb (read_count its.reads n) (more_of i) more)
 
   -- the failure that ends the call is one transfer

@@ -7,7 +7,7 @@ use native.Mathlib.Omega.{arith}
 use native.Mathlib.Nat.{suc-mul, mul-suc}
 use native.Mathlib.Numerals.{add-one}
 use borrow.Author.Tests.{eq-eqb, lt-leb}
-use Rattle.protocol.specs.Pick.{if◌then◌else◌}
+use Rattle.protocol.specs.Pick.{when◌then◌else◌}
 use Rattle.protocol.specs.declared.error.Answer.TheVariants as answer
 use Rattle.engine.specs.Pick.{case◌waiting◌ended◌, case◌acknowledged◌error◌timeout◌, case◌retry◌spent◌}
 use Rattle.engine.specs.Budget.{wait_of, more_of, nothing, waited, tallied}
@@ -45,20 +45,20 @@ module _ (its : WritePlan) (p n w : ℕ) where
   -- a timeout with a retry left
   retried : (i left v : ℕ) (t : Tally) → report_of (call.Write (at i (suc left) v t)) outcome.Timeout [] p n w ≡ reported.Taken (call.Write (at i left (more_of v) (missed left t)))
   unfolding report_of wrote_of writing.report_of writing.replied_of writing.settle_of writing.fail_of writing.counted_of writing.retry_of
-      case◌waiting◌ended◌ case◌acknowledged◌error◌timeout◌ case◌retry◌spent◌ waited tallied fits_of if◌then◌else◌
+      case◌waiting◌ended◌ case◌acknowledged◌error◌timeout◌ case◌retry◌spent◌ waited tallied fits_of when◌then◌else◌
   retried i left v t = rw (eq-eqb p p refl, eq-eqb w w refl, laws.retries its.retries left its.growing)
 
   -- and with none
   gives_up : (i v : ℕ) (t : Tally) → report_of (call.Write (at i 0 v t)) outcome.Timeout [] p n w ≡ reported.Taken (call.Write (writing.end_of (at i 0 v (tallied t)) answer.Timeout))
   unfolding report_of wrote_of writing.report_of writing.replied_of writing.settle_of writing.fail_of writing.counted_of
-      case◌waiting◌ended◌ case◌acknowledged◌error◌timeout◌ case◌retry◌spent◌ tallied fits_of if◌then◌else◌
+      case◌waiting◌ended◌ case◌acknowledged◌error◌timeout◌ case◌retry◌spent◌ tallied fits_of when◌then◌else◌
   gives_up i v t = rw (eq-eqb p p refl, eq-eqb w w refl, laws.spent its.retries its.growing)
 
   -- a frame that goes through, before others
   advanced : (i left v : ℕ) (t : Tally) → more_of i < frame_count its.frames p
       → report_of (call.Write (at i left v t)) outcome.Acknowledged [] p n w ≡ reported.Taken (call.Write (at (more_of i) its.retries v (tallied t)))
   unfolding report_of wrote_of writing.report_of writing.replied_of writing.settle_of writing.counted_of writing.advance_of
-      case◌waiting◌ended◌ case◌acknowledged◌error◌timeout◌ phase_after tallied fits_of if◌then◌else◌
+      case◌waiting◌ended◌ case◌acknowledged◌error◌timeout◌ phase_after tallied fits_of when◌then◌else◌
   advanced i left v t more = rw (eq-eqb p p refl, eq-eqb w w refl, lt-leb (frame_count its.frames p) (more_of i) more)
 
   -- frame i fails until its budget is spent: a retry is one transfer

@@ -4,7 +4,7 @@ use Prim.Native.Nat.{ℕ, suc, ◌+◌, ◌-◌, ◌*◌, ◌≤◌, ◌<◌}
 use mathlib.Core.Path.{◌≡◌, refl, sym, subst}
 use mathlib.Core.Bool.{Bool, true, false}
 use native.Mathlib.Omega.{arith}
-use Rattle.protocol.specs.Pick.{if◌then◌else◌}
+use Rattle.protocol.specs.Pick.{when◌then◌else◌}
 use Rattle.protocol.specs.declared.error.Answer.{Answer}
 use Rattle.protocol.specs.declared.error.Answer.TheVariants as answer
 use Rattle.engine.specs.Pick.{case◌waiting◌ended◌, case◌acknowledged◌error◌timeout◌}
@@ -44,7 +44,7 @@ module _ (call : WriteCall) where
   settles outcome.Timeout e = fails answer.Timeout e
 
   came : (o : Outcome) (r n w : ℕ) → Came call (report_of call o r n w)
-  unfolding report_of case◌waiting◌ended◌ if◌then◌else◌
+  unfolding report_of case◌waiting◌ended◌ when◌then◌else◌
   came o r n w = by call.phase refl (fits_of call.task.lent n w) refl (replied_of o r) refl
     where
       by : (p : Phase) → call.phase ≡ p → (t : Bool) → fits_of call.task.lent n w ≡ t → (s : Bool) → replied_of o r ≡ s → Came call (report_of call o r n w)

@@ -9,7 +9,7 @@ use lib.ListN.{length, set, get_or, replicate, length-append, length-set, length
 use lib.Seq.{get_or-set_same, get_or-set_other}
 use lib.Dec.{eqb}
 use borrow.Author.Tests.{eq-eqb, ne_eqb, eqb-true, eqb-false}
-use Rattle.protocol.specs.Pick.{if◌then◌else◌}
+use Rattle.protocol.specs.Pick.{when◌then◌else◌}
 use Rattle.packs.specs.declared.Said.{Said}
 use Rattle.packs.specs.declared.Said.TheVariants as said
 use Rattle.packs.specs.declared.Count.{Count}
@@ -150,7 +150,7 @@ module _ (ps : List Said) (count : Count) (numbers : List ℕ) (c : Counted ps c
 -- the figures over packs that were read
 figures_same : (s : List ℕ) (count : Count) → Small s → count.read ≡ length s → count.sum ≡ total s → count.lowest ≡ low_all s → count.highest ≡ high_all s
     → figures_in count ≡ figures_of s
-unfolding figures_in figures_of if◌then◌else◌
+unfolding figures_in figures_of when◌then◌else◌
 figures_same [] count h r t l g = rw (eq-eqb count.read 0 r) refl
 figures_same (c ∷ s) count h r t l g =
     let some_read : eqb count.read 0 ≡ false = ne_eqb count.read 0 (λ e. absurd (omega (arith, r, e))) in

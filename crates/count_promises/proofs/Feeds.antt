@@ -8,7 +8,7 @@ use native.Mathlib.Omega.{arith}
 use lib.ListN.{length, drop, get_or, length-append}
 use lib.Dec.{eqb, T}
 use borrow.Author.Tests.{ne_eqb}
-use Rattle.protocol.specs.Pick.{if◌then◌else◌}
+use Rattle.protocol.specs.Pick.{when◌then◌else◌}
 use Rattle.smbus_pec.proofs.Every.{below}
 use Rattle.hexadecimal.specs.Digits.{sixteen, in_digits}
 use Rattle.lines.specs.Lines.{before_feed}
@@ -18,7 +18,7 @@ use Rattle.count_promises.specs.Lines.{NoFeed}
 
 -- bytes with no line feed are what comes before one
 pub before : (s t : List ℕ) → NoFeed s → before_feed (s ++ (10 ∷ t)) ≡ s
-unfolding before_feed if◌then◌else◌
+unfolding before_feed when◌then◌else◌
 before [] t n = refl
 before (b ∷ s) t n = rw (ne_eqb b 10 n.0) (ap (λ (u : List ℕ). b ∷ u) (before s t n.1))
 

@@ -10,7 +10,7 @@ use lib.ListN.{length, take, drop, length-append, length-drop, take-append-drop}
 use lib.Seq.{length-take-le}
 use lib.Dec.{leb, eqb}
 use borrow.Author.Tests.{leb-true, leb-false, ne_eqb}
-use Rattle.protocol.specs.Pick.{if◌then◌else◌}
+use Rattle.protocol.specs.Pick.{when◌then◌else◌}
 use Rattle.lines.specs.Input.{lines_from, rest_from}
 use Rattle.lines.specs.Lines.{before_feed}
 use Rattle.packs.specs.declared.Said.{Said}
@@ -43,7 +43,7 @@ said_file (p ∷ ps) rest h =
     ∙ (λ i. line_says_lem p h.0 i ∷ said_file ps rest h.1 i)
 
 said_none : said_in [] ≡ []
-unfolding said_in lines_from rest_from if◌then◌else◌
+unfolding said_in lines_from rest_from when◌then◌else◌
 said_none = refl
 
 accepted : (input : List ℕ) (a : Accepted input) → outcome_of (said_in input) ≡ report (report_of a.packs)
@@ -73,7 +73,7 @@ record First (rest : List ℕ) : Type 0 where
   pub there : (says ≡ said.Nothing) ⊎ Begins rest
 
 first : (rest : List ℕ) → 0 < length rest → First rest
-unfolding said_in file_of if◌then◌else◌
+unfolding said_in file_of when◌then◌else◌
 first rest some = by (lines_from [] rest) (rest_from [] rest) refl refl (whole.made_up rest)
   where
     by : (ls : List (List ℕ)) (r : List ℕ) → lines_from [] rest ≡ ls → rest_from [] rest ≡ r → file_of (lines_from [] rest) ++ rest_from [] rest ≡ rest → First rest
@@ -86,8 +86,8 @@ first rest some = by (lines_from [] rest) (rest_from [] rest) refl refl (whole.m
         sym w ∙ ap (λ (t : List (List ℕ)). file_of t ++ rest_from [] rest) e ∙ append_assoc l (10 ∷ file_of ls) (rest_from [] rest) in
         record {
           says = line_says l;
-          more = map line_says ls ++ (if eqb (length (rest_from [] rest)) 0 then [] else said.Nothing ∷ []);
-          same = ap (λ (t : List (List ℕ)). map line_says t ++ (if eqb (length (rest_from [] rest)) 0 then [] else said.Nothing ∷ [])) e;
+          more = map line_says ls ++ (when eqb (length (rest_from [] rest)) 0 then [] else said.Nothing ∷ []);
+          same = ap (λ (t : List (List ℕ)). map line_says t ++ (when eqb (length (rest_from [] rest)) 0 then [] else said.Nothing ∷ [])) e;
           there = ⊎_elim (λ n. inl n)
               (λ o. inr record { p = line_says l; after = file_of ls ++ rest_from [] rest; fit = o.0; same = text ∙ ap (λ (k : List ℕ). k ++ (10 ∷ (file_of ls ++ rest_from [] rest))) o.1 })
               (pack_line l (line_says l) refl);

@@ -6,7 +6,7 @@ use mathlib.Core.List.{List, [], ◌∷◌}
 use mathlib.Core.Option.{some}
 use native.Mathlib.Omega.{arith}
 use lib.ListN.{length, replicate, length-replicate, replicate-append-replicate}
-use Rattle.protocol.specs.Pick.{if◌then◌else◌}
+use Rattle.protocol.specs.Pick.{when◌then◌else◌}
 use Rattle.hexadecimal.specs.Text.{ascii}
 use Rattle.packs.specs.declared.Said.{Said}
 use Rattle.packs.specs.declared.Said.TheVariants as said
@@ -91,11 +91,11 @@ report_all n e =
     λ i. record { seen = seen i; read = count i; unread = length (answers_all (suc n) 65535 i); by = none i; sum = sum i; figures = figures i }
 
 top_text : text_of (report top) ≡ ascii "seen\t65535\nread\t65535\nunread\t0\nsum\t4294836225\nlowest\t65535\nhighest\t65535\nmean\t65535\nremainder\t0\n"
-unfolding top text_of line by_number of_read decimal_of in_places ascii if◌then◌else◌
+unfolding top text_of line by_number of_read decimal_of in_places ascii when◌then◌else◌
 top_text = refl
 
 over_text : text_of (refused 65536) ≡ ascii "refused\t11\t65536\n"
-unfolding text_of line decimal_of in_places ascii if◌then◌else◌
+unfolding text_of line decimal_of in_places ascii when◌then◌else◌
 over_text = refl
 
 printed_all : (n : ℕ) → suc n ≡ 65535 → text_of (outcome_of (replicate (suc n) (said.Read 65535))) ≡ text_of (report top)

@@ -9,7 +9,7 @@ use native.Mathlib.Nat.{pos_of_ne-zero}
 use native.Mathlib.Omega.{arith}
 use lib.Dec.{eqb}
 use borrow.Author.Tests.{eqb-true, eqb-false, ne_eqb}
-use Rattle.protocol.specs.Pick.{if◌then◌else◌}
+use Rattle.protocol.specs.Pick.{when◌then◌else◌}
 use Rattle.hexadecimal.specs.BothWays.{AllBytes}
 use Rattle.hexadecimal.specs.Digits.{in_digits}
 use Rattle.hexadecimal.specs.Line.{line_bytes}
@@ -33,13 +33,13 @@ two_bytes a b ha hb (suc zero) = hb
 two_bytes a b ha hb (suc (suc k)) = omega arith
 
 read_says : (cycles : ℕ) → cycles < 65536 → line_says (read_line cycles) ≡ said.Read cycles
-unfolding line_says bytes_say cycles_said if◌then◌else◌
+unfolding line_says bytes_say cycles_said when◌then◌else◌
 read_says cycles h =
     rw (hexadecimal.reads (0 ∷ cycles % 256 ∷ cycles / 256 ∷ []) (three_bytes 0 (cycles % 256) (cycles / 256) (omega arith) (omega arith) (omega arith)))
     (ap said.Read (omega arith))
 
 unread_says : (answer : ℕ) → 0 < answer → answer < 256 → line_says (unread_line answer) ≡ said.Unread answer
-unfolding line_says bytes_say answer_said if◌then◌else◌
+unfolding line_says bytes_say answer_said when◌then◌else◌
 unread_says answer some h =
     rw (hexadecimal.reads (1 ∷ answer ∷ []) (two_bytes 1 answer (omega arith) h), ne_eqb answer 0 (λ e. absurd (omega arith))) refl
 
@@ -132,13 +132,13 @@ lines = record { read = read_says; unread = unread_says; only_read = only_by_rea
 
 -- lines and what follows them, after what is held
 whole_from : (held s : List ℕ) → file_of (lines_from held s) ++ rest_from held s ≡ held ++ s
-unfolding file_of lines_from rest_from if◌then◌else◌
+unfolding file_of lines_from rest_from when◌then◌else◌
 whole_from held [] = sym (append-nil held)
 whole_from held (b ∷ s) = by (whole_from [] s) (whole_from (held ++ (b ∷ [])) s) (eqb b 10) refl
   where
     by : file_of (lines_from [] s) ++ rest_from [] s ≡ s → file_of (lines_from (held ++ (b ∷ [])) s) ++ rest_from (held ++ (b ∷ [])) s ≡ held ++ (b ∷ []) ++ s
         → (t : Bool) → eqb b 10 ≡ t
-        → file_of (if t then held ∷ lines_from [] s else lines_from (held ++ (b ∷ [])) s) ++ (if t then rest_from [] s else rest_from (held ++ (b ∷ [])) s) ≡ held ++ b ∷ s
+        → file_of (when t then held ∷ lines_from [] s else lines_from (held ++ (b ∷ [])) s) ++ (when t then rest_from [] s else rest_from (held ++ (b ∷ [])) s) ≡ held ++ b ∷ s
     by p q true e =
         append_assoc held (10 ∷ file_of (lines_from [] s)) (rest_from [] s)
         ∙ ap (λ (t : List ℕ). held ++ 10 ∷ t) p
@@ -151,14 +151,14 @@ no_feed_more [] b n h = (h, tt)
 no_feed_more (c ∷ s) b n h = (n.0, no_feed_more s b n.1 h)
 
 no_feeds_from : (held s : List ℕ) → NoFeed held → NoFeeds (lines_from held s) × NoFeed (rest_from held s)
-unfolding lines_from rest_from if◌then◌else◌
+unfolding lines_from rest_from when◌then◌else◌
 no_feeds_from held [] n = (tt, n)
 no_feeds_from held (b ∷ s) n = by (no_feeds_from [] s tt) (λ h. no_feeds_from (held ++ (b ∷ [])) s (no_feed_more held b n h)) (eqb b 10) refl
   where
     by : NoFeeds (lines_from [] s) × NoFeed (rest_from [] s)
         → ((b ≡ 10 → ⊥) → NoFeeds (lines_from (held ++ (b ∷ [])) s) × NoFeed (rest_from (held ++ (b ∷ [])) s))
         → (t : Bool) → eqb b 10 ≡ t
-        → NoFeeds (if t then held ∷ lines_from [] s else lines_from (held ++ (b ∷ [])) s) × NoFeed (if t then rest_from [] s else rest_from (held ++ (b ∷ [])) s)
+        → NoFeeds (when t then held ∷ lines_from [] s else lines_from (held ++ (b ∷ [])) s) × NoFeed (when t then rest_from [] s else rest_from (held ++ (b ∷ [])) s)
     by p q true e = ((n, p.0), p.1)
     by p q false e = q (eqb-false b 10 e)
 

@@ -8,7 +8,7 @@ use native.Mathlib.Omega.{arith}
 use lib.ListN.{length, get_or}
 use lib.Dec.{eqb}
 use borrow.Author.Tests.{eq-eqb, ne_eqb}
-use Rattle.protocol.specs.Pick.{if◌then◌else◌}
+use Rattle.protocol.specs.Pick.{when◌then◌else◌}
 use Rattle.packs.specs.declared.Said.{Said}
 use Rattle.packs.specs.declared.Said.TheVariants as said
 use Rattle.count_promises.specs.Packs.{cycles_in, answers_in, total, occurs, packs_before}
@@ -38,12 +38,12 @@ total_append [] b = omega arith
 total_append (n ∷ a) b = let rest : total (a ++ b) ≡ total a + total b = total_append a b in omega arith
 
 pub occurs_append : (k : ℕ) (a b : List ℕ) → occurs k (a ++ b) ≡ occurs k a + occurs k b
-unfolding occurs if◌then◌else◌
+unfolding occurs when◌then◌else◌
 occurs_append k [] b = omega arith
 occurs_append k (n ∷ a) b = by (occurs_append k a b) (eqb n k)
   where
     by : occurs k (a ++ b) ≡ occurs k a + occurs k b
-        → (t : Bool) → (if t then suc (occurs k (a ++ b)) else occurs k (a ++ b)) ≡ (if t then suc (occurs k a) else occurs k a) + occurs k b
+        → (t : Bool) → (when t then suc (occurs k (a ++ b)) else occurs k (a ++ b)) ≡ (when t then suc (occurs k a) else occurs k a) + occurs k b
     by rest true = omega arith
     by rest false = rest
 
@@ -53,19 +53,19 @@ unfolding occurs
 occurs_none k = refl
 
 pub occurs_own : (k : ℕ) (s : List ℕ) → occurs k (k ∷ s) ≡ suc (occurs k s)
-unfolding occurs if◌then◌else◌
+unfolding occurs when◌then◌else◌
 occurs_own k s = rw (eq-eqb k k refl)
 
 pub occurs_other : (k n : ℕ) (s : List ℕ) → (n ≡ k → ⊥) → occurs k (n ∷ s) ≡ occurs k s
-unfolding occurs if◌then◌else◌
+unfolding occurs when◌then◌else◌
 occurs_other k n s h = rw (ne_eqb n k h)
 
 pub occurs_length : (k : ℕ) (s : List ℕ) → occurs k s ≤ length s
-unfolding occurs if◌then◌else◌
+unfolding occurs when◌then◌else◌
 occurs_length k [] = omega arith
 occurs_length k (n ∷ s) = by (occurs_length k s) (eqb n k)
   where
-    by : occurs k s ≤ length s → (t : Bool) → (if t then suc (occurs k s) else occurs k s) ≤ suc (length s)
+    by : occurs k s ≤ length s → (t : Bool) → (when t then suc (occurs k s) else occurs k s) ≤ suc (length s)
     by h true = omega arith
     by h false = omega arith
 

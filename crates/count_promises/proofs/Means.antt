@@ -11,7 +11,7 @@ use native.Mathlib.Omega.{arith}
 use lib.ListN.{length}
 use lib.Dec.{eqb, ltb}
 use borrow.Author.Tests.{eqb-true, ltb-true, ltb-false}
-use Rattle.protocol.specs.Pick.{if◌then◌else◌}
+use Rattle.protocol.specs.Pick.{when◌then◌else◌}
 use Rattle.report.specs.Report.{Figures}
 use Rattle.count_promises.specs.Packs.{total, occurs, lowest_of, highest_of, figures_of}
 use Rattle.count_promises.proofs.Lists.{occurs_append, occurs_own}
@@ -51,10 +51,10 @@ occurs_after k c s h = omega (arith, occurs_append k (c ∷ []) s)
 
 -- one that occurs is the first or comes after it
 pub occurs_cases : (k c : ℕ) (s : List ℕ) → 0 < occurs k (c ∷ s) → (c ≡ k) ⊎ (0 < occurs k s)
-unfolding occurs if◌then◌else◌
+unfolding occurs when◌then◌else◌
 occurs_cases k c s = by (eqb c k) refl
   where
-    by : (t : Bool) → eqb c k ≡ t → 0 < (if t then suc (occurs k s) else occurs k s) → (c ≡ k) ⊎ (0 < occurs k s)
+    by : (t : Bool) → eqb c k ≡ t → 0 < (when t then suc (occurs k s) else occurs k s) → (c ≡ k) ⊎ (0 < occurs k s)
     by true e h = inl (eqb-true c k e)
     by false e h = inr h
 

@@ -6,7 +6,7 @@ use mathlib.Core.List.{List, ◌∷◌, ◌++◌}
 use native.Mathlib.Omega.{arith}
 use lib.ListN.{length, length-append}
 use borrow.Author.Tests.{lt-ltb, le-ltb}
-use Rattle.protocol.specs.Pick.{if◌then◌else◌}
+use Rattle.protocol.specs.Pick.{when◌then◌else◌}
 use Rattle.packs.specs.declared.Said.{Said}
 use Rattle.packs.specs.declared.Said.TheVariants as said
 use Rattle.report.specs.Report.{report, refused}
@@ -17,14 +17,14 @@ use Rattle.count_promises.proofs.Fits.{fit_before}
 
 module _ (ps : List Said) (fits : AllFit ps) where
   pub all_outcome : length ps ≤ 65535 → outcome_of ps ≡ report (report_of ps)
-  unfolding outcome_of counted if◌then◌else◌
+  unfolding outcome_of counted when◌then◌else◌
   all_outcome h =
       let e = fit_before ps fits in
       rw (le-ltb (min (packs_before ps) 65535) (length ps) (omega arith)) refl
 
   -- a line that is no pack
   pub bad_outcome : (rest : List Said) → length ps ≤ 65535 → outcome_of (ps ++ said.Nothing ∷ rest) ≡ refused (suc (length ps))
-  unfolding outcome_of counted packs_before if◌then◌else◌
+  unfolding outcome_of counted packs_before when◌then◌else◌
   bad_outcome rest h =
       let e : packs_before (ps ++ said.Nothing ∷ rest) ≡ length ps + 0 = before_append ps (said.Nothing ∷ rest) (fit_before ps fits) in
       let n : length (ps ++ said.Nothing ∷ rest) ≡ length ps + suc (length rest) = length-append ps (said.Nothing ∷ rest) in
@@ -33,7 +33,7 @@ module _ (ps : List Said) (fits : AllFit ps) where
 
   -- a line after 65,535
   pub full_outcome : (p : Said) (rest : List Said) → length ps ≡ 65535 → outcome_of (ps ++ p ∷ rest) ≡ refused (suc (length ps))
-  unfolding outcome_of counted if◌then◌else◌
+  unfolding outcome_of counted when◌then◌else◌
   full_outcome p rest h =
       let e : packs_before (ps ++ p ∷ rest) ≡ length ps + packs_before (p ∷ rest) = before_append ps (p ∷ rest) (fit_before ps fits) in
       let n : length (ps ++ p ∷ rest) ≡ length ps + suc (length rest) = length-append ps (p ∷ rest) in

@@ -9,7 +9,7 @@ use lib.ListN.{length, length-append}
 use lib.Seq.{append_snoc}
 use lib.Dec.{ltb, leb, eqb}
 use borrow.Author.Tests.{lt-ltb, le-ltb, le-leb, eq-eqb, ne_eqb, ltb-true, ltb-false, leb-true, leb-false, eqb-true}
-use Rattle.protocol.specs.Pick.{if◌then◌else◌}
+use Rattle.protocol.specs.Pick.{when◌then◌else◌}
 use Rattle.hexadecimal.specs.Hex.{value_of}
 use Rattle.lines.specs.Input.{lines_from, rest_from}
 use Rattle.packs.specs.declared.Said.{Said}
@@ -80,23 +80,23 @@ held_more held line b h v few = record {
 -- once a line is refused, nothing moves, and its number is told
 module _ (count : Count) (numbers : List ℕ) where
   refused_stays : (s : List ℕ) → feed_of s (sheet (refused_of count) numbers) ≡ sheet (refused_of count) numbers
-  unfolding feed_of step_of is_refused refused_of if◌then◌else◌
+  unfolding feed_of step_of is_refused refused_of when◌then◌else◌
   refused_stays [] = refl
   refused_stays (b ∷ s) = refused_stays s
 
   refused_out : (s : List ℕ) → outcome_in (feed_of s (sheet (refused_of count) numbers)) ≡ refused (suc (seen_of count))
-  unfolding outcome_in refused_of if◌then◌else◌
+  unfolding outcome_in refused_of when◌then◌else◌
   refused_out s = ap outcome_in (refused_stays s)
 
   -- a byte that is no digit, and a seventh digit
   step_bad : (b line : ℕ) → 0 < line → eqb b 10 ≡ false → 16 ≤ value_of b → step_of b (within count line numbers) ≡ sheet (refused_of count) numbers
-  unfolding step_of is_refused if◌then◌else◌
+  unfolding step_of is_refused when◌then◌else◌
   step_bad b line some e v =
       let z : eqb line 0 ≡ false = ne_eqb line 0 (λ f. absurd (omega arith)) in
       rw (z, e, lt-ltb 15 (value_of b) v) refl
 
   step_seventh : (b line : ℕ) → 0 < line → eqb b 10 ≡ false → value_of b < 16 → 0x1000000 ≤ line → step_of b (within count line numbers) ≡ sheet (refused_of count) numbers
-  unfolding step_of is_refused if◌then◌else◌
+  unfolding step_of is_refused when◌then◌else◌
   step_seventh b line some e v many =
       let z : eqb line 0 ≡ false = ne_eqb line 0 (λ f. absurd (omega arith)) in
       rw (z, e, le-ltb 15 (value_of b) (omega arith), le-leb 0x1000000 line many) refl
@@ -136,11 +136,11 @@ module _ (s : List ℕ) (ps : List Said) (count : Count) (numbers : List ℕ) (c
       refused_out count numbers s ∙ ap (λ (n : ℕ). refused (suc n)) (counted_seen ps count numbers c) ∙ sym (bad_outcome ps c.fits (said_from [] s) c.most)
 
   counted_line : (p : Said) → Range p → Follows → outcome_in (feed_of s (counted_of p count numbers)) ≡ outcome_of (ps ++ p ∷ said_from [] s)
-  unfolding counted_of if◌then◌else◌
+  unfolding counted_of when◌then◌else◌
   counted_line p r follows = by (leb 65535 (seen_of count)) refl
     where
       by : (t : Bool) → leb 65535 (seen_of count) ≡ t
-          → outcome_in (feed_of s (if t then sheet (refused_of count) numbers else counted_by p count numbers)) ≡ outcome_of (ps ++ p ∷ said_from [] s)
+          → outcome_in (feed_of s (when t then sheet (refused_of count) numbers else counted_by p count numbers)) ≡ outcome_of (ps ++ p ∷ said_from [] s)
       by true e =
           let n = leb-true 65535 (seen_of count) e in
           let m = counted_seen ps count numbers c in
@@ -163,7 +163,7 @@ module _ (s : List ℕ) (ps : List Said) (count : Count) (numbers : List ℕ) (c
 -- the input ends
 at_end : (held : List ℕ) (ps : List Said) (count : Count) (line : ℕ) (numbers : List ℕ) → Counted ps count numbers → Held held line
     → outcome_in (within count line numbers) ≡ outcome_of (ps ++ said_from held [])
-unfolding outcome_in said_from lines_from rest_from if◌then◌else◌
+unfolding outcome_in said_from lines_from rest_from when◌then◌else◌
 at_end [] ps count line numbers c h =
     let e : eqb line 1 ≡ true = eq-eqb line 1 h.number in
     rw (e, append-nil ps) (ap report (counted_report ps count numbers c) ∙ sym (all_outcome ps c.fits c.most))
@@ -185,7 +185,7 @@ fed_byte : (b : ℕ) (s held : List ℕ) (ps : List Said) (count : Count) (line 
     → Follows s ps count numbers c
     → (Held (held ++ (b ∷ [])) (line * 16 + value_of b) → outcome_in (feed_of s (within count (line * 16 + value_of b) numbers)) ≡ outcome_of (ps ++ said_from (held ++ (b ∷ [])) s))
     → outcome_in (feed_of s (step_of b (within count line numbers))) ≡ outcome_of (ps ++ said_from held (b ∷ s))
-unfolding said_from lines_from rest_from if◌then◌else◌
+unfolding said_from lines_from rest_from when◌then◌else◌
 fed_byte b s held ps count line numbers c h follows goes_on = by (eqb b 10) refl
   where
     some : 0 < line
@@ -196,7 +196,7 @@ fed_byte b s held ps count line numbers c h follows goes_on = by (eqb b 10) refl
 
     by : (t : Bool) → eqb b 10 ≡ t
         → outcome_in (feed_of s (step_of b (within count line numbers)))
-        ≡ outcome_of (ps ++ (map line_says (if t then held ∷ lines_from [] s else lines_from (held ++ (b ∷ [])) s) ++ (if eqb (length (if t then rest_from [] s else rest_from (held ++ (b ∷ [])) s)) 0 then [] else said.Nothing ∷ [])))
+        ≡ outcome_of (ps ++ (map line_says (when t then held ∷ lines_from [] s else lines_from (held ++ (b ∷ [])) s) ++ (when eqb (length (when t then rest_from [] s else rest_from (held ++ (b ∷ [])) s)) 0 then [] else said.Nothing ∷ [])))
     by true e =
         let q : b ≡ 10 = eqb-true b 10 e in
         let says = says_same held line h in
@@ -240,7 +240,7 @@ in_one_lem [] d = refl
 in_one_lem (piece ∷ pieces) d = in_one_lem pieces (feed_of piece d) ∙ sym (feed_append piece (in_one pieces) d)
 
 stays : (s : List ℕ) (d : Sheet) → is_refused d.reader ≡ true → feed_of s d ≡ d
-unfolding feed_of step_of if◌then◌else◌
+unfolding feed_of step_of when◌then◌else◌
 stays [] d e = refl
 stays (b ∷ s) d e = rw e (stays s d e)
 

@@ -9,7 +9,7 @@ use native.Mathlib.Omega.{arith}
 use lib.ListN.{length, get_or}
 use lib.Dec.{ltb}
 use borrow.Author.Tests.{ltb-true, ltb-false, lt-ltb, le-ltb}
-use Rattle.protocol.specs.Pick.{if◌then◌else◌}
+use Rattle.protocol.specs.Pick.{when◌then◌else◌}
 use Rattle.packs.specs.declared.Said.{Said}
 use Rattle.packs.specs.declared.Said.TheVariants as said
 use Rattle.report.specs.Report.{Report, Outcome, report, refused}
@@ -19,12 +19,12 @@ use Rattle.count_promises.proofs.Lists.{packs_within, pack_before, none_there, p
 
 -- a line that is not counted is refused
 refused_there : (ps : List Said) (k : ℕ) → counted ps ≡ k → k < length ps → outcome_of ps ≡ refused (suc k)
-unfolding outcome_of if◌then◌else◌
+unfolding outcome_of when◌then◌else◌
 refused_there ps k e h = rw (e, lt-ltb k (length ps) h)
 
 -- where each is counted, there is a report
 reported_there : (ps : List Said) → length ps ≤ counted ps → outcome_of ps ≡ report (report_of ps)
-unfolding outcome_of if◌then◌else◌
+unfolding outcome_of when◌then◌else◌
 reported_there ps h = rw (le-ltb (counted ps) (length ps) h)
 
 -- the packs before a line that is none
@@ -75,10 +75,10 @@ unfolding IsReport
 report_is o r e = subst (λ (x : Outcome). IsReport x r) (sym e) refl
 
 refused_at : (ps : List Said) (n : ℕ) → outcome_of ps ≡ refused n → RefusedAt ps n
-unfolding outcome_of if◌then◌else◌ IsRefused
+unfolding outcome_of when◌then◌else◌ IsRefused
 refused_at ps n e = by (ltb (counted ps) (length ps)) refl (refused_is (outcome_of ps) n e)
   where
-    by : (t : Bool) → ltb (counted ps) (length ps) ≡ t → IsRefused (if t then refused (suc (counted ps)) else report (report_of ps)) n → RefusedAt ps n
+    by : (t : Bool) → ltb (counted ps) (length ps) ≡ t → IsRefused (when t then refused (suc (counted ps)) else report (report_of ps)) n → RefusedAt ps n
     by true l m = record { k = counted ps; number = sym m; first = first_bad ps (ltb-true _ _ l) }
     by false l m = absurd m
 
@@ -87,10 +87,10 @@ unfolding counted
 all_counted ps all h = reported_there ps (omega (arith, all_before ps all))
 
 reported : (ps : List Said) (r : Report) → outcome_of ps ≡ report r → AllPacks ps × (length ps ≤ 65535) × (r ≡ report_of ps)
-unfolding outcome_of counted if◌then◌else◌ IsReport
+unfolding outcome_of counted when◌then◌else◌ IsReport
 reported ps r e = by (ltb (counted ps) (length ps)) refl (report_is (outcome_of ps) r e)
   where
-    by : (t : Bool) → ltb (counted ps) (length ps) ≡ t → IsReport (if t then refused (suc (counted ps)) else report (report_of ps)) r
+    by : (t : Bool) → ltb (counted ps) (length ps) ≡ t → IsReport (when t then refused (suc (counted ps)) else report (report_of ps)) r
         → AllPacks ps × (length ps ≤ 65535) × (r ≡ report_of ps)
     by true l m = absurd m
     by false l m =

@@ -9,7 +9,7 @@ use native.Mathlib.Omega.{arith}
 use lib.ListN.{length}
 use lib.Dec.{leb, eqb}
 use borrow.Author.Tests.{lt-ltb, le-ltb, le-leb, lt-leb, eqb-true, eqb-false}
-use Rattle.protocol.specs.Pick.{if◌then◌else◌}
+use Rattle.protocol.specs.Pick.{when◌then◌else◌}
 use Rattle.hexadecimal.specs.Hex.{value_of, byte_of, bytes_of}
 use Rattle.hexadecimal.specs.Line.{line_bytes}
 use Rattle.packs.specs.declared.Said.TheVariants as said
@@ -36,11 +36,11 @@ digits_more (c ∷ s) b d v = (d.0, digits_more s b d.1 v)
 
 -- two digits are a byte
 pair_byte : (a b : ℕ) → value_of a < 16 → value_of b < 16 → byte_of a b ≡ value_of a * 16 + value_of b
-unfolding byte_of if◌then◌else◌
+unfolding byte_of when◌then◌else◌
 pair_byte a b ha hb = rw (le-ltb 15 (value_of a) (omega arith), le-ltb 15 (value_of b) (omega arith)) refl
 
 two : (a b : ℕ) (s : List ℕ) → value_of a < 16 → value_of b < 16 → bytes_of (a ∷ b ∷ s) ≡ (value_of a * 16 + value_of b) ∷ bytes_of s
-unfolding bytes_of if◌then◌else◌
+unfolding bytes_of when◌then◌else◌
 two a b s ha hb = rw (pair_byte a b ha hb, le-ltb 255 (value_of a * 16 + value_of b) (omega arith)) refl
 
 more : (n : ℕ) → (n ≡ 0 → ⊥) → (n ≡ 1 → ⊥) → 1 < n
@@ -62,38 +62,38 @@ unfolding bytes_say
 nothing_says = refl
 
 none_say : bytes_say (line_bytes []) ≡ said.Nothing
-unfolding bytes_say line_bytes bytes_of if◌then◌else◌
+unfolding bytes_say line_bytes bytes_of when◌then◌else◌
 none_say = refl
 
 single_say : (c : ℕ) → bytes_say (line_bytes (c ∷ [])) ≡ said.Nothing
-unfolding bytes_say line_bytes bytes_of if◌then◌else◌
+unfolding bytes_say line_bytes bytes_of when◌then◌else◌
 single_say c = refl
 
 says_one : (x : ℕ) → bytes_say (x ∷ []) ≡ said.Nothing
-unfolding bytes_say cycles_said answer_said if◌then◌else◌
+unfolding bytes_say cycles_said answer_said when◌then◌else◌
 says_one x = by (eqb x 0) (eqb x 1)
   where
-    by : (t u : Bool) → (if t then said.Nothing else (if u then said.Nothing else said.Nothing)) ≡ said.Nothing
+    by : (t u : Bool) → (when t then said.Nothing else (when u then said.Nothing else said.Nothing)) ≡ said.Nothing
     by true u = refl
     by false true = refl
     by false false = refl
 
 pub says_long : (s : List ℕ) → 4 ≤ length s → bytes_say s ≡ said.Nothing
-unfolding bytes_say cycles_said answer_said if◌then◌else◌
+unfolding bytes_say cycles_said answer_said when◌then◌else◌
 says_long [] h = absurd (omega arith)
 says_long (a ∷ []) h = absurd (omega arith)
 says_long (a ∷ b ∷ []) h = absurd (omega arith)
 says_long (a ∷ b ∷ c ∷ []) h = absurd (omega arith)
 says_long (a ∷ b ∷ c ∷ d ∷ s) h = by (eqb a 0) (eqb a 1)
   where
-    by : (t u : Bool) → (if t then said.Nothing else (if u then said.Nothing else said.Nothing)) ≡ said.Nothing
+    by : (t u : Bool) → (when t then said.Nothing else (when u then said.Nothing else said.Nothing)) ≡ said.Nothing
     by true u = refl
     by false true = refl
     by false false = refl
 
 -- the number of two bytes after a 1: 01 and an answer
 two_say : (x y : ℕ) → x < 256 → y < 256 → said_of (65536 + x * 256 + y) ≡ bytes_say (x ∷ y ∷ [])
-unfolding said_of bytes_say cycles_said answer_said if◌then◌else◌
+unfolding said_of bytes_say cycles_said answer_said when◌then◌else◌
 two_say x y hx hy = by (eqb x 0) refl (eqb x 1) refl (eqb y 0) refl
   where
     line : ℕ
@@ -103,7 +103,7 @@ two_say x y hx hy = by (eqb x 0) refl (eqb x 1) refl (eqb y 0) refl
     few = lt-leb 0x1000000 line (omega arith)
 
     by : (t : Bool) → eqb x 0 ≡ t → (u : Bool) → eqb x 1 ≡ u → (w : Bool) → eqb y 0 ≡ w
-        → said_of line ≡ (if t then said.Nothing else (if u then (if w then said.Nothing else said.Unread y) else said.Nothing))
+        → said_of line ≡ (when t then said.Nothing else (when u then (when w then said.Nothing else said.Unread y) else said.Nothing))
     by true e u f w g = let z = eqb-true x 0 e in rw (few, le-ltb 0x10100 line (omega arith)) refl
     by false e true f true g = let z = eqb-true x 1 f in let n = eqb-true y 0 g in rw (few, le-ltb 0x10100 line (omega arith)) refl
     by false e true f false g =
@@ -116,7 +116,7 @@ two_say x y hx hy = by (eqb x 0) refl (eqb x 1) refl (eqb y 0) refl
 
 -- of three: 00 and the cycles
 three_say : (x y z : ℕ) → x < 256 → y < 256 → z < 256 → said_of (16777216 + x * 65536 + y * 256 + z) ≡ bytes_say (x ∷ y ∷ z ∷ [])
-unfolding said_of bytes_say cycles_said answer_said if◌then◌else◌
+unfolding said_of bytes_say cycles_said answer_said when◌then◌else◌
 three_say x y z hx hy hz = by (eqb x 0) refl (eqb x 1) refl
   where
     line : ℕ
@@ -126,7 +126,7 @@ three_say x y z hx hy hz = by (eqb x 0) refl (eqb x 1) refl
     six = le-leb 0x1000000 line (omega arith)
 
     by : (t : Bool) → eqb x 0 ≡ t → (u : Bool) → eqb x 1 ≡ u
-        → said_of line ≡ (if t then said.Read (y + 256 * z) else (if u then said.Nothing else said.Nothing))
+        → said_of line ≡ (when t then said.Read (y + 256 * z) else (when u then said.Nothing else said.Nothing))
     by true e u f = let n = eqb-true x 0 e in rw (six, lt-ltb line 0x1010000 (omega arith)) (ap said.Read (omega arith))
     by false e true f = let n : 0 < x = pos_of_ne-zero (eqb-false x 0 e) in rw (six, le-ltb line 0x1010000 (omega arith)) refl
     by false e false f = let n : 0 < x = pos_of_ne-zero (eqb-false x 0 e) in rw (six, le-ltb line 0x1010000 (omega arith)) refl
@@ -139,20 +139,20 @@ pub record Held (held : List ℕ) (line : ℕ) : Type 0 where
 
 -- numbers that say nothing
 small_says : (line : ℕ) → line ≤ 0x10100 → said_of line ≡ said.Nothing
-unfolding said_of if◌then◌else◌
+unfolding said_of when◌then◌else◌
 small_says line h = rw (lt-leb 0x1000000 line (omega arith), le-ltb 0x10100 line h) refl
 
 middle_says : (line : ℕ) → 0x10200 ≤ line → line < 0x1000000 → said_of line ≡ said.Nothing
-unfolding said_of if◌then◌else◌
+unfolding said_of when◌then◌else◌
 middle_says line h k = rw (lt-leb 0x1000000 line k, lt-ltb 0x10100 line (omega arith), le-ltb line 0x10200 h) refl
 
 module _ (a b : ℕ) (ha : value_of a < 16) (hb : value_of b < 16) where
   line_two : line_bytes (a ∷ b ∷ []) ≡ (value_of a * 16 + value_of b) ∷ []
-  unfolding line_bytes if◌then◌else◌
+  unfolding line_bytes when◌then◌else◌
   line_two = let e : bytes_of (a ∷ b ∷ []) ≡ (value_of a * 16 + value_of b) ∷ [] = two a b [] ha hb ∙ ap (λ (t : List ℕ). (value_of a * 16 + value_of b) ∷ t) bytes_none in rw e refl
 
   line_three : (c : ℕ) → line_bytes (a ∷ b ∷ c ∷ []) ≡ []
-  unfolding line_bytes if◌then◌else◌
+  unfolding line_bytes when◌then◌else◌
   line_three c = let e : bytes_of (a ∷ b ∷ c ∷ []) ≡ (value_of a * 16 + value_of b) ∷ [] = two a b (c ∷ []) ha hb ∙ ap (λ (t : List ℕ). (value_of a * 16 + value_of b) ∷ t) (bytes_single c) in rw e refl
 
   module _ (c d : ℕ) (hc : value_of c < 16) (hd : value_of d < 16) where
@@ -161,16 +161,16 @@ module _ (a b : ℕ) (ha : value_of a < 16) (hb : value_of b < 16) where
         two a b (c ∷ d ∷ s) ha hb ∙ ap (λ (u : List ℕ). (value_of a * 16 + value_of b) ∷ u) (two c d s hc hd ∙ ap (λ (u : List ℕ). (value_of c * 16 + value_of d) ∷ u) e)
 
     line_four : line_bytes (a ∷ b ∷ c ∷ d ∷ []) ≡ (value_of a * 16 + value_of b) ∷ (value_of c * 16 + value_of d) ∷ []
-    unfolding line_bytes if◌then◌else◌
+    unfolding line_bytes when◌then◌else◌
     line_four = rw (four_bytes [] [] bytes_none) refl
 
     line_five : (e : ℕ) → line_bytes (a ∷ b ∷ c ∷ d ∷ e ∷ []) ≡ []
-    unfolding line_bytes if◌then◌else◌
+    unfolding line_bytes when◌then◌else◌
     line_five e = rw (four_bytes (e ∷ []) [] (bytes_single e)) refl
 
     line_six : (e f : ℕ) → value_of e < 16 → value_of f < 16
         → line_bytes (a ∷ b ∷ c ∷ d ∷ e ∷ f ∷ []) ≡ (value_of a * 16 + value_of b) ∷ (value_of c * 16 + value_of d) ∷ (value_of e * 16 + value_of f) ∷ []
-    unfolding line_bytes if◌then◌else◌
+    unfolding line_bytes when◌then◌else◌
     line_six e f he hf =
         rw (four_bytes (e ∷ f ∷ []) ((value_of e * 16 + value_of f) ∷ []) (two e f [] he hf ∙ ap (λ (t : List ℕ). (value_of e * 16 + value_of f) ∷ t) bytes_none)) refl
 

@@ -10,7 +10,7 @@ use native.Mathlib.Omega.{arith}
 use lib.ListN.{length, drop, get_or}
 use lib.Dec.{leb, eqb}
 use borrow.Author.Tests.{leb-true, leb-false, eqb-true, eqb-false}
-use Rattle.protocol.specs.Pick.{if◌then◌else◌}
+use Rattle.protocol.specs.Pick.{when◌then◌else◌}
 use Rattle.protocol.specs.Answer.{number_of}
 use Rattle.protocol.specs.declared.error.Answer.TheVariants as answer
 use Rattle.hexadecimal.specs.Text.{ascii}
@@ -93,12 +93,12 @@ sum_first n x = refl
 
 -- the line of an answer number is not among those of later ones, nor after them
 not_later : (f : ℕ → ℕ) (n j k m : ℕ) (x y : List ℕ) → k < j → j + n ≤ 256 → first_of x ≡ 115 → by_number f n j ++ x ≡ line (unread_by k) m ++ y → ⊥
-unfolding by_number if◌then◌else◌
+unfolding by_number when◌then◌else◌
 not_later f zero j k m x y l h s e = begin_apart x (line (unread_by k) m ++ y) 115 117 s (answer_first k m y) (omega arith) e
 not_later f (suc n) j k m x y l h s e = by (not_later f n (suc j) k m x y (omega arith) (omega arith) s) (eqb (f j) 0) e
   where
     by : (by_number f n (suc j) ++ x ≡ line (unread_by k) m ++ y → ⊥) → (t : Bool)
-        → ((if t then [] else line (unread_by j) (f j)) ++ by_number f n (suc j)) ++ x ≡ line (unread_by k) m ++ y → ⊥
+        → ((when t then [] else line (unread_by j) (f j)) ++ by_number f n (suc j)) ++ x ≡ line (unread_by k) m ++ y → ⊥
     by rest true e = rest e
     by rest false e =
         let p : j ≡ k =
@@ -119,12 +119,12 @@ same_next f g n k e rest j l h = by (eqb k j) refl
 -- the lines of the answer numbers tell each of them, and what follows them
 module _ (f g : ℕ → ℕ) (x y : List ℕ) (hf : (k : ℕ) → f k < 10000000000) (hg : (k : ℕ) → g k < 10000000000) (sx : first_of x ≡ 115) (sy : first_of y ≡ 115) where
   by_tells : (n k : ℕ) → k + n ≤ 256 → by_number f n k ++ x ≡ by_number g n k ++ y → SameFrom f g n k × (x ≡ y)
-  unfolding by_number if◌then◌else◌
+  unfolding by_number when◌then◌else◌
   by_tells zero k h e = (λ j l m. absurd (omega arith), e)
   by_tells (suc n) k h e = by (by_tells n (suc k) (omega arith)) (eqb (f k) 0) (eqb (g k) 0) refl refl e
     where
       by : (by_number f n (suc k) ++ x ≡ by_number g n (suc k) ++ y → SameFrom f g n (suc k) × (x ≡ y)) → (t u : Bool) → eqb (f k) 0 ≡ t → eqb (g k) 0 ≡ u
-          → ((if t then [] else line (unread_by k) (f k)) ++ by_number f n (suc k)) ++ x ≡ ((if u then [] else line (unread_by k) (g k)) ++ by_number g n (suc k)) ++ y
+          → ((when t then [] else line (unread_by k) (f k)) ++ by_number f n (suc k)) ++ x ≡ ((when u then [] else line (unread_by k) (g k)) ++ by_number g n (suc k)) ++ y
           → SameFrom f g (suc n) k × (x ≡ y)
       by rest true true p q e = let r = rest e in (same_next f g n k (eqb-true (f k) 0 p ∙ sym (eqb-true (g k) 0 q)) r.0, r.1)
       by rest true false p q e =
@@ -263,7 +263,7 @@ inputs_tell s t e = by (files.every s) (files.every t)
         files.refuses s a ∙ ap refused n ∙ sym (files.refuses t b)
 
 eleven : decimal_of (number_of answer.BadLine) ≡ ascii "11"
-unfolding decimal_of in_places ascii if◌then◌else◌
+unfolding decimal_of in_places ascii when◌then◌else◌
 eleven = refl
 
 pub tells : Tells

@@ -2,7 +2,7 @@
 -- Assumes nothing.
 use Rattle.std.specs.Prelude.{ℕ, suc, ◌+◌, ◌*◌, ◌/◌, ◌%◌, min, max, List, [], ◌∷◌, ◌++◌, map, length, ltb, eqb}
 use Rattle.std.proofs.Math.Option.{Option, none, some}
-use Rattle.protocol.specs.Pick.{if◌then◌else◌}
+use Rattle.protocol.specs.Pick.{when◌then◌else◌}
 use Rattle.hexadecimal.specs.Line.{line_bytes}
 use Rattle.lines.specs.Input.{lines_from, rest_from}
 use Rattle.packs.specs.declared.Said.{Said}
@@ -19,13 +19,13 @@ cycles_said (low ∷ high ∷ b ∷ s) = said.Nothing
 -- after 01, one byte: the answer that stopped the read, which is not 0
 unfoldable pub answer_said : List ℕ → Said
 answer_said [] = said.Nothing
-answer_said (answer ∷ []) = if eqb answer 0 then said.Nothing else said.Unread answer
+answer_said (answer ∷ []) = when eqb answer 0 then said.Nothing else said.Unread answer
 answer_said (answer ∷ b ∷ s) = said.Nothing
 
 -- what the bytes of a line say
 unfoldable pub bytes_say : List ℕ → Said
 bytes_say [] = said.Nothing
-bytes_say (kind ∷ s) = if eqb kind 0 then cycles_said s else if eqb kind 1 then answer_said s else said.Nothing
+bytes_say (kind ∷ s) = when eqb kind 0 then cycles_said s else when eqb kind 1 then answer_said s else said.Nothing
 
 -- what a line says: upper-case hexadecimal, as on the bench
 unfoldable pub line_says : List ℕ → Said
@@ -33,7 +33,7 @@ line_says line = bytes_say (line_bytes line)
 
 -- what the lines of an input say; what follows its last line feed is no pack
 unfoldable pub said_in : List ℕ → List Said
-said_in input = map line_says (lines_from [] input) ++ (if eqb (length (rest_from [] input)) 0 then [] else said.Nothing ∷ [])
+said_in input = map line_says (lines_from [] input) ++ (when eqb (length (rest_from [] input)) 0 then [] else said.Nothing ∷ [])
 
 -- the cycles of the packs that were read
 unfoldable pub cycles_in : List Said → List ℕ
@@ -56,7 +56,7 @@ total (n ∷ s) = n + total s
 -- how often a number occurs
 unfoldable pub occurs : ℕ → List ℕ → ℕ
 occurs k [] = 0
-occurs k (n ∷ s) = if eqb n k then suc (occurs k s) else occurs k s
+occurs k (n ∷ s) = when eqb n k then suc (occurs k s) else occurs k s
 
 -- the lowest and the highest of a number and others
 unfoldable pub lowest_of : ℕ → List ℕ → ℕ
@@ -97,7 +97,7 @@ counted ps = min (packs_before ps) 65535
 
 -- a line that is not counted is refused, the first by its number; else there is a report
 unfoldable pub outcome_of : List Said → Outcome
-outcome_of ps = if ltb (counted ps) (length ps) then refused (suc (counted ps)) else report (report_of ps)
+outcome_of ps = when ltb (counted ps) (length ps) then refused (suc (counted ps)) else report (report_of ps)
 
 -- what is printed for an input
 unfoldable pub printed_of : List ℕ → List ℕ

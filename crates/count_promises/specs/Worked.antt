@@ -2,7 +2,7 @@
 -- Assumes nothing.
 use Prim.Native.String.{String}
 use Rattle.std.specs.Prelude.{◌≡◌, refl, List, [], ◌∷◌}
-use Rattle.protocol.specs.Pick.{if◌then◌else◌}
+use Rattle.protocol.specs.Pick.{when◌then◌else◌}
 use Rattle.hexadecimal.specs.Text.{ascii}
 use Rattle.hexadecimal.specs.Hex as hex
 use Rattle.hexadecimal.specs.Line.{line_bytes}
@@ -80,6 +80,6 @@ Hold [] = Unit {0}
 Hold (text input output ∷ more) = (printed_of (ascii input) ≡ ascii output) × Hold more
 
 pub cases_hold : Hold cases
-unfolding cases ascii if◌then◌else◌ hex.value_of hex.byte_of hex.bytes_of line_bytes input.lines_from input.rest_from decimal.in_places decimal.decimal_of report.line report.by_number report.of_read report.text_of
+unfolding cases ascii when◌then◌else◌ hex.value_of hex.byte_of hex.bytes_of line_bytes input.lines_from input.rest_from decimal.in_places decimal.decimal_of report.line report.by_number report.of_read report.text_of
     packs.cycles_said packs.answer_said packs.bytes_say packs.line_says packs.said_in packs.cycles_in packs.answers_in packs.total packs.occurs packs.lowest_of packs.highest_of packs.figures_of packs.report_of packs.packs_before packs.counted packs.outcome_of packs.printed_of
 cases_hold = (refl, (refl, (refl, (refl, (refl, (refl, (refl, (refl, (refl, (refl, (refl, (refl, (refl, (refl, (refl, (refl, (refl, (refl, (refl, (refl, (refl, (refl, (refl, (refl, (refl, (refl, (refl, (refl, (refl, (refl, (refl, (refl, (refl, (refl, (refl, (refl, (refl, (refl, (refl, (refl, tt))))))))))))))))))))))))))))))))))))))))

@@ -8,7 +8,7 @@ use native.Mathlib.Numerals.{add-one}
 use lib.ListN.{length, drop, get_or, drop_of_length-le}
 use lib.Seq.{drop-cons}
 use borrow.Author.Tests.{lt-ltb, le-ltb}
-use Rattle.protocol.specs.Pick.{if◌then◌else◌}
+use Rattle.protocol.specs.Pick.{when◌then◌else◌}
 use Rattle.courses.specs.Course.{fate_of, fates_of, sound_of}
 use Rattle.courses.specs.Run.{World, step_of, drive_of}
 use Rattle.model_gauge.specs.declared.gauge.Fate.{Fate}
@@ -16,11 +16,11 @@ use Rattle.model_gauge.specs.declared.gauge.Fate.{Fate}
 -- ---- whether it is sound
 
 pub sound_stop : (course : List ℕ) (i : ℕ) → i < length course → 2 < get_or course i 0 → sound_of (drop i course) ≡ false
-unfolding sound_of if◌then◌else◌
+unfolding sound_of when◌then◌else◌
 sound_stop course i h bad = rw (drop-cons course i 0 h, lt-ltb 2 (get_or course i 0) bad)
 
 pub sound_on : (course : List ℕ) (i : ℕ) → i < length course → get_or course i 0 ≤ 2 → sound_of (drop (i + 1) course) ≡ sound_of (drop i course)
-unfolding sound_of if◌then◌else◌
+unfolding sound_of when◌then◌else◌
 sound_on course i h good = rw (add-one, drop-cons course i 0 h, le-ltb 2 (get_or course i 0) good)
 
 pub sound_all : (course : List ℕ) (i : ℕ) → length course ≤ i → sound_of (drop i course) ≡ true

@@ -7,7 +7,7 @@ use mathlib.Core.List.{List, [], ◌∷◌, ◌++◌}
 use lib.ListN.{length}
 use lib.Dec.{ltb, eqb}
 use borrow.Author.Tests.{eq-eqb, ne_eqb, lt-ltb, ltb-true, eqb-true}
-use Rattle.protocol.specs.Pick.{if◌then◌else◌}
+use Rattle.protocol.specs.Pick.{when◌then◌else◌}
 use Rattle.protocol.specs.declared.error.Answer.{Answer}
 use Rattle.protocol.specs.declared.error.Answer.TheVariants as answer
 use Rattle.engine.specs.Pick.{case◌waiting◌ended◌}
@@ -31,13 +31,13 @@ use Rattle.courses.specs.declared.run.Link.{Link}
 
 -- ---- whether a run starts
 
-either : (t s : Bool) → s ≡ false → (if t then false else s) ≡ false
-unfolding if◌then◌else◌
+either : (t s : Bool) → s ≡ false → (when t then false else s) ≡ false
+unfolding when◌then◌else◌
 either true s e = refl
 either false s e = e
 
 not_sound : (front back : List ℕ) (byte : ℕ) → 2 < byte → sound_of (front ++ byte ∷ back) ≡ false
-unfolding sound_of if◌then◌else◌
+unfolding sound_of when◌then◌else◌
 not_sound [] back byte h = rw (lt-ltb 2 byte h)
 not_sound (x ∷ front) back byte h = either (ltb 2 x) (sound_of (front ++ byte ∷ back)) (not_sound front back byte h)
 
@@ -45,7 +45,7 @@ unsound : (course : List ℕ) → BadByte course → sound_of course ≡ false
 unsound course (front, byte, back, is, h) = ap sound_of is ∙ not_sound front back byte h
 
 pub bad_of : (course : List ℕ) → sound_of course ≡ false → BadByte course
-unfolding sound_of if◌then◌else◌
+unfolding sound_of when◌then◌else◌
 bad_of [] e = absurd (false≢true (sym e))
 bad_of (byte ∷ course) e = by (ltb 2 byte) refl (bad_of course)
   where
@@ -61,15 +61,15 @@ all_good course good = by (sound_of course) refl
     by false t = absurd (good (bad_of course t))
 
 admit_flash : (n : ℕ) (course : List ℕ) → (n ≡ 8192 → ⊥) → admit_of n course ≡ admitted.Refused answer.WrongBuffer
-unfolding admit_of if◌then◌else◌
+unfolding admit_of when◌then◌else◌
 admit_flash n course h = rw (ne_eqb n 8192 h)
 
 admit_course : (n : ℕ) (course : List ℕ) → n ≡ 8192 → BadByte course → admit_of n course ≡ admitted.Refused answer.BadLine
-unfolding admit_of if◌then◌else◌
+unfolding admit_of when◌then◌else◌
 admit_course n course h b = rw (eq-eqb n 8192 h, unsound course b)
 
 admit_all : (n : ℕ) (course : List ℕ) → n ≡ 8192 → sound_of course ≡ true → admit_of n course ≡ admitted.Yes
-unfolding admit_of if◌then◌else◌
+unfolding admit_of when◌then◌else◌
 admit_all n course h s = rw (eq-eqb n 8192 h, s)
 
 -- ---- what is lent
@@ -98,7 +98,7 @@ shows_over (call.Read c) payload n work a over = (rw over, rw over)
 
 shows_other : (c : Call) (payload : List ℕ) (n : ℕ) (work : List ℕ) → phase_of c ≡ phase.Waiting → fits_of c (length payload) n (length work) ≡ false
     → (next_of c payload n (length work) ≡ transfer.Refused answer.WrongBuffer) × (work_after c payload n work ≡ work)
-unfolding phase_of fits_of next_of work_after writing.next_of writing.work_after reading.next_of reading.work_after case◌waiting◌ended◌ if◌then◌else◌
+unfolding phase_of fits_of next_of work_after writing.next_of writing.work_after reading.next_of reading.work_after case◌waiting◌ended◌ when◌then◌else◌
 shows_other (call.Write c) payload n work waits other = (rw (waits, other), rw (waits, other))
 shows_other (call.Read c) payload n work waits other = (rw (waits, other), rw (waits, other))
 
@@ -134,13 +134,13 @@ module _ (payload buffer work flash : List ℕ) (link : Link) where
   is_other : (course : List ℕ) → length flash ≡ 8192 → sound_of course ≡ true → phase_of link.call ≡ phase.Waiting
       → fits_of link.call (length payload) (length buffer) (length work) ≡ false
       → run_of payload course (world link buffer work flash) ≡ unchanged answer.WrongBuffer link buffer work flash
-  unfolding step_of end_of case◌waiting◌ended◌ case◌sending◌to◌none◌ if◌then◌else◌
+  unfolding step_of end_of case◌waiting◌ended◌ case◌sending◌to◌none◌ when◌then◌else◌
   is_other course h s waits other =
       let shown = shows_other link.call payload (length buffer) work waits other in
       idle shown.1 (λ f. rw shown.0) course answer.WrongBuffer h s (rw (waits, other))
 
 pub figures : Figures
-unfolding fate_of fates_of if◌then◌else◌
+unfolding fate_of fates_of when◌then◌else◌
 figures = record {
   fates_none = refl;
   fates = λ course. (refl, refl, refl);

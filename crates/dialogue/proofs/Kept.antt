@@ -11,7 +11,7 @@ use lib.Dec.{ltb, leb, eqb}
 use borrow.Author.Tests.{ltb-false, leb-true, leb-false}
 use Rattle.hexadecimal.specs.Hex.{bytes_of, out_decoded}
 use Rattle.hexadecimal.proofs.Inverse.{length_bytes}
-use Rattle.protocol.specs.Pick.{if◌then◌else◌}
+use Rattle.protocol.specs.Pick.{when◌then◌else◌}
 use Rattle.protocol.specs.Bytes.{over, block_in, stored_at}
 use Rattle.protocol.proofs.Laws.{length_over, take_over}
 use Rattle.engine.specs.declared.bus.Outcome.{Outcome}
@@ -29,17 +29,17 @@ use Rattle.requests.specs.declared.outcome.Told.TheVariants as told
 use Rattle.dialogue.specs.Dialogue.{filled, hear_buffer_by, hear_buffer}
 
 pub length_decoded : (s out : List ℕ) → length (out_decoded s out) ≡ length out
-unfolding out_decoded if◌then◌else◌
+unfolding out_decoded when◌then◌else◌
 length_decoded s out = by₁ (eqb (length s % 2) 1)
   where
-    by₂ : (t : Bool) → ltb (length out) (length s / 2) ≡ t → length (if t then out else bytes_of s ++ drop (length (bytes_of s)) out) ≡ length out
+    by₂ : (t : Bool) → ltb (length out) (length s / 2) ≡ t → length (when t then out else bytes_of s ++ drop (length (bytes_of s)) out) ≡ length out
     by₂ true e = refl
     by₂ false e =
         let h : length s / 2 ≤ length out = ltb-false (length out) (length s / 2) e in
         let k : length (bytes_of s) ≤ length out = omega (arith, length_bytes s) in
         rw (length-append, length-drop) (omega arith)
 
-    by₁ : (t : Bool) → length (if t then out else if ltb (length out) (length s / 2) then out else bytes_of s ++ drop (length (bytes_of s)) out) ≡ length out
+    by₁ : (t : Bool) → length (when t then out else when ltb (length out) (length s / 2) then out else bytes_of s ++ drop (length (bytes_of s)) out) ≡ length out
     by₁ true = refl
     by₁ false = by₂ (ltb (length out) (length s / 2)) refl
 
@@ -48,10 +48,10 @@ unfolding block_in
 length_block_in most b w = length_over (take (min most (min (length b) (length w))) b) w (rw length-take (omega arith))
 
 pub length_stored : (at most : ℕ) (b w : List ℕ) → length (stored_at at most b w) ≡ length w
-unfolding stored_at if◌then◌else◌
+unfolding stored_at when◌then◌else◌
 length_stored at most b w = by (leb at (length w)) refl
   where
-    by : (t : Bool) → leb at (length w) ≡ t → length (if t then take at w ++ block_in most b (drop at w) else w) ≡ length w
+    by : (t : Bool) → leb at (length w) ≡ t → length (when t then take at w ++ block_in most b (drop at w) else w) ≡ length w
     by true e =
         let h : at ≤ length w = leb-true at (length w) e in
         rw (length-append, length_block_in, length-take, length-drop) (omega arith)

@@ -8,7 +8,7 @@ use native.Mathlib.Omega.{arith}
 use lib.ListN.{length, take, drop, replicate, length-take, length-drop, length-replicate}
 use lib.Dec.{eqb}
 use borrow.Author.Tests.{le-leb}
-use Rattle.protocol.specs.Pick.{if◌then◌else◌}
+use Rattle.protocol.specs.Pick.{when◌then◌else◌}
 use Rattle.protocol.specs.Bytes.{send_of}
 use Rattle.protocol.specs.Frame.{pair_of}
 use Rattle.protocol.proofs.Laws.{take_over}
@@ -49,7 +49,7 @@ AllShort lines = All Short lines
 
 -- where the longest has room as digits and a line feed, a short line is printed whole
 pub printed_whole : (s out : List ℕ) → Short s → longest_said * 2 + 1 ≤ length out → (printed_of s (length out) ≡ length (feed_bytes s)) × (take (length (feed_bytes s)) (out_printed s out) ≡ feed_bytes s)
-unfolding printed_of out_printed if◌then◌else◌
+unfolding printed_of out_printed when◌then◌else◌
 printed_whole s out h e =
     let fits : length s * 2 + 1 ≤ length out = omega arith in
     rw (le-leb (length s * 2 + 1) (length out) fits) (refl, take_over (feed_bytes s) out)
@@ -59,10 +59,10 @@ unfolding end_said pair_of quad_of
 short_end a tally buffer h = omega arith
 
 short_last : (tally : Tally) (left : ℕ) (buffer : List ℕ) → length buffer ≤ 8192 → Short (last_of tally left buffer)
-unfolding last_of if◌then◌else◌ cut_said quad_of
+unfolding last_of when◌then◌else◌ cut_said quad_of
 short_last tally left buffer h = by (eqb left 0)
   where
-    by : (t : Bool) → Short (if t then cut_said tally buffer else end_said answer.BadLine tally buffer)
+    by : (t : Bool) → Short (when t then cut_said tally buffer else end_said answer.BadLine tally buffer)
     by true = omega arith
     by false = short_end answer.BadLine tally buffer h
 
@@ -82,10 +82,10 @@ length_front : (n : ℕ) (s : List ℕ) → length s ≤ 8192 → length (take n
 length_front n s h = rw length-take (omega arith)
 
 length_part : (c : Call) (payload work : List ℕ) (n : ℕ) → length payload ≤ 8192 → length work ≤ 8192 → length (part_of c payload work n) ≤ 8192
-unfolding part_of writing.part_of send_of if◌then◌else◌
+unfolding part_of writing.part_of send_of when◌then◌else◌
 length_part (call.Write c) payload work n p w = by (writing.own_bytes c)
   where
-    by : (o : Bool) → length (if o then take n payload else take n work) ≤ 8192
+    by : (o : Bool) → length (when o then take n payload else take n work) ≤ 8192
     by true = length_front n payload p
     by false = length_front n work w
 length_part (call.Read c) payload work n p w = length_front n work w
@@ -127,10 +127,10 @@ short_request (request.Call kind config at n) bytes lines rest h =
 short_request (request.Refused a) bytes lines rest h = (short_end a nothing [] (omega arith), tt)
 
 small_asked : (line : List ℕ) → Small (length (line_bytes line)) (request_of line)
-unfolding request_of if◌then◌else◌
+unfolding request_of when◌then◌else◌
 small_asked line = by (retired_kind line)
   where
-    by : (t : Bool) → Small (length (line_bytes line)) (if t then request.Refused answer.RetiredKind else request_line (line_bytes line))
+    by : (t : Bool) → Small (length (line_bytes line)) (when t then request.Refused answer.RetiredKind else request_line (line_bytes line))
     by true = tt
     by false = small_request (line_bytes line)
 

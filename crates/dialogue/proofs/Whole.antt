@@ -10,7 +10,7 @@ use lib.ListN.{length, take, drop, length-append, length-drop, take-append-drop}
 use lib.Seq.{length-take-le, take_at}
 use borrow.Author.Tests.{le-leb}
 use Rattle.hexadecimal.specs.Hex.{out_decoded}
-use Rattle.protocol.specs.Pick.{if◌then◌else◌}
+use Rattle.protocol.specs.Pick.{when◌then◌else◌}
 use Rattle.calls.specs.Call as calls
 use Rattle.calls.specs.declared.call.Call.{Call}
 use Rattle.calls.specs.declared.call.Reported.{Reported}
@@ -40,7 +40,7 @@ onward s R Y B lines rest = then_say s.saying (machine_of s.run R Y B lines rest
 -- an outcome line is decoded to its bytes, or is bad either way
 heard_line : (line Y : List ℕ) → 8193 ≤ length Y
     → (dialogue.bytes_in line Y ≡ line_bytes line) ⊎ ((outcome_line (dialogue.bytes_in line Y) ≡ told.Bad) × (outcome_line (line_bytes line) ≡ told.Bad))
-unfolding outcome_line if◌then◌else◌
+unfolding outcome_line when◌then◌else◌
 heard_line line Y h =
     ⊎_elim (λ e. inl e)
     (λ p. inr (ap outcome_line p.0, long_outcome (line_bytes line) (omega (arith, p.1))))
@@ -105,7 +105,7 @@ asked_line line R h =
     (decoded_line line R)
 
 room_enough : (call : Call) (n room : ℕ) → n ≤ room → dialogue.room_for call n room ≡ reported.Taken call
-unfolding dialogue.room_for if◌then◌else◌
+unfolding dialogue.room_for when◌then◌else◌
 room_enough call n room h = rw (le-leb n room h)
 
 -- a run from its request on
@@ -142,7 +142,7 @@ begin_on_line l m R Y B lines rest payload y b (inr q) =
 pub whole : (lines : List (List ℕ)) (rest request outcome buffer : List ℕ) → longest_request ≤ length request → 8193 ≤ length outcome → 8192 ≤ length buffer
     → machine_of run.Fresh request outcome buffer lines rest ≡ bench_of lines rest
 unfolding machine_of bench_of request_of request_then then_say dialogue.close_of dialogue.answer_of dialogue.request_after dialogue.outcome_after dialogue.buffer_after
-    dialogue.first_of dialogue.first_request dialogue.first_buffer dialogue.refused_of onward if◌then◌else◌
+    dialogue.first_of dialogue.first_request dialogue.first_buffer dialogue.refused_of onward when◌then◌else◌
 whole [] rest R Y B r y b = refl
 whole (line ∷ lines) rest R Y B r y b = by (retired_kind line) refl
   where

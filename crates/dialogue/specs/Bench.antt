@@ -2,7 +2,7 @@
 -- Assumes nothing.
 use Rattle.std.specs.Prelude.{ℕ, List, [], ◌∷◌, length, drop, replicate}
 use Rattle.hexadecimal.specs.Line.{line_bytes}
-use Rattle.protocol.specs.Pick.{if◌then◌else◌}
+use Rattle.protocol.specs.Pick.{when◌then◌else◌}
 use Rattle.protocol.specs.declared.error.Answer.TheVariants as answer
 use Rattle.engine.specs.Budget.{nothing}
 use Rattle.calls.specs.Call.{start_of, report_of, buffer_after, tally_of}
@@ -54,7 +54,7 @@ request_then (request.Refused a) bytes lines rest = end_said a nothing [] ∷ []
 
 -- what a request line asks for: nothing where its kind is retired, whatever else is on it
 unfoldable pub request_of : List ℕ → Request
-request_of line = if retired_kind line then request.Refused answer.RetiredKind else request_line (line_bytes line)
+request_of line = when retired_kind line then request.Refused answer.RetiredKind else request_line (line_bytes line)
 
 -- the bench
 unfoldable pub bench_of : List (List ℕ) → List ℕ → List (List ℕ)

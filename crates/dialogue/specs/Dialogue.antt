@@ -4,7 +4,7 @@ use Rattle.std.specs.Prelude.{ℕ, min, List, [], ◌++◌, length, take, drop, 
 use Rattle.hexadecimal.specs.Hex.{decoded_of, out_decoded}
 use Rattle.hexadecimal.specs.declared.Decoded.{Decoded}
 use Rattle.hexadecimal.specs.declared.Decoded.TheVariants as decoded
-use Rattle.protocol.specs.Pick.{if◌then◌else◌}
+use Rattle.protocol.specs.Pick.{when◌then◌else◌}
 use Rattle.protocol.specs.Bytes.{over}
 use Rattle.protocol.specs.declared.common.Config.{Config}
 use Rattle.protocol.specs.declared.error.Answer.{Answer}
@@ -107,7 +107,7 @@ say_of (reported.Taken call) place payload buffer = show_of call place payload b
 
 -- 8 where less is lent than a buffer of n bytes
 unfoldable pub room_for : Call → ℕ → ℕ → Reported
-room_for call n room = if leb n room then reported.Taken call else reported.Refused answer.WrongBuffer call
+room_for call n room = when leb n room then reported.Taken call else reported.Refused answer.WrongBuffer call
 
 -- a call starts, with the rest of the line as its payload and a buffer of n bytes of those that are lent
 unfoldable pub open_of : Kind → Config → ℕ → ℕ → List ℕ → List ℕ → Spoken
@@ -136,13 +136,13 @@ begin_buffer line buffer = fill_by (request_line line) buffer
 
 -- the request line: a retired kind is refused before anything else on it is looked at
 unfoldable pub first_of : List ℕ → List ℕ → List ℕ → Spoken
-first_of line request buffer = if retired_kind line then refused_of answer.RetiredKind else begin_of (bytes_in line request) buffer
+first_of line request buffer = when retired_kind line then refused_of answer.RetiredKind else begin_of (bytes_in line request) buffer
 
 unfoldable pub first_request : List ℕ → List ℕ → List ℕ
-first_request line request = if retired_kind line then request else out_decoded line request
+first_request line request = when retired_kind line then request else out_decoded line request
 
 unfoldable pub first_buffer : List ℕ → List ℕ → List ℕ → List ℕ
-first_buffer line request buffer = if retired_kind line then buffer else begin_buffer (bytes_in line request) buffer
+first_buffer line request buffer = when retired_kind line then buffer else begin_buffer (bytes_in line request) buffer
 
 unfoldable pub hear_by : Told → Call → List ℕ → ℕ → ℕ → Reported
 hear_by (told.Outcome o) call line p n = calls.report_of call o (drop 1 line) p n 39
@@ -191,11 +191,11 @@ buffer_after (run.Call call place) line request outcome buffer = go_buffer call 
 
 -- no outcomes are left, or so many bytes of a last line that lacks its line feed; one that is too long to be held is as bad
 unfoldable pub last_of : Tally → ℕ → List ℕ → List ℕ
-last_of tally left buffer = if eqb left 0 then cut_said tally buffer else end_said answer.BadLine tally buffer
+last_of tally left buffer = when eqb left 0 then cut_said tally buffer else end_said answer.BadLine tally buffer
 
 -- a request line that lacks its line feed, or is too long to be held, is bad, unless its kind is retired
 unfoldable pub unfinished_of : List ℕ → Answer
-unfinished_of line = if retired_kind line then answer.RetiredKind else answer.BadLine
+unfinished_of line = when retired_kind line then answer.RetiredKind else answer.BadLine
 
 unfoldable pub close_of : Run → List ℕ → List ℕ → List ℕ
 close_of run.Fresh line buffer = end_said (unfinished_of line) nothing []

@@ -1,7 +1,7 @@
 -- What passes between a call and the bus, and where a call stands. (01, The step machine)
 -- Assumes nothing.
 use Rattle.std.specs.Prelude.{ℕ, Bool, ◌&&◌, leb, eqb}
-use Rattle.protocol.specs.Pick.{if◌then◌else◌}
+use Rattle.protocol.specs.Pick.{when◌then◌else◌}
 use Rattle.protocol.specs.declared.error.Answer.TheVariants as answer
 use Rattle.protocol.specs.declared.frame.Laid.{Laid}
 use Rattle.protocol.specs.declared.frame.Laid.TheVariants as laid
@@ -18,7 +18,7 @@ write_of laid.NoRoom = transfer.Refused answer.WrongBuffer
 
 -- a call of so many steps is done once it has made them all
 unfoldable pub phase_after : ℕ → ℕ → Phase
-phase_after steps made = if leb steps made then phase.Ended answer.Done else phase.Waiting
+phase_after steps made = when leb steps made then phase.Ended answer.Done else phase.Waiting
 
 -- the lent lengths are those of the start
 unfoldable pub fits_of : Lent → ℕ → ℕ → Bool

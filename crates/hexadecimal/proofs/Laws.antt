@@ -9,7 +9,7 @@ use native.Mathlib.Omega.{arith}
 use lib.ListN.{length, take, drop, get_or, set, length-append, take-append-drop}
 use lib.Seq.{length-take-le, drop-cons, take-suc, take-suc-set, drop-drop, set_at, append_snoc}
 use borrow.Author.Tests.{lt-ltb, le-ltb}
-use Rattle.protocol.specs.Pick.{if◌then◌else◌}
+use Rattle.protocol.specs.Pick.{when◌then◌else◌}
 use Rattle.hexadecimal.specs.Hex.{byte_of, bytes_of, digit_of, hex_of}
 
 -- two values that calls gave, as a byte
@@ -26,11 +26,11 @@ two s i h =
 
 pub good_pair : (s : List ℕ) (i : ℕ) → i * 2 + 1 < length s → byte_of (get_or s (i * 2) 0) (get_or s (i * 2 + 1) 0) ≤ 255
     → bytes_of (drop (i * 2) s) ≡ byte_of (get_or s (i * 2) 0) (get_or s (i * 2 + 1) 0) ∷ bytes_of (drop ((i + 1) * 2) s)
-unfolding bytes_of if◌then◌else◌
+unfolding bytes_of when◌then◌else◌
 good_pair s i h g = ap bytes_of (two s i h) ∙ rw (le-ltb 255 (byte_of (get_or s (i * 2) 0) (get_or s (i * 2 + 1) 0)) g)
 
 pub bad_pair : (s : List ℕ) (i : ℕ) → i * 2 + 1 < length s → 255 < byte_of (get_or s (i * 2) 0) (get_or s (i * 2 + 1) 0) → bytes_of (drop (i * 2) s) ≡ []
-unfolding bytes_of if◌then◌else◌
+unfolding bytes_of when◌then◌else◌
 bad_pair s i h g = ap bytes_of (two s i h) ∙ rw (lt-ltb 255 (byte_of (get_or s (i * 2) 0) (get_or s (i * 2 + 1) 0)) g)
 
 -- a turn of `decode`: one byte more is laid

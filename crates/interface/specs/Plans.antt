@@ -1,7 +1,7 @@
 -- Each call of interface.rs as a plan: its retries, its limit, its PEC, its frames. (01, The step machine, length limits; Frames and retries)
 -- Assumes nothing.
 use Rattle.std.specs.Prelude.{ℕ, ◌/◌, ◌%◌, Bool, false, eqb}
-use Rattle.protocol.specs.Pick.{if◌then◌else◌}
+use Rattle.protocol.specs.Pick.{when◌then◌else◌}
 use Rattle.protocol.specs.Reply.{plain_ask, mac_ask}
 use Rattle.protocol.specs.declared.common.Config.{Config}
 use Rattle.engine.specs.declared.limit.Limit.{Limit}
@@ -17,7 +17,7 @@ use Rattle.reading.specs.declared.call.ReadPlan.{ReadPlan}
 
 -- a plain write has at most 38 bytes with PEC, and no limit without
 unfoldable pub plain_limit : Bool → Limit
-plain_limit pec = if pec then limit.AtMost 38 else limit.Free
+plain_limit pec = when pec then limit.AtMost 38 else limit.Free
 
 -- the caller's own frame
 unfoldable pub write_with_retries : Config → WritePlan
@@ -34,7 +34,7 @@ read_register config address n = reading.plain_plan config (limit.AtMost 32) (pl
 -- a command with no output reads nothing, and is a write; the read that follows one with an output sends bits 23..16 as its command
 unfoldable pub command_reads : Config → ℕ → ℕ → Reads
 command_reads config address n =
-    if eqb n 0 then reads.Nothing else reads.Once (mac_ask (address / 65536 % 256) n config.pec_read)
+    when eqb n 0 then reads.Nothing else reads.Once (mac_ask (address / 65536 % 256) n config.pec_read)
 
 -- a command beside an input of so many bytes, with an output of n
 unfoldable pub dispatch_command : Config → ℕ → ℕ → ℕ → ReadPlan

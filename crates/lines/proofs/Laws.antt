@@ -9,7 +9,7 @@ use lib.ListN.{length, take, drop, get_or, drop_of_length-le}
 use lib.Seq.{drop-cons}
 use lib.Dec.{eqb}
 use borrow.Author.Tests.{eq-eqb, ne_eqb}
-use Rattle.protocol.specs.Pick.{if◌then◌else◌}
+use Rattle.protocol.specs.Pick.{when◌then◌else◌}
 use Rattle.protocol.specs.Bytes.{stored_at}
 use Rattle.lines.specs.Lines.{before_feed, kept_of}
 use Rattle.lines.specs.declared.Took.{Took}
@@ -17,12 +17,12 @@ use Rattle.lines.specs.declared.Took.TheVariants as took
 
 -- no line feed at i: one byte more
 pub before_more : (s : List ℕ) (i : ℕ) → i < length s → (get_or s i 0 ≡ 10 → ⊥) → length (before_feed (drop i s)) ≡ suc (length (before_feed (drop (i + 1) s)))
-unfolding before_feed if◌then◌else◌
+unfolding before_feed when◌then◌else◌
 before_more s i h d = rw (drop-cons s i 0 h, ne_eqb (get_or s i 0) 10 d, add-one)
 
 -- a line feed at i: no byte more
 pub before_here : (s : List ℕ) (i : ℕ) → i < length s → get_or s i 0 ≡ 10 → length (before_feed (drop i s)) ≡ 0
-unfolding before_feed if◌then◌else◌
+unfolding before_feed when◌then◌else◌
 before_here s i h e = rw (drop-cons s i 0 h, eq-eqb (get_or s i 0) 10 e)
 
 -- past the end: no byte more
@@ -32,11 +32,11 @@ before_none s i h = rw (drop_of_length-le s {i = i} h)
 
 -- the bytes before a line feed are the first ones
 pub take_before : (s : List ℕ) → take (length (before_feed s)) s ≡ before_feed s
-unfolding before_feed if◌then◌else◌
+unfolding before_feed when◌then◌else◌
 take_before [] = refl
 take_before (b ∷ s) = by (take_before s) (eqb b 10)
   where
-    by : take (length (before_feed s)) s ≡ before_feed s → (t : Bool) → take (length (if t then [] else b ∷ before_feed s)) (b ∷ s) ≡ (if t then [] else b ∷ before_feed s)
+    by : take (length (before_feed s)) s ≡ before_feed s → (t : Bool) → take (length (when t then [] else b ∷ before_feed s)) (b ∷ s) ≡ (when t then [] else b ∷ before_feed s)
     by rest true = refl
     by rest false = ap (λ (l : List ℕ). b ∷ l) rest
 

@@ -10,7 +10,7 @@ use lib.Dec.{ltb, eqb}
 use lib.Seq.{take-length, take_at, get_or_at, split_at}
 use borrow.Author.Tests.{le-ltb, eq-eqb, ne_eqb, eqb-true, ltb-false}
 use Rattle.smbus_pec.specs.Pec.{pec_of}
-use Rattle.protocol.specs.Pick.{if◌then◌else◌}
+use Rattle.protocol.specs.Pick.{when◌then◌else◌}
 use Rattle.protocol.specs.Frame.{sealed}
 use Rattle.model_gauge.specs.Frame.{whole_of, form_of, read_frame}
 use Rattle.model_gauge.specs.Forms.{Forms, counted}
@@ -20,7 +20,7 @@ use Rattle.model_gauge.specs.declared.frame.Form.TheVariants as form
 -- ---- a frame with its count
 
 sealed_whole : (pec : Bool) (f : List ℕ) (n : ℕ) → length f ≡ n + 2 → whole_of (sealed pec f) n ≡ true
-unfolding sealed whole_of if◌then◌else◌
+unfolding sealed whole_of when◌then◌else◌
 sealed_whole false f n h = rw (eq-eqb (length f) (n + 2) h)
 sealed_whole true f n h =
     let p = pec_of 0 (0x16 ∷ f) in
@@ -29,17 +29,17 @@ sealed_whole true f n h =
 
 read_whole : (n low high : ℕ) (rest : List ℕ) → whole_of (0x44 ∷ n ∷ low ∷ high ∷ rest) n ≡ true
     → read_frame (0x44 ∷ n ∷ low ∷ high ∷ rest) ≡ form_of n (high * 256 + low)
-unfolding read_frame if◌then◌else◌
+unfolding read_frame when◌then◌else◌
 read_whole n low high rest h = rw (le-ltb (length (0x44 ∷ n ∷ low ∷ high ∷ rest)) 4 (omega arith), h)
 
 read_counted : (pec : Bool) (low high : ℕ) (bytes : List ℕ) → read_frame (counted pec low high bytes) ≡ form_of (length bytes + 2) (high * 256 + low)
-unfolding sealed if◌then◌else◌
+unfolding sealed when◌then◌else◌
 read_counted false low high bytes = read_whole (length bytes + 2) low high bytes (sealed_whole false (0x44 ∷ (length bytes + 2) ∷ low ∷ high ∷ bytes) (length bytes + 2) (omega arith))
 read_counted true low high bytes =
     read_whole (length bytes + 2) low high (bytes ++ (pec_of 0 (0x16 ∷ 0x44 ∷ (length bytes + 2) ∷ low ∷ high ∷ bytes) ∷ [])) (sealed_whole true (0x44 ∷ (length bytes + 2) ∷ low ∷ high ∷ bytes) (length bytes + 2) (omega arith))
 
 block_form : (n address : ℕ) → 1 ≤ n → n ≤ 32 → form_of (n + 2) address ≡ form.BlockWrite address n
-unfolding form_of if◌then◌else◌
+unfolding form_of when◌then◌else◌
 block_form n address h k =
     let less : n + 2 - 2 ≡ n = omega arith in
     rw (ne_eqb (n + 2) 2 (λ e. omega arith), le-ltb (n + 2) 3 (omega arith), le-ltb 34 (n + 2) (omega arith), less)
@@ -48,7 +48,7 @@ block_form n address h k =
 
 -- a form that was read is that of the count
 block_count : (n address at count : ℕ) → form_of n address ≡ form.BlockWrite at count → (at ≡ address) × (n ≡ count + 2) × (1 ≤ count) × (count ≤ 32)
-unfolding form_of if◌then◌else◌
+unfolding form_of when◌then◌else◌
 block_count n address at count e = by (eqb n 2) refl (ltb n 3) refl (ltb 34 n) refl
   where
     by : (a : Bool) → eqb n 2 ≡ a → (b : Bool) → ltb n 3 ≡ b → (c : Bool) → ltb 34 n ≡ c → (at ≡ address) × (n ≡ count + 2) × (1 ≤ count) × (count ≤ 32)
@@ -63,7 +63,7 @@ block_count n address at count e = by (eqb n 2) refl (ltb n 3) refl (ltb 34 n) r
         (here, omega arith, omega arith, omega arith)
 
 address_count : (n address at : ℕ) → form_of n address ≡ form.Address at → (at ≡ address) × (n ≡ 2)
-unfolding form_of if◌then◌else◌
+unfolding form_of when◌then◌else◌
 address_count n address at e = by (eqb n 2) refl (ltb n 3) refl (ltb 34 n) refl
   where
     by : (a : Bool) → eqb n 2 ≡ a → (b : Bool) → ltb n 3 ≡ b → (c : Bool) → ltb 34 n ≡ c → (at ≡ address) × (n ≡ 2)
@@ -74,7 +74,7 @@ address_count n address at e = by (eqb n 2) refl (ltb n 3) refl (ltb 34 n) refl
 
 -- a whole frame is what its count says, with nothing after it or its PEC
 whole_sealed : (f : List ℕ) (n : ℕ) → whole_of f n ≡ true → (pec : Bool) × (f ≡ sealed pec (take (n + 2) f)) × (n + 2 ≤ length f)
-unfolding whole_of sealed if◌then◌else◌
+unfolding whole_of sealed when◌then◌else◌
 whole_sealed f n e = by (eqb (length f) (n + 2)) refl (eqb (length f) (n + 2 + 1)) refl
   where
     by : (a : Bool) → eqb (length f) (n + 2) ≡ a → (b : Bool) → eqb (length f) (n + 2 + 1) ≡ b → (pec : Bool) × (f ≡ sealed pec (take (n + 2) f)) × (n + 2 ≤ length f)
@@ -93,7 +93,7 @@ Read frame x =
     (n : ℕ) × (low : ℕ) × (high : ℕ) × (rest : List ℕ) × (frame ≡ 0x44 ∷ n ∷ low ∷ high ∷ rest) × (whole_of (0x44 ∷ n ∷ low ∷ high ∷ rest) n ≡ true) × (form_of n (high * 256 + low) ≡ x)
 
 was_read : (frame : List ℕ) (x : Form) → (form.Other ≡ x → ⊥) → read_frame frame ≡ x → Read frame x
-unfolding read_frame if◌then◌else◌
+unfolding read_frame when◌then◌else◌
 was_read [] x some e = absurd (some e)
 was_read (a ∷ []) x some e = absurd (some e)
 was_read (a ∷ b ∷ []) x some e = absurd (some e)
@@ -146,7 +146,7 @@ address_is frame address e =
 
 -- which frames are read as what
 pub forms : Forms
-unfolding form_of if◌then◌else◌
+unfolding form_of when◌then◌else◌
 forms = record {
   block = λ pec low high bytes h k. read_counted pec low high bytes ∙ block_form (length bytes) (high * 256 + low) h k;
   block_only = block_is;

@@ -9,7 +9,7 @@ use lib.ListN.{length, replicate, take, drop, set, length-append, length-take, l
 use lib.Dec.{eqb}
 use lib.Seq.{take-length, drop-length, length-take-le}
 use borrow.Author.Tests.{leb-true, le-leb}
-use Rattle.protocol.specs.Pick.{if◌then◌else◌}
+use Rattle.protocol.specs.Pick.{when◌then◌else◌}
 use Rattle.protocol.specs.Bytes.{over, block_in, stored_at}
 use Rattle.protocol.specs.Window.{in_window}
 use Rattle.protocol.proofs.Laws.{over_set, over_over, take_over, length_over, laid_more}
@@ -39,7 +39,7 @@ block_whole most b w h k =
 
 -- and from any place on
 pub stored_whole : (at most : ℕ) (b w : List ℕ) → length b ≤ most → at + length b ≤ length w → stored_at at most b w ≡ take at w ++ over b (drop at w)
-unfolding stored_at if◌then◌else◌
+unfolding stored_at when◌then◌else◌
 stored_whole at most b w h k =
     let n : length b ≤ length (drop at w) = simp length-drop (omega arith) in
     rw (le-leb at (length w) (omega arith), block_whole most b (drop at w) h n)
@@ -54,7 +54,7 @@ reply_long gauge flash = simp (length-append, block_long) (omega arith)
 
 -- a read that is replied to asks for no more than there is
 replies_few : (command count : ℕ) → replies_to command count ≡ true → count ≤ 36
-unfolding replies_to if◌then◌else◌
+unfolding replies_to when◌then◌else◌
 replies_few command count t = by (eqb command 0x44) refl
   where
     by : (here : Bool) → eqb command 0x44 ≡ here → count ≤ 36
@@ -62,14 +62,14 @@ replies_few command count t = by (eqb command 0x44) refl
     by false here = absurd (false≢true (rw here at t))
 
 -- what holds of both holds of whichever it is
-pub whichever : {A : Type 0} (P : A → Type 0) (t : Bool) (a b : A) → P a → P b → P (if t then a else b)
-unfolding if◌then◌else◌
+pub whichever : {A : Type 0} (P : A → Type 0) (t : Bool) (a b : A) → P a → P b → P (when t then a else b)
+unfolding when◌then◌else◌
 whichever P true a b p q = p
 whichever P false a b p q = q
 
 -- what a frame stores, wherever the gauge points
-whichever_stores : (t : Bool) (a b c d : Effect) → a.flash ≡ c.flash → b.flash ≡ d.flash → (if t then a else b).flash ≡ (if t then c else d).flash
-unfolding if◌then◌else◌
+whichever_stores : (t : Bool) (a b c d : Effect) → a.flash ≡ c.flash → b.flash ≡ d.flash → (when t then a else b).flash ≡ (when t then c else d).flash
+unfolding when◌then◌else◌
 whichever_stores true a b c d e f = e
 whichever_stores false a b c d e f = f
 
@@ -99,11 +99,11 @@ write_brings fate.LostAfter frame gauge flash = refl
 -- what a read comes to
 module _ (command count : ℕ) (gauge : Gauge) (flash : List ℕ) where
   pub read_taken : replies_to command count ≡ true → acts (read command count) gauge flash ≡ taken (take count (reply_of gauge flash)) (moved_of gauge) flash
-  unfolding acts heard_read if◌then◌else◌
+  unfolding acts heard_read when◌then◌else◌
   read_taken t = rw t
 
   pub read_untaken : replies_to command count ≡ false → acts (read command count) gauge flash ≡ untaken gauge flash
-  unfolding acts heard_read if◌then◌else◌
+  unfolding acts heard_read when◌then◌else◌
   read_untaken t = rw t
 
   pub read_told : replies_to command count ≡ true → record { outcome = outcome.Acknowledged; replied = count; gauge = moved_of gauge } ≡ handed_back (acts (read command count) gauge flash)

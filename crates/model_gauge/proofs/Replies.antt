@@ -9,7 +9,7 @@ use lib.ListN.{take, drop, replicate}
 use lib.Seq.{take-nil}
 use borrow.Author.Tests.{le-leb, lt-leb, ne_eqb}
 use Rattle.smbus_pec.specs.Pec.{pec_of}
-use Rattle.protocol.specs.Pick.{if◌then◌else◌}
+use Rattle.protocol.specs.Pick.{when◌then◌else◌}
 use Rattle.protocol.specs.Bytes.{over}
 use Rattle.engine.specs.Made.{read}
 use Rattle.model_gauge.specs.Gauge.{block_at, reply_front, reply_of, moved_of, replies_to, taken, effect_of}
@@ -20,15 +20,15 @@ use Rattle.model_gauge.specs.declared.gauge.Gauge.{Gauge}
 use Rattle.model_gauge.proofs.Laws.{reply_long, read_taken, read_untaken, read_stores}
 
 replies : (count : ℕ) → count ≤ 36 → replies_to 0x44 count ≡ true
-unfolding replies_to if◌then◌else◌
+unfolding replies_to when◌then◌else◌
 replies count h = le-leb count 36 h
 
 no_more : (count : ℕ) → 36 < count → replies_to 0x44 count ≡ false
-unfolding replies_to if◌then◌else◌
+unfolding replies_to when◌then◌else◌
 no_more count h = lt-leb count 36 h
 
 no_other : (command count : ℕ) → (command ≡ 0x44 → ⊥) → replies_to command count ≡ false
-unfolding replies_to if◌then◌else◌
+unfolding replies_to when◌then◌else◌
 no_other command count h = rw (ne_eqb command 0x44 h)
 
 -- a read that the gauge does not reply to is a bus error and leaves the pointer

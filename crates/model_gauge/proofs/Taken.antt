@@ -11,7 +11,7 @@ use lib.Dec.{leb}
 use lib.Seq.{take_all, take-length, take-append_seam, drop-drop}
 use borrow.Author.Tests.{leb-true, leb-false}
 use Rattle.smbus_pec.specs.Pec.{pec_of}
-use Rattle.protocol.specs.Pick.{if◌then◌else◌}
+use Rattle.protocol.specs.Pick.{when◌then◌else◌}
 use Rattle.protocol.specs.Bytes.{stored_at}
 use Rattle.protocol.specs.Frame.{sealed}
 use Rattle.protocol.specs.Window.{in_window}
@@ -51,26 +51,26 @@ laid o room bytes flash r = by (leb o (length flash)) refl
 module _ (frame : List ℕ) (at : ℕ) (gauge : Gauge) (flash : List ℕ) where
   block_in : (bytes : List ℕ) → read_frame frame ≡ form.BlockWrite at (length bytes) → in_window at (length bytes) ≡ true → take (length bytes) (drop 4 frame) ≡ bytes
       → sent frame gauge flash ≡ taking [] gauge (stored_at (at - 0x4000) (length bytes) bytes flash)
-  unfolding effect_of acts heard_frame if◌then◌else◌
+  unfolding effect_of acts heard_frame when◌then◌else◌
   block_in bytes read w back = rw (read, w, back)
 
   block_out : (n : ℕ) → read_frame frame ≡ form.BlockWrite at n → in_window at n ≡ false → sent frame gauge flash ≡ untaken gauge flash
-  unfolding effect_of acts heard_frame if◌then◌else◌
+  unfolding effect_of acts heard_frame when◌then◌else◌
   block_out n read w = rw (read, w)
 
   address_in : read_frame frame ≡ form.Address at → in_window at 1 ≡ true → sent frame gauge flash ≡ taking [] (record { pointer = at }) flash
-  unfolding effect_of acts heard_frame if◌then◌else◌
+  unfolding effect_of acts heard_frame when◌then◌else◌
   address_in read w = rw (read, w)
 
   address_out : read_frame frame ≡ form.Address at → in_window at 1 ≡ false → sent frame gauge flash ≡ untaken gauge flash
-  unfolding effect_of acts heard_frame if◌then◌else◌
+  unfolding effect_of acts heard_frame when◌then◌else◌
   address_out read w = rw (read, w)
 
 -- ---- of the frames themselves
 
 -- a block's bytes are the frame's fifth and on
 data_back : (pec : Bool) (low high : ℕ) (bytes : List ℕ) → take (length bytes) (drop 4 (counted pec low high bytes)) ≡ bytes
-unfolding sealed if◌then◌else◌
+unfolding sealed when◌then◌else◌
 data_back false low high bytes = take-length bytes
 data_back true low high bytes = take-append_seam bytes (pec_of 0 (0x16 ∷ 0x44 ∷ (length bytes + 2) ∷ low ∷ high ∷ bytes) ∷ [])
 

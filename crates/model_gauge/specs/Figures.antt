@@ -2,7 +2,7 @@
 -- Assumes nothing.
 use Rattle.std.specs.Prelude.{ℕ, ◌≡◌, refl, List, [], ◌∷◌, ◌++◌, take, replicate}
 use Rattle.smbus_pec.specs.Pec.{bit_step, bit_steps, byte_step, pec_of}
-use Rattle.protocol.specs.Pick.{if◌then◌else◌}
+use Rattle.protocol.specs.Pick.{when◌then◌else◌}
 use Rattle.protocol.specs.Bytes.{over, block_in, stored_at}
 use Rattle.protocol.specs.Window.{in_window}
 use Rattle.engine.specs.Made.{Made, write, read}
@@ -89,7 +89,7 @@ pub record Figures : Type 0 where
   pub at_end : (flash : List ℕ) → (effect_of fate.Heard (read 0x44 36) (reading 0x6000) flash).gauge ≡ reading 0x6000
 
 pub figures : Figures
-unfolding new_gauge bit_step bit_steps byte_step pec_of if◌then◌else◌ over block_in stored_at in_window whole_of form_of read_frame block_at reply_front reply_of moved_of replies_to heard_frame heard_read acts effect_of
+unfolding new_gauge bit_step bit_steps byte_step pec_of when◌then◌else◌ over block_in stored_at in_window whole_of form_of read_frame block_at reply_front reply_of moved_of replies_to heard_frame heard_read acts effect_of
 figures = record {
   new = refl;
   address = λ gauge flash. refl;

@@ -2,7 +2,7 @@
 -- Assumes nothing.
 use Rattle.std.specs.Prelude.{ℕ, ◌+◌, ◌-◌, ◌/◌, ◌%◌, min, Bool, false, List, [], ◌∷◌, ◌++◌, length, take, drop, replicate, leb, eqb}
 use Rattle.smbus_pec.specs.Pec.{pec_of}
-use Rattle.protocol.specs.Pick.{if◌then◌else◌}
+use Rattle.protocol.specs.Pick.{when◌then◌else◌}
 use Rattle.protocol.specs.Bytes.{over, stored_at}
 use Rattle.protocol.specs.Window.{in_window}
 use Rattle.engine.specs.Made.{Made, write, read}
@@ -43,7 +43,7 @@ moved_of gauge = record { pointer = min (gauge.pointer + 32) 0x6000 }
 
 -- a read of 44, of at most 36 bytes
 unfoldable pub replies_to : ℕ → ℕ → Bool
-replies_to command count = if eqb command 0x44 then leb count 36 else false
+replies_to command count = when eqb command 0x44 then leb count 36 else false
 
 -- what a transfer comes to: what the host hears, the bytes that a read brings, the flash and the gauge after it
 pub record Effect : Type 0 where
@@ -67,16 +67,16 @@ lost gauge flash = record { outcome = outcome.Timeout; reply = []; flash = flash
 -- a frame by its form: a block write wholly inside the window is stored; an address inside it sets the pointer; anything else is not taken
 unfoldable pub heard_frame : Form → List ℕ → Gauge → List ℕ → Effect
 heard_frame (form.BlockWrite address count) frame gauge flash =
-    if in_window address count then taken [] gauge (stored_at (offset_of address) count (take count (drop 4 frame)) flash)
+    when in_window address count then taken [] gauge (stored_at (offset_of address) count (take count (drop 4 frame)) flash)
     else untaken gauge flash
 heard_frame (form.Address address) frame gauge flash =
-    if in_window address 1 then taken [] (record { pointer = address }) flash else untaken gauge flash
+    when in_window address 1 then taken [] (record { pointer = address }) flash else untaken gauge flash
 heard_frame form.Other frame gauge flash = untaken gauge flash
 
 -- a read that is replied to brings the reply cut to the number asked, and moves the pointer on
 unfoldable pub heard_read : ℕ → ℕ → Gauge → List ℕ → Effect
 heard_read command count gauge flash =
-    if replies_to command count then taken (take count (reply_of gauge flash)) (moved_of gauge) flash else untaken gauge flash
+    when replies_to command count then taken (take count (reply_of gauge flash)) (moved_of gauge) flash else untaken gauge flash
 
 -- a transfer that is heard
 unfoldable pub acts : Made → Gauge → List ℕ → Effect

@@ -10,7 +10,7 @@ use lib.ListN.{length, take, drop, get_or, length-append, length-take}
 use lib.Seq.{take-nil, take_all, drop-length, take-append-add}
 use lib.Dec.{eqb}
 use Rattle.smbus_pec.specs.Pec.{pec_of}
-use Rattle.protocol.specs.Pick.{if◌then◌else◌}
+use Rattle.protocol.specs.Pick.{when◌then◌else◌}
 use Rattle.protocol.specs.Bytes.{over}
 use Rattle.protocol.proofs.Laws.{take_over, drop_over, take_short}
 use Rattle.original.specs.Bus.{BusOutcome, Made, Read, transfers_of}
@@ -42,19 +42,19 @@ over_more before piece buffer k h e =
     rw (t, l, take_over before buffer, drop_over (length before + k) before buffer (omega arith), append_assoc)
 
 -- the data of a reply of m bytes and its PEC, or of m bytes
-pub data_in_lem : (layout : Layout) (m : ℕ) (reply : List ℕ) → length reply ≡ (if layout.pec then m + 1 else m)
+pub data_in_lem : (layout : Layout) (m : ℕ) (reply : List ℕ) → length reply ≡ (when layout.pec then m + 1 else m)
     → data_in layout reply
-    ≡ (if layout.pec && not (eqb (get_or reply m 0) (pec_of 0 (0x16 ∷ layout.command ∷ 0x17 ∷ take m reply))) then [] else drop layout.before (take m reply))
-unfolding data_in right_pec if◌then◌else◌
+    ≡ (when layout.pec && not (eqb (get_or reply m 0) (pec_of 0 (0x16 ∷ layout.command ∷ 0x17 ∷ take m reply))) then [] else drop layout.before (take m reply))
+unfolding data_in right_pec when◌then◌else◌
 data_in_lem layout m reply e = by layout.pec refl
   where
-    weighed : (right : Bool) (d : List ℕ) → (if right then d else []) ≡ (if not right then [] else d)
+    weighed : (right : Bool) (d : List ℕ) → (when right then d else []) ≡ (when not right then [] else d)
     weighed true d = refl
     weighed false d = refl
 
     by : (pec : Bool) → layout.pec ≡ pec
         → data_in layout reply
-        ≡ (if layout.pec && not (eqb (get_or reply m 0) (pec_of 0 (0x16 ∷ layout.command ∷ 0x17 ∷ take m reply))) then [] else drop layout.before (take m reply))
+        ≡ (when layout.pec && not (eqb (get_or reply m 0) (pec_of 0 (0x16 ∷ layout.command ∷ 0x17 ∷ take m reply))) then [] else drop layout.before (take m reply))
     by true p =
         let l : length reply ≡ m + 1 = rw p at e in
         let k : m + 1 - 1 ≡ m = omega arith in
@@ -64,8 +64,8 @@ data_in_lem layout m reply e = by layout.pec refl
         rw (p, take_all m reply (omega arith))
 
 -- a PEC is one byte more
-pub counted : (pec : Bool) (m : ℕ) → m ≤ (if pec then m + 1 else m)
-unfolding if◌then◌else◌
+pub counted : (pec : Bool) (m : ℕ) → m ≤ (when pec then m + 1 else m)
+unfolding when◌then◌else◌
 counted true m = omega arith
 counted false m = omega arith
 
@@ -96,8 +96,8 @@ module _ (layout : Layout) (buffer : List ℕ) where
 
   -- one way or the other
   pub either : (f : Read → Read) (before : List ℕ) (done : List Made) (outcomes : List BusOutcome) (t : Bool) (x y : Read)
-      → Comes layout buffer before done outcomes (f x) → Comes layout buffer before done outcomes (f y) → Comes layout buffer before done outcomes (f (if t then x else y))
-  unfolding if◌then◌else◌
+      → Comes layout buffer before done outcomes (f x) → Comes layout buffer before done outcomes (f y) → Comes layout buffer before done outcomes (f (when t then x else y))
+  unfolding when◌then◌else◌
   either f before done outcomes true x y p q = p
   either f before done outcomes false x y p q = q
 

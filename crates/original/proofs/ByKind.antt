@@ -6,7 +6,7 @@ use mathlib.Core.List.{List, [], ◌∷◌, ◌++◌}
 use native.Mathlib.Omega.{arith}
 use lib.ListN.{length, take}
 use borrow.Author.Tests.{le-ltb, ne_eqb}
-use Rattle.protocol.specs.Pick.{if◌then◌else◌}
+use Rattle.protocol.specs.Pick.{when◌then◌else◌}
 use Rattle.protocol.specs.Common.{TwoByteBudgets}
 use Rattle.protocol.specs.declared.common.Config.{Config}
 use Rattle.protocol.specs.declared.error.Answer.{Answer}
@@ -109,7 +109,7 @@ module _ (payload : List ℕ) (lent : ℕ → Lending) where
 
 -- DEMAND 2 BY KIND
 pub equal_by_kind : (config : Config) → TwoByteBudgets config → (w : ℕ) → 39 ≤ w → (lent : ℕ → Lending) → Lends w lent → (outcomes : List BusOutcome) → EqualByKind config w lent outcomes
-unfolding start_of start_with plan_of mac_read mac_write send_access_key writing.plan_of reading.mac_plan parts.first_address frames.first_address measured admitted answered if◌then◌else◌
+unfolding start_of start_with plan_of mac_read mac_write send_access_key writing.plan_of reading.mac_plan parts.first_address frames.first_address measured admitted answered when◌then◌else◌
 equal_by_kind config small w roomy lent steady os = record { same = by; added = instead }
   where
     e : Equal config w lent os

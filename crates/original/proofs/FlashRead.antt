@@ -10,7 +10,7 @@ use lib.Seq.{take-take}
 use lib.Dec.{ltb, eqb}
 use borrow.Author.Tests.{le-ltb, le-leb, lt-leb, ltb-true, ltb-false, eqb-false}
 use Rattle.smbus_pec.specs.Pec.{pec_of}
-use Rattle.protocol.specs.Pick.{if◌then◌else◌}
+use Rattle.protocol.specs.Pick.{when◌then◌else◌}
 use Rattle.protocol.specs.Answer.{number_of}
 use Rattle.protocol.specs.Frame.{sealed, mac_bytes, pair_of}
 use Rattle.protocol.specs.Reply.{mac_ask, lead_of, around_of, bytes_asked, data_of}
@@ -49,10 +49,10 @@ module _ (start : ℕ) where
 
   -- the address of a chunk, what is asked for where so much is left, and whether a reply's PEC is wrong
   abbrev address : Bool → ℕ → List ℕ
-  address pec at = if pec then with_pec (0x44 ∷ 2 ∷ to_le_bytes (start + at)) else (0x44 ∷ 2 ∷ to_le_bytes (start + at))
+  address pec at = when pec then with_pec (0x44 ∷ 2 ∷ to_le_bytes (start + at)) else (0x44 ∷ 2 ∷ to_le_bytes (start + at))
 
   abbrev pub count : Bool → ℕ → ℕ
-  count pec left = if pec then 36 else min 35 (left + 2 + 1)
+  count pec left = when pec then 36 else min 35 (left + 2 + 1)
 
   abbrev pub bad : Bool → List ℕ → Bool
   bad pec reply = pec && not (eqb (get_or reply 35 0) (pec_of 0 (0x16 ∷ 0x44 ∷ 0x17 ∷ take 35 reply)))
@@ -63,7 +63,7 @@ module _ (start : ℕ) where
 
   pub loop_done : (pec : Bool) (retries : ℕ) (buffer : List ℕ) (bytes_read : ℕ) (send_address : Bool) (log : Log) (outcomes : List BusOutcome) → length buffer ≤ bytes_read
       → loop pec retries buffer bytes_read send_address log outcomes ≡ Ok log outcomes leaving buffer
-  unfolding loop read_chunks read_chunks_pec if◌then◌else◌
+  unfolding loop read_chunks read_chunks_pec when◌then◌else◌
   loop_done true retries buffer bytes_read send_address log [] h = rw (le-leb (length buffer) bytes_read h)
   loop_done true retries buffer bytes_read send_address log (o ∷ outcomes) h = rw (le-leb (length buffer) bytes_read h)
   loop_done false retries buffer bytes_read send_address log [] h = rw (le-leb (length buffer) bytes_read h)
@@ -71,35 +71,35 @@ module _ (start : ℕ) where
 
   module _ (retries : ℕ) (buffer : List ℕ) (bytes_read : ℕ) (log : Log) (more : bytes_read < length buffer) where
     pub address_waits : (pec : Bool) → start + bytes_read ≤ 0xFFFF → loop pec retries buffer bytes_read true log [] ≡ Waiting (made (write (address pec bytes_read)) log) leaving buffer
-    unfolding loop read_chunks read_chunks_pec if◌then◌else◌
+    unfolding loop read_chunks read_chunks_pec when◌then◌else◌
     address_waits true h = rw (lt-leb (length buffer) bytes_read more, le-ltb 0xFFFF (start + bytes_read) h)
     address_waits false h = rw (lt-leb (length buffer) bytes_read more, le-ltb 0xFFFF (start + bytes_read) h)
 
     pub address_turn : (pec : Bool) (o : BusOutcome) (outcomes : List BusOutcome) → start + bytes_read ≤ 0xFFFF
         → loop pec retries buffer bytes_read true log (o ∷ outcomes)
         ≡ (bus_op o
-        err (λ e. if eqb retries 0 then Err e (made (write (address pec bytes_read)) log) outcomes leaving buffer
+        err (λ e. when eqb retries 0 then Err e (made (write (address pec bytes_read)) log) outcomes leaving buffer
         else loop pec (retries - 1) buffer bytes_read true (delayed (made (write (address pec bytes_read)) log)) outcomes)
         ok (λ bytes. loop pec retries buffer bytes_read false (made (write (address pec bytes_read)) log) outcomes))
-    unfolding loop read_chunks read_chunks_pec if◌then◌else◌
+    unfolding loop read_chunks read_chunks_pec when◌then◌else◌
     address_turn true o outcomes h = rw (lt-leb (length buffer) bytes_read more, le-ltb 0xFFFF (start + bytes_read) h)
     address_turn false o outcomes h = rw (lt-leb (length buffer) bytes_read more, le-ltb 0xFFFF (start + bytes_read) h)
 
     pub read_waits : (pec : Bool) → loop pec retries buffer bytes_read false log [] ≡ Waiting (made (read 0x44 (count pec (length buffer - bytes_read))) log) leaving buffer
-    unfolding loop read_chunks read_chunks_pec if◌then◌else◌
+    unfolding loop read_chunks read_chunks_pec when◌then◌else◌
     read_waits true = rw (lt-leb (length buffer) bytes_read more)
     read_waits false = rw (lt-leb (length buffer) bytes_read more)
 
     pub read_turn : (pec : Bool) (o : BusOutcome) (outcomes : List BusOutcome)
         → loop pec retries buffer bytes_read false log (o ∷ outcomes)
         ≡ (bus_op o
-        err (λ e. if eqb retries 0 then Err e (made (read 0x44 (count pec (length buffer - bytes_read))) log) outcomes leaving buffer
+        err (λ e. when eqb retries 0 then Err e (made (read 0x44 (count pec (length buffer - bytes_read))) log) outcomes leaving buffer
         else loop pec (retries - 1) buffer bytes_read true (delayed (made (read 0x44 (count pec (length buffer - bytes_read))) log)) outcomes)
-        ok (λ bytes. if bad pec (delivered (count pec (length buffer - bytes_read)) bytes) then
-        (if eqb retries 0 then Err answer.Pec (made (read 0x44 (count pec (length buffer - bytes_read))) log) outcomes leaving buffer
+        ok (λ bytes. when bad pec (delivered (count pec (length buffer - bytes_read)) bytes) then
+        (when eqb retries 0 then Err answer.Pec (made (read 0x44 (count pec (length buffer - bytes_read))) log) outcomes leaving buffer
         else loop pec (retries - 1) buffer bytes_read true (delayed (made (read 0x44 (count pec (length buffer - bytes_read))) log)) outcomes)
         else loop pec retries (placed bytes_read (min 32 (length buffer - bytes_read)) (delivered (count pec (length buffer - bytes_read)) bytes) buffer) (bytes_read + min 32 (length buffer - bytes_read)) false (made (read 0x44 (count pec (length buffer - bytes_read))) log) outcomes))
-    unfolding loop read_chunks read_chunks_pec if◌then◌else◌
+    unfolding loop read_chunks read_chunks_pec when◌then◌else◌
     read_turn true o outcomes =
         let k : min 32 (length buffer - bytes_read) ≡ min (length buffer - bytes_read) 32 = omega arith in
         rw (lt-leb (length buffer) bytes_read more, k)
@@ -120,23 +120,23 @@ module _ (start : ℕ) where
     framed pec i = refl
 
     counted : (pec : Bool) (i : ℕ) → bytes_asked (ask_at (plan pec) n w i) ≡ count pec (n - i * 32)
-    unfolding parts.ask_of parts.block_ask mac_ask bytes_asked around_of lead_of if◌then◌else◌
+    unfolding parts.ask_of parts.block_ask mac_ask bytes_asked around_of lead_of when◌then◌else◌
     counted true i = refl
     counted false i = omega arith
 
     commanded : (pec : Bool) (i : ℕ) → (ask_at (plan pec) n w i).command ≡ 0x44
-    unfolding parts.ask_of parts.block_ask mac_ask if◌then◌else◌
+    unfolding parts.ask_of parts.block_ask mac_ask when◌then◌else◌
     commanded true i = refl
     commanded false i = refl
 
     believes : (pec : Bool) (i : ℕ) (reply : List ℕ) → length reply ≡ count pec (n - i * 32) → believed (plan pec) n w i reply ≡ not (bad pec reply)
-    unfolding believed parts.ask_of parts.block_ask mac_ask if◌then◌else◌
+    unfolding believed parts.ask_of parts.block_ask mac_ask when◌then◌else◌
     believes true i reply e = checked_last 0x44 35 reply e ∙ sym (not_not _)
     believes false i reply e = refl
 
     stored : (pec : Bool) (i left : ℕ) (tally : Tally) (reply buffer : List ℕ) → length buffer ≡ n → length reply ≡ count pec (n - i * 32) → i * 32 ≤ n
         → reading.stored_of (at (plan pec) n w false i left tally) reply buffer ≡ placed (i * 32) (min 32 (n - i * 32)) reply buffer
-    unfolding reading.stored_of reading.due_ask parts.ask_of parts.block_ask parts.most_of data_of lead_of mac_ask if◌then◌else◌
+    unfolding reading.stored_of reading.due_ask parts.ask_of parts.block_ask parts.most_of data_of lead_of mac_ask when◌then◌else◌
     stored true i left tally reply buffer b e h =
         let r : length reply - 3 ≡ 33 = omega arith in
         let k : min 32 (min (length (take 32 (drop 3 reply))) (length buffer - i * 32)) ≡ min 32 (n - i * 32) = rw (length-take, length-drop, r, b) (least_of_33 (n - i * 32)) in
@@ -150,7 +150,7 @@ module _ (start : ℕ) where
 
     as_long : (pec : Bool) (i : ℕ) (reply buffer : List ℕ) → length buffer ≡ n → length reply ≡ count pec (n - i * 32) → i * 32 ≤ n
         → length (placed (i * 32) (min 32 (n - i * 32)) reply buffer) ≡ n
-    unfolding if◌then◌else◌
+    unfolding when◌then◌else◌
     as_long true i reply buffer b e h = length_chunk (i * 32) (min 32 (n - i * 32)) (drop 3 reply) buffer (omega arith) (rw length-drop (omega arith)) ∙ b
     as_long false i reply buffer b e h = length_chunk (i * 32) (min 32 (n - i * 32)) (drop 3 reply) buffer (omega arith) (rw length-drop (omega arith)) ∙ b
 
@@ -162,8 +162,8 @@ module _ (start : ℕ) where
     fault : (pec heading : Bool) (outcomes : List BusOutcome) → Same pec outcomes → (i left : ℕ) (tally : Tally) (why : Answer) (buffer : List ℕ) (done : List Made)
         → eqb (number_of why) 0 ≡ false → length buffer ≡ n → i * 32 < n → tally.waits + left ≤ 65535 → (t : Bool) → eqb left 0 ≡ t
         → fed_read (reading.fail_of (at (plan pec) n w heading i left tally) why) buffer lent done outcomes
-        ≡ (if eqb left 0 then Err why (record { transfers = done; waits = tally.waits }) outcomes leaving buffer else loop pec (left - 1) buffer (i * 32) true (record { transfers = done; waits = tally.waits + 1 }) outcomes)
-    unfolding parts.has_head if◌then◌else◌
+        ≡ (when eqb left 0 then Err why (record { transfers = done; waits = tally.waits }) outcomes leaving buffer else loop pec (left - 1) buffer (i * 32) true (record { transfers = done; waits = tally.waits + 1 }) outcomes)
+    unfolding parts.has_head when◌then◌else◌
     fault pec heading outcomes ih i left tally why buffer done bad b h c true t =
         after_failure (plan pec) n w lent heading i left tally why buffer done outcomes bad true t ∙ rw t
     fault pec heading outcomes ih i left tally why buffer done bad b h c false t =
@@ -200,7 +200,7 @@ module _ (start : ℕ) where
         → fed_read (at (plan pec) n w false i left tally) buffer lent done (o ∷ outcomes)
         ≡ (bus_op o
         err (λ e. fed_read (reading.fail_of (at (plan pec) n w false i left (tallied tally)) e) buffer lent (done ++ (read 0x44 (count pec (n - i * 32)) ∷ [])) outcomes)
-        ok (λ bytes. if not (bad pec (delivered (count pec (n - i * 32)) bytes))
+        ok (λ bytes. when not (bad pec (delivered (count pec (n - i * 32)) bytes))
         then fed_read (reading.advance_of (at (plan pec) n w false i left (tallied tally))) (placed (i * 32) (min 32 (n - i * 32)) (delivered (count pec (n - i * 32)) bytes) buffer)
         lent (done ++ (read 0x44 (count pec (n - i * 32)) ∷ [])) outcomes
         else fed_read (reading.fail_of (at (plan pec) n w false i left (tallied tally)) answer.Pec) buffer lent (done ++ (read 0x44 (count pec (n - i * 32)) ∷ [])) outcomes))
@@ -218,11 +218,11 @@ module _ (start : ℕ) where
     -- a reply is weighed
     weighed : (pec : Bool) (outcomes : List BusOutcome) → Same pec outcomes → (i left : ℕ) (tally : Tally) (buffer : List ℕ) (done : List Made) (reply : List ℕ) → length buffer ≡ n → i * 32 < n → tally.waits + left ≤ 65535
         → length reply ≡ count pec (n - i * 32) → (t : Bool)
-        → (if not t then fed_read (reading.advance_of (at (plan pec) n w false i left tally)) (placed (i * 32) (min 32 (n - i * 32)) reply buffer) lent done outcomes
+        → (when not t then fed_read (reading.advance_of (at (plan pec) n w false i left tally)) (placed (i * 32) (min 32 (n - i * 32)) reply buffer) lent done outcomes
         else fed_read (reading.fail_of (at (plan pec) n w false i left tally) answer.Pec) buffer lent done outcomes)
-        ≡ (if t then (if eqb left 0 then Err answer.Pec (record { transfers = done; waits = tally.waits }) outcomes leaving buffer else loop pec (left - 1) buffer (i * 32) true (record { transfers = done; waits = tally.waits + 1 }) outcomes)
+        ≡ (when t then (when eqb left 0 then Err answer.Pec (record { transfers = done; waits = tally.waits }) outcomes leaving buffer else loop pec (left - 1) buffer (i * 32) true (record { transfers = done; waits = tally.waits + 1 }) outcomes)
         else loop pec left (placed (i * 32) (min 32 (n - i * 32)) reply buffer) (i * 32 + min 32 (n - i * 32)) false (record { transfers = done; waits = tally.waits }) outcomes)
-    unfolding if◌then◌else◌
+    unfolding when◌then◌else◌
     weighed pec outcomes ih i left tally buffer done reply b h c l true =
         fault pec false outcomes ih i left tally answer.Pec buffer done refl b h c (eqb left 0) refl
     weighed pec outcomes ih i left tally buffer done reply b h c l false =

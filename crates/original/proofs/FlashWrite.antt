@@ -8,7 +8,7 @@ use native.Mathlib.Omega.{arith}
 use lib.ListN.{length, take, drop, length-take, length-drop}
 use lib.Dec.{ltb, eqb}
 use borrow.Author.Tests.{le-ltb, eq-eqb, ne_eqb, eqb-true, eqb-false}
-use Rattle.protocol.specs.Pick.{if◌then◌else◌}
+use Rattle.protocol.specs.Pick.{when◌then◌else◌}
 use Rattle.protocol.specs.Bytes.{blocks_of}
 use Rattle.protocol.specs.Frame.{sealed, mac_bytes, pair_of}
 use Rattle.protocol.proofs.Laws.{take_short}
@@ -44,7 +44,7 @@ module _ (config : Config) (start : ℕ) (bytes : List ℕ) where
 
   -- nothing is left
   none_left : (turns committed : ℕ) (log : Log) (outcomes : List BusOutcome) → original.write_chunks (set_for side.Write config) start bytes turns committed 0 log outcomes ≡ Ok log outcomes
-  unfolding original.write_chunks if◌then◌else◌
+  unfolding original.write_chunks when◌then◌else◌
   none_left zero committed log outcomes = refl
   none_left (suc turns) committed log outcomes = refl
 
@@ -78,7 +78,7 @@ module _ (config : Config) (start : ℕ) (bytes : List ℕ) where
         rw k (ih turns (suc i) (left - 32) log outcomes (omega arith) (omega arith) (omega arith) (omega arith))
 
     block_and_after : (todo : ℕ) → After todo → Chunks todo
-    unfolding each r5.write_dataflash writing.plan_of writing.own_bytes writing.gave_up is_plain is_flash bytes_at frame_at sealed if◌then◌else◌ original.write_chunks original.with_pec
+    unfolding each r5.write_dataflash writing.plan_of writing.own_bytes writing.gave_up is_plain is_flash bytes_at frame_at sealed when◌then◌else◌ original.write_chunks original.with_pec
     block_and_after todo after turns i left log outcomes e some enough c =
         let l : eqb left 0 ≡ false = ne_eqb left 0 (λ z. omega arith) in
         let a : ltb 0xFFFF (start + (length bytes - left)) ≡ false = le-ltb 0xFFFF (start + (length bytes - left)) (omega arith) in

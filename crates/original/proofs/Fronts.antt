@@ -8,7 +8,7 @@ use native.Mathlib.Omega.{arith}
 use lib.ListN.{length, replicate}
 use lib.Dec.{ltb, eqb}
 use borrow.Author.Tests.{ltb-false, eqb-true, eqb-false}
-use Rattle.protocol.specs.Pick.{if◌then◌else◌}
+use Rattle.protocol.specs.Pick.{when◌then◌else◌}
 use Rattle.protocol.specs.Bytes.{over}
 use Rattle.protocol.specs.Common.{TwoByteBudgets}
 use Rattle.protocol.specs.declared.common.Side.TheVariants as side
@@ -71,59 +71,59 @@ module _ (config : common.Config) (outcomes : List BusOutcome) where
       carried (mac config.pec_read) buffer outcomes (sym (mac_read_lem.own frame buffer config.pec_read outcomes config.max_bus_retries begun)) (mac_front frame buffer buffer (omega arith))
 
   register_front : (address : ℕ) (buffer : List ℕ) → Front (plain config.pec_read address) buffer outcomes (rust.read_register config address buffer begun outcomes)
-  unfolding rust.read_register if◌then◌else◌
+  unfolding rust.read_register when◌then◌else◌
   register_front address buffer = by (ltb 32 (length buffer))
     where
-      by : (t : Bool) → Front (plain config.pec_read address) buffer outcomes (if t then Err answer.DataTooLarge begun outcomes leaving buffer else rust.read_with_retries config address buffer config.pec_read begun outcomes)
+      by : (t : Bool) → Front (plain config.pec_read address) buffer outcomes (when t then Err answer.DataTooLarge begun outcomes leaving buffer else rust.read_with_retries config address buffer config.pec_read begun outcomes)
       by true = refused (plain config.pec_read address) buffer outcomes answer.DataTooLarge
       by false = plain_own address buffer config.pec_read
 
   command_front : (address : ℕ) (input output : List ℕ) → Front (mac config.pec_read) output outcomes (rust.dispatch_command config address input output begun outcomes)
-  unfolding rust.dispatch_command if◌then◌else◌ buffer_left
+  unfolding rust.dispatch_command when◌then◌else◌ buffer_left
   command_front address input output = by (ltb 32 (length input) || ltb 32 (length output)) (eqb (length output) 0) refl
     where
       frame : List ℕ
       frame = address / 65536 % 256 ∷ 2 ∷ address / 256 % 256 ∷ address % 256 ∷ []
 
       by : (t z : Bool) → eqb (length output) 0 ≡ z
-          → Front (mac config.pec_read) output outcomes (if t then Err answer.DataTooLarge begun outcomes leaving output else
-          if z then rust.mac_write_with_retries config frame begun outcomes leaving output else rust.mac_read_with_retries config frame output begun outcomes)
+          → Front (mac config.pec_read) output outcomes (when t then Err answer.DataTooLarge begun outcomes leaving output else
+          when z then rust.mac_write_with_retries config frame begun outcomes leaving output else rust.mac_read_with_retries config frame output begun outcomes)
       by true z e = refused (mac config.pec_read) output outcomes answer.DataTooLarge
       by false true e = empty (mac config.pec_read) output outcomes _ (eqb-true (length output) 0 e) refl
       by false false e = mac_own frame output
 
   info_front : (buffer : List ℕ) → Front (plain config.pec_read 0x70) buffer outcomes (rust-r5.read_mfg_info config buffer begun outcomes)
-  unfolding rust-r5.read_mfg_info if◌then◌else◌
+  unfolding rust-r5.read_mfg_info when◌then◌else◌
   info_front buffer = by (ltb 33 (length buffer)) refl config.pec_read
     where
       by : (t : Bool) → ltb 33 (length buffer) ≡ t → (pec : Bool)
-          → Front (plain pec 0x70) buffer outcomes (if t then Err answer.DataTooLarge begun outcomes leaving buffer else
-          if pec then copied buffer (rust.read_with_retries config 0x70 (replicate 33 0) true begun outcomes) else rust.read_with_retries config 0x70 buffer false begun outcomes)
+          → Front (plain pec 0x70) buffer outcomes (when t then Err answer.DataTooLarge begun outcomes leaving buffer else
+          when pec then copied buffer (rust.read_with_retries config 0x70 (replicate 33 0) true begun outcomes) else rust.read_with_retries config 0x70 buffer false begun outcomes)
       by true t pec = refused (plain pec 0x70) buffer outcomes answer.DataTooLarge
       by false t true = plain_front 0x70 buffer (replicate 33 0) true (ltb-false 33 (length buffer) t)
       by false t false = plain_own 0x70 buffer false
 
   info_c_front : (buffer : List ℕ) → Front (mac config.pec_read) buffer outcomes (rust-r5.read_mfg_info_c config buffer begun outcomes)
-  unfolding rust-r5.read_mfg_info_c if◌then◌else◌
+  unfolding rust-r5.read_mfg_info_c when◌then◌else◌
   info_c_front buffer = by (ltb 32 (length buffer)) refl config.pec_read
     where
       frame : List ℕ
       frame = 0x44 ∷ 2 ∷ 0x7B ∷ 0x00 ∷ []
 
       by : (t : Bool) → ltb 32 (length buffer) ≡ t → (pec : Bool)
-          → Front (mac config.pec_read) buffer outcomes (if t then Err answer.DataTooLarge begun outcomes leaving buffer else
-          if pec then copied buffer (rust.mac_read_with_retries config frame (replicate 32 0) begun outcomes) else rust.mac_read_with_retries config frame buffer begun outcomes)
+          → Front (mac config.pec_read) buffer outcomes (when t then Err answer.DataTooLarge begun outcomes leaving buffer else
+          when pec then copied buffer (rust.mac_read_with_retries config frame (replicate 32 0) begun outcomes) else rust.mac_read_with_retries config frame buffer begun outcomes)
       by true t pec = refused (mac config.pec_read) buffer outcomes answer.DataTooLarge
       by false t true = mac_front frame buffer (replicate 32 0) (ltb-false 32 (length buffer) t)
       by false t false = mac_own frame buffer
 
   -- data flash: refused, empty, or read in blocks
   dataflash_comes : (start : ℕ) (buffer : List ℕ) → Comes (mac config.pec_read) buffer [] [] outcomes (rust-r5.read_dataflash config start buffer begun outcomes)
-  unfolding if◌then◌else◌ transfers_of buffer_left over
+  unfolding when◌then◌else◌ transfers_of buffer_left over
   dataflash_comes start buffer = rw (← read_dataflash_by config outcomes start buffer config.pec_read refl) (by (rust.check_df_range start (length buffer)) refl (eqb (length buffer) 0) refl)
     where
       by : (t : Bool) → rust.check_df_range start (length buffer) ≡ t → (z : Bool) → eqb (length buffer) 0 ≡ z
-          → Comes (mac config.pec_read) buffer [] [] outcomes (if t then flash-read.loop start config.pec_read config.max_bus_retries buffer 0 true begun outcomes else Err answer.DataFlashAddressOutOfRange begun outcomes leaving buffer)
+          → Comes (mac config.pec_read) buffer [] [] outcomes (when t then flash-read.loop start config.pec_read config.max_bus_retries buffer 0 true begun outcomes else Err answer.DataFlashAddressOutOfRange begun outcomes leaving buffer)
       by false t z e = stopped (mac config.pec_read) buffer [] [] outcomes _ refl (untouched buffer) (λ h. refl)
       by true t true e =
           rw (flash-read.loop_done start config.pec_read config.max_bus_retries buffer 0 true begun outcomes (omega (arith, eqb-true (length buffer) 0 e)))

@@ -7,7 +7,7 @@ use mathlib.Core.List.{List}
 use native.Mathlib.Omega.{arith}
 use lib.ListN.{length}
 use borrow.Author.Tests.{le-ltb}
-use Rattle.protocol.specs.Pick.{if◌then◌else◌}
+use Rattle.protocol.specs.Pick.{when◌then◌else◌}
 use Rattle.protocol.specs.Frame.{fixed_pair}
 use Rattle.protocol.specs.declared.error.Answer.{Answer}
 use Rattle.protocol.specs.declared.frame.MacCommand.{MacCommand}
@@ -20,7 +20,7 @@ use Rattle.original.specs.Bus.{BusOutcome, Log, Came, Ok, Err, Waiting, settle}
 
 -- the work buffer is large enough, so that the length decides
 pub measure : (l : Limit) (start n w : ℕ) → 39 ≤ w → admitted l start n w ≡ measured l start n
-unfolding admitted if◌then◌else◌
+unfolding admitted when◌then◌else◌
 measure l start n w h = rw (le-ltb w 39 h)
 
 -- what a call has counted once a failed attempt is to be retried, of a budget of r retries with so many left

@@ -9,7 +9,7 @@ use lib.ListN.{length, take, drop, get_or, length-take, length-drop}
 use lib.Dec.{eqb}
 use borrow.Author.Tests.{eqb-false}
 use Rattle.smbus_pec.specs.Pec.{pec_of}
-use Rattle.protocol.specs.Pick.{if◌then◌else◌}
+use Rattle.protocol.specs.Pick.{when◌then◌else◌}
 use Rattle.protocol.specs.Answer.{number_of}
 use Rattle.protocol.specs.Frame.{sealed}
 use Rattle.protocol.specs.Reply.{mac_ask, lead_of, bytes_asked, data_of}
@@ -38,7 +38,7 @@ module _ (retries : ℕ) (growing : Bool) (limit : Limit) (head : Head) (first :
 
   -- how much is asked for
   abbrev count : Bool → ℕ
-  count pec = if pec then 1 + 2 + length inner + 1 else 1 + 2 + length inner
+  count pec = when pec then 1 + 2 + length inner + 1 else 1 + 2 + length inner
 
   counted : (pec : Bool) → bytes_asked (ask_at (plan pec) (length buffer) w 0) ≡ count pec
   unfolding parts.ask_of
@@ -46,7 +46,7 @@ module _ (retries : ℕ) (growing : Bool) (limit : Limit) (head : Head) (first :
 
   -- the frame that goes out
   abbrev out : Bool → List ℕ
-  out pec = if pec then with_pec frame else frame
+  out pec = when pec then with_pec frame else frame
 
   framed : (pec : Bool) → head_at (plan pec) (length buffer) w 0 ≡ out pec
   unfolding head_at sealed with_pec
@@ -66,9 +66,9 @@ module _ (retries : ℕ) (growing : Bool) (limit : Limit) (head : Head) (first :
 
   fault : (pec heading : Bool) (outcomes : List BusOutcome) → AtFrame pec outcomes → (left : ℕ) (tally : Tally) (why : Answer) (done : List Made) → eqb (number_of why) 0 ≡ false → tally.waits + left ≤ 65535 → (t : Bool) → eqb left 0 ≡ t
       → fed_read (reading.fail_of (at (plan pec) (length buffer) w heading 0 left tally) why) buffer lent done outcomes
-      ≡ copied buffer (if eqb left 0 then Err why (record { transfers = done; waits = tally.waits }) outcomes leaving inner
+      ≡ copied buffer (when eqb left 0 then Err why (record { transfers = done; waits = tally.waits }) outcomes leaving inner
       else mac_write_turn (left - 1) pec frame inner (record { transfers = done; waits = tally.waits + 1 }) outcomes)
-  unfolding copied if◌then◌else◌
+  unfolding copied when◌then◌else◌
   fault pec heading outcomes ih left tally why done bad b true t =
       after_failure (plan pec) (length buffer) w lent heading 0 left tally why buffer done outcomes bad true t ∙ rw t
   fault pec heading outcomes ih left tally why done bad b false t =
@@ -80,34 +80,34 @@ module _ (retries : ℕ) (growing : Bool) (limit : Limit) (head : Head) (first :
   filled : (pec : Bool) (left : ℕ) (tally : Tally) (done : List Made) (reply : List ℕ) (outcomes : List BusOutcome) → length reply ≡ count pec
       → fed_read (reading.advance_of (at (plan pec) (length buffer) w false 0 left tally)) (reading.stored_of (at (plan pec) (length buffer) w false 0 left tally) reply buffer) lent done outcomes
       ≡ Ok (record { transfers = done; waits = tally.waits }) outcomes leaving take (length buffer) (take (length inner) (drop (1 + 2) reply))
-  unfolding reading.stored_of reading.due_ask parts.ask_of parts.most_of parts.read_count data_of lead_of mac_ask if◌then◌else◌
+  unfolding reading.stored_of reading.due_ask parts.ask_of parts.most_of parts.read_count data_of lead_of mac_ask when◌then◌else◌
   filled pec left tally done reply outcomes e =
       after_last (plan pec) (length buffer) w lent 0 left tally _ done outcomes (omega arith) (omega arith)
       ∙ ap (λ (b : List ℕ). Ok (record { transfers = done; waits = tally.waits }) outcomes leaving b) (stored_whole (take (length inner) (drop 3 reply)) buffer (rw (length-take, length-drop) (by pec e)))
     where
-      by : (pec : Bool) → length reply ≡ (if pec then 1 + 2 + length inner + 1 else 1 + 2 + length inner) → length buffer ≤ min (length inner) (length reply - 3)
+      by : (pec : Bool) → length reply ≡ (when pec then 1 + 2 + length inner + 1 else 1 + 2 + length inner) → length buffer ≤ min (length inner) (length reply - 3)
       by true q = omega arith
       by false q = omega arith
 
   -- what a reply of the right length comes to
   abbrev weighed : Bool → ℕ → Tally → List Made → List ℕ → List BusOutcome → Read
   weighed pec left tally done reply outcomes =
-      if believed (plan pec) (length buffer) w 0 reply
+      when believed (plan pec) (length buffer) w 0 reply
       then fed_read (reading.advance_of (at (plan pec) (length buffer) w false 0 left tally)) (reading.stored_of (at (plan pec) (length buffer) w false 0 left tally) reply buffer) lent done outcomes
       else fed_read (reading.fail_of (at (plan pec) (length buffer) w false 0 left tally) answer.Pec) buffer lent done outcomes
 
   plain_reply : (left : ℕ) (tally : Tally) (done : List Made) (reply : List ℕ) (outcomes : List BusOutcome) → length reply ≡ count false
       → weighed false left tally done reply outcomes ≡ copied buffer (Ok (record { transfers = done; waits = tally.waits }) outcomes leaving take (length inner) (drop (1 + 2) reply))
-  unfolding parts.ask_of mac_ask believed copied if◌then◌else◌
+  unfolding parts.ask_of mac_ask believed copied when◌then◌else◌
   plain_reply left tally done reply outcomes e = filled false left tally done reply outcomes e
 
   sealed_reply : (outcomes : List BusOutcome) → AtFrame true outcomes → (left : ℕ) (tally : Tally) (done : List Made) (reply : List ℕ) → length reply ≡ 1 + 2 + length inner + 1 → tally.waits + left ≤ 65535
       → (t : Bool) → eqb (get_or reply (1 + 2 + length inner) 0) (pec_of 0 (0x16 ∷ 0x44 ∷ 0x17 ∷ take (1 + 2 + length inner) reply)) ≡ t
       → weighed true left tally done reply outcomes
-      ≡ copied buffer (if not t then
-      (if eqb left 0 then Err answer.Pec (record { transfers = done; waits = tally.waits }) outcomes leaving inner else mac_write_turn (left - 1) true frame inner (record { transfers = done; waits = tally.waits + 1 }) outcomes)
+      ≡ copied buffer (when not t then
+      (when eqb left 0 then Err answer.Pec (record { transfers = done; waits = tally.waits }) outcomes leaving inner else mac_write_turn (left - 1) true frame inner (record { transfers = done; waits = tally.waits + 1 }) outcomes)
       else Ok (record { transfers = done; waits = tally.waits }) outcomes leaving take (length inner) (drop (1 + 2) reply))
-  unfolding parts.ask_of mac_ask believed copied if◌then◌else◌
+  unfolding parts.ask_of mac_ask believed copied when◌then◌else◌
   sealed_reply outcomes ih left tally done reply e b true t =
       rw (checked_last 0x44 (1 + 2 + length inner) reply e, t) (filled true left tally done reply outcomes e)
   sealed_reply outcomes ih left tally done reply e b false t =
@@ -115,10 +115,10 @@ module _ (retries : ℕ) (growing : Bool) (limit : Limit) (head : Head) (first :
 
   replied : (pec : Bool) (outcomes : List BusOutcome) → AtFrame pec outcomes → (left : ℕ) (tally : Tally) (done : List Made) (reply : List ℕ) → length reply ≡ count pec → tally.waits + left ≤ 65535
       → weighed pec left tally done reply outcomes
-      ≡ copied buffer (if pec && not (eqb (get_or reply (1 + 2 + length inner) 0) (pec_of 0 (0x16 ∷ 0x44 ∷ 0x17 ∷ take (1 + 2 + length inner) reply))) then
-      (if eqb left 0 then Err answer.Pec (record { transfers = done; waits = tally.waits }) outcomes leaving inner else mac_write_turn (left - 1) pec frame inner (record { transfers = done; waits = tally.waits + 1 }) outcomes)
+      ≡ copied buffer (when pec && not (eqb (get_or reply (1 + 2 + length inner) 0) (pec_of 0 (0x16 ∷ 0x44 ∷ 0x17 ∷ take (1 + 2 + length inner) reply))) then
+      (when eqb left 0 then Err answer.Pec (record { transfers = done; waits = tally.waits }) outcomes leaving inner else mac_write_turn (left - 1) pec frame inner (record { transfers = done; waits = tally.waits + 1 }) outcomes)
       else Ok (record { transfers = done; waits = tally.waits }) outcomes leaving take (length inner) (drop (1 + 2) reply))
-  unfolding if◌then◌else◌
+  unfolding when◌then◌else◌
   replied true outcomes ih left tally done reply l b = sealed_reply outcomes ih left tally done reply l b _ refl
   replied false outcomes ih left tally done reply l b = plain_reply left tally done reply outcomes l
 
@@ -174,8 +174,8 @@ module _ (frame buffer : List ℕ) (pec : Bool) where
   Own outcomes = (retries : ℕ) (log : Log) → copied buffer (mac_write_turn retries pec frame buffer log outcomes) ≡ mac_write_turn retries pec frame buffer log outcomes
 
   own_fault : (outcomes : List BusOutcome) → Own outcomes → (retries : ℕ) (why : Answer) (log : Log)
-      → copied buffer (if eqb retries 0 then Err why log outcomes leaving buffer else mac_write_turn (retries - 1) pec frame buffer (delayed log) outcomes)
-      ≡ (if eqb retries 0 then Err why log outcomes leaving buffer else mac_write_turn (retries - 1) pec frame buffer (delayed log) outcomes)
+      → copied buffer (when eqb retries 0 then Err why log outcomes leaving buffer else mac_write_turn (retries - 1) pec frame buffer (delayed log) outcomes)
+      ≡ (when eqb retries 0 then Err why log outcomes leaving buffer else mac_write_turn (retries - 1) pec frame buffer (delayed log) outcomes)
   own_fault outcomes ih retries why log = copied_pick buffer (eqb retries 0) _ _ (copied_err buffer why log outcomes) (ih (retries - 1) (delayed log))
 
   mutual

@@ -8,7 +8,7 @@ use native.Mathlib.Omega.{arith}
 use lib.ListN.{length}
 use lib.Dec.{ltb}
 use borrow.Author.Tests.{ltb-false}
-use Rattle.protocol.specs.Pick.{if◌then◌else◌}
+use Rattle.protocol.specs.Pick.{when◌then◌else◌}
 use Rattle.protocol.specs.declared.error.Answer.TheVariants as answer
 use Rattle.engine.specs.Limit.{measured}
 use Rattle.engine.specs.declared.limit.Limit.TheVariants as limit
@@ -25,11 +25,11 @@ use Rattle.original.proofs.WriteTurns.{own, frame_at, each, frames_in_turn, no_f
 
 -- the first frame that fails gives its own error
 first_error : (fs : Frames) (x : Came) → settle (λ log outcomes. Ok log outcomes) (writing.gave_up fs 0) x ≡ x
-unfolding settle writing.gave_up if◌then◌else◌
+unfolding settle writing.gave_up when◌then◌else◌
 first_error fs (Ok log outcomes) = refl
 first_error fs (Err e log outcomes) = by (is_flash fs)
   where
-    by : (flash : Bool) → Err (if flash then e else e) log outcomes ≡ Err e log outcomes
+    by : (flash : Bool) → Err (when flash then e else e) log outcomes ≡ Err e log outcomes
     by true = refl
     by false = refl
 first_error fs (Waiting log) = refl
@@ -47,8 +47,8 @@ module _ (plan : WritePlan) (payload : List ℕ) (w : ℕ) (lent : ℕ → Lendi
   -- too long a payload is refused before any transfer
   pub limited : (most : ℕ) (outcomes : List BusOutcome) → plan.limit ≡ limit.AtMost most → (length payload ≤ most → length (bytes_at plan.frames 0 payload) < w) → (t : Bool) → ltb most (length payload) ≡ t
       → writes plan payload w lent outcomes
-      ≡ (if ltb most (length payload) then Err answer.DataTooLarge begun outcomes else write_with_retries_internal plan.retries (frame_at plan payload w 0) begun outcomes)
-  unfolding measured answered if◌then◌else◌
+      ≡ (when ltb most (length payload) then Err answer.DataTooLarge begun outcomes else write_with_retries_internal plan.retries (frame_at plan payload w 0) begun outcomes)
+  unfolding measured answered when◌then◌else◌
   limited most outcomes l h true t =
       let e : measured plan.limit (first_address plan.frames) (length payload) ≡ phase.Ended answer.DataTooLarge = rw (l, t) in
       no_frame plan payload w lent answer.DataTooLarge outcomes (measure plan.limit (first_address plan.frames) (length payload) w roomy ∙ e) ∙ rw t

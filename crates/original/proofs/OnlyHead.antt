@@ -8,7 +8,7 @@ use native.Mathlib.Omega.{arith}
 use lib.ListN.{length}
 use lib.Dec.{eqb}
 use borrow.Author.Tests.{eqb-false}
-use Rattle.protocol.specs.Pick.{if◌then◌else◌}
+use Rattle.protocol.specs.Pick.{when◌then◌else◌}
 use Rattle.protocol.specs.Answer.{number_of}
 use Rattle.protocol.specs.declared.error.Answer.{Answer}
 use Rattle.protocol.specs.declared.error.Answer.TheVariants as answer
@@ -37,15 +37,15 @@ module _ (plan : ReadPlan) (buffer : List ℕ) (w : ℕ) (lent : ℕ → Lending
   -- the head was heard, and that is all
   after : (left : ℕ) (tally : Tally) (done : List Made) (outcomes : List BusOutcome)
       → fed_read (reading.headed_of (at plan (length buffer) w true 0 left tally)) buffer lent done outcomes ≡ Ok (record { transfers = done; waits = tally.waits }) outcomes leaving buffer
-  unfolding reading.headed_of phase_after parts.read_count answered if◌then◌else◌
+  unfolding reading.headed_of phase_after parts.read_count answered when◌then◌else◌
   after left tally done outcomes =
       let p : (reading.headed_of (at plan (length buffer) w true 0 left tally)).phase ≡ phase.Ended answer.Done = rw alone in
       at_end (reading.headed_of (at plan (length buffer) w true 0 left tally)) buffer lent done answer.Done p outcomes
 
   fault : (outcomes : List BusOutcome) → Same outcomes → (left : ℕ) (tally : Tally) (why : Answer) (done : List Made) → eqb (number_of why) 0 ≡ false → tally.waits + left ≤ 65535 → (t : Bool) → eqb left 0 ≡ t
       → fed_read (reading.fail_of (at plan (length buffer) w true 0 left tally) why) buffer lent done outcomes
-      ≡ (if eqb left 0 then Err why (record { transfers = done; waits = tally.waits }) outcomes else write_with_retries_internal (left - 1) frame (record { transfers = done; waits = tally.waits + 1 }) outcomes) leaving buffer
-  unfolding if◌then◌else◌
+      ≡ (when eqb left 0 then Err why (record { transfers = done; waits = tally.waits }) outcomes else write_with_retries_internal (left - 1) frame (record { transfers = done; waits = tally.waits + 1 }) outcomes) leaving buffer
+  unfolding when◌then◌else◌
   fault outcomes ih left tally why done bad b true t =
       after_failure plan (length buffer) w lent true 0 left tally why buffer done outcomes bad true t ∙ rw t
   fault outcomes ih left tally why done bad b false t =

@@ -9,7 +9,7 @@ use lib.ListN.{length, take, get_or, length-take}
 use lib.Dec.{eqb}
 use borrow.Author.Tests.{eqb-false}
 use Rattle.smbus_pec.specs.Pec.{pec_of}
-use Rattle.protocol.specs.Pick.{if◌then◌else◌}
+use Rattle.protocol.specs.Pick.{when◌then◌else◌}
 use Rattle.protocol.specs.Answer.{number_of}
 use Rattle.protocol.specs.Reply.{plain_ask, lead_of, bytes_asked, data_of}
 use Rattle.protocol.specs.declared.common.Config.{Config}
@@ -34,7 +34,7 @@ module _ (config : Config) (limit : Limit) (command : ℕ) (buffer inner : List 
 
   -- how much is asked for
   abbrev count : Bool → ℕ
-  count pec = if pec then length inner + 1 else length inner
+  count pec = when pec then length inner + 1 else length inner
 
   -- the read that goes out
   counted : (pec : Bool) → count pec ≤ 18446744073709551615 → bytes_asked (ask_at (plan pec) (length buffer) w 0) ≡ count pec
@@ -50,8 +50,8 @@ module _ (config : Config) (limit : Limit) (command : ℕ) (buffer inner : List 
 
   fault : (pec : Bool) (outcomes : List BusOutcome) → Same pec outcomes → (left : ℕ) (tally : Tally) (why : Answer) (done : List Made) → eqb (number_of why) 0 ≡ false → tally.waits + left ≤ 65535 → (t : Bool) → eqb left 0 ≡ t
       → fed_read (reading.fail_of (at (plan pec) (length buffer) w false 0 left tally) why) buffer lent (done ++ (read command (count pec) ∷ [])) outcomes
-      ≡ copied buffer (if eqb left 0 then Err why (now pec tally done) outcomes leaving inner else read_loop (left - 1) command inner pec (delayed (now pec tally done)) outcomes)
-  unfolding reading.plain_plan parts.has_head copied if◌then◌else◌
+      ≡ copied buffer (when eqb left 0 then Err why (now pec tally done) outcomes leaving inner else read_loop (left - 1) command inner pec (delayed (now pec tally done)) outcomes)
+  unfolding reading.plain_plan parts.has_head copied when◌then◌else◌
   fault pec outcomes ih left tally why done bad b true t =
       after_failure (plan pec) (length buffer) w lent false 0 left tally why buffer _ outcomes bad true t ∙ rw t
   fault pec outcomes ih left tally why done bad b false t =
@@ -63,34 +63,34 @@ module _ (config : Config) (limit : Limit) (command : ℕ) (buffer inner : List 
   filled : (pec : Bool) (left : ℕ) (tally : Tally) (done : List Made) (reply : List ℕ) (outcomes : List BusOutcome) → length reply ≡ count pec
       → fed_read (reading.advance_of (at (plan pec) (length buffer) w false 0 left tally)) (reading.stored_of (at (plan pec) (length buffer) w false 0 left tally) reply buffer) lent (done ++ (read command (count pec) ∷ [])) outcomes
       ≡ Ok (now pec tally done) outcomes leaving take (length buffer) (take (length inner) reply)
-  unfolding reading.plain_plan reading.stored_of reading.due_ask parts.ask_of parts.most_of parts.read_count data_of lead_of plain_ask if◌then◌else◌
+  unfolding reading.plain_plan reading.stored_of reading.due_ask parts.ask_of parts.most_of parts.read_count data_of lead_of plain_ask when◌then◌else◌
   filled pec left tally done reply outcomes e =
       after_last (plan pec) (length buffer) w lent 0 left tally _ _ outcomes (omega arith) (omega arith)
       ∙ ap (λ (b : List ℕ). Ok (now pec tally done) outcomes leaving b) (stored_whole (take (length inner) reply) buffer (rw length-take (by pec e)))
     where
-      by : (pec : Bool) → length reply ≡ (if pec then length inner + 1 else length inner) → length buffer ≤ min (length inner) (length reply)
+      by : (pec : Bool) → length reply ≡ (when pec then length inner + 1 else length inner) → length buffer ≤ min (length inner) (length reply)
       by true q = omega arith
       by false q = omega arith
 
   -- what a reply of the right length comes to
   abbrev weighed : Bool → ℕ → Tally → List Made → List ℕ → List BusOutcome → Read
   weighed pec left tally done reply outcomes =
-      if believed (plan pec) (length buffer) w 0 reply
+      when believed (plan pec) (length buffer) w 0 reply
       then fed_read (reading.advance_of (at (plan pec) (length buffer) w false 0 left tally)) (reading.stored_of (at (plan pec) (length buffer) w false 0 left tally) reply buffer) lent (done ++ (read command (count pec) ∷ [])) outcomes
       else fed_read (reading.fail_of (at (plan pec) (length buffer) w false 0 left tally) answer.Pec) buffer lent (done ++ (read command (count pec) ∷ [])) outcomes
 
   plain_reply : (left : ℕ) (tally : Tally) (done : List Made) (reply : List ℕ) (outcomes : List BusOutcome) → length reply ≡ length inner
       → weighed false left tally done reply outcomes ≡ copied buffer (Ok (now false tally done) outcomes leaving take (length inner) reply)
-  unfolding reading.plain_plan parts.ask_of plain_ask believed copied if◌then◌else◌
+  unfolding reading.plain_plan parts.ask_of plain_ask believed copied when◌then◌else◌
   plain_reply left tally done reply outcomes e = filled false left tally done reply outcomes e
 
   sealed_reply : (outcomes : List BusOutcome) → Same true outcomes → (left : ℕ) (tally : Tally) (done : List Made) (reply : List ℕ) → length reply ≡ length inner + 1 → tally.waits + left ≤ 65535
       → (t : Bool) → eqb (get_or reply (length inner) 0) (pec_of 0 (0x16 ∷ command ∷ 0x17 ∷ take (length inner) reply)) ≡ t
       → weighed true left tally done reply outcomes
-      ≡ copied buffer (if not t then
-      (if eqb left 0 then Err answer.Pec (now true tally done) outcomes leaving inner else read_loop (left - 1) command inner true (delayed (now true tally done)) outcomes)
+      ≡ copied buffer (when not t then
+      (when eqb left 0 then Err answer.Pec (now true tally done) outcomes leaving inner else read_loop (left - 1) command inner true (delayed (now true tally done)) outcomes)
       else Ok (now true tally done) outcomes leaving take (length inner) reply)
-  unfolding reading.plain_plan parts.ask_of plain_ask believed copied if◌then◌else◌
+  unfolding reading.plain_plan parts.ask_of plain_ask believed copied when◌then◌else◌
   sealed_reply outcomes ih left tally done reply e b true t =
       rw (checked_last command (length inner) reply e, t) (filled true left tally done reply outcomes e)
   sealed_reply outcomes ih left tally done reply e b false t =
@@ -107,10 +107,10 @@ module _ (config : Config) (limit : Limit) (command : ℕ) (buffer inner : List 
 
   replied : (pec : Bool) (outcomes : List BusOutcome) → Same pec outcomes → (left : ℕ) (tally : Tally) (done : List Made) (reply : List ℕ) → length reply ≡ count pec → tally.waits + left ≤ 65535
       → weighed pec left tally done reply outcomes
-      ≡ copied buffer (if pec && not (eqb (get_or reply (length inner) 0) (pec_of 0 (0x16 ∷ command ∷ 0x17 ∷ take (length inner) reply))) then
-      (if eqb left 0 then Err answer.Pec (now pec tally done) outcomes leaving inner else read_loop (left - 1) command inner pec (delayed (now pec tally done)) outcomes)
+      ≡ copied buffer (when pec && not (eqb (get_or reply (length inner) 0) (pec_of 0 (0x16 ∷ command ∷ 0x17 ∷ take (length inner) reply))) then
+      (when eqb left 0 then Err answer.Pec (now pec tally done) outcomes leaving inner else read_loop (left - 1) command inner pec (delayed (now pec tally done)) outcomes)
       else Ok (now pec tally done) outcomes leaving take (length inner) reply)
-  unfolding if◌then◌else◌
+  unfolding when◌then◌else◌
   replied true outcomes ih left tally done reply l b = sealed_reply outcomes ih left tally done reply l b _ refl
   replied false outcomes ih left tally done reply l b = plain_reply left tally done reply outcomes l
 
@@ -133,8 +133,8 @@ module _ (command : ℕ) (buffer : List ℕ) (pec : Bool) where
   Own outcomes = (retries : ℕ) (log : Log) → copied buffer (read_loop retries command buffer pec log outcomes) ≡ read_loop retries command buffer pec log outcomes
 
   own_fault : (outcomes : List BusOutcome) → Own outcomes → (retries : ℕ) (why : Answer) (log : Log)
-      → copied buffer (if eqb retries 0 then Err why log outcomes leaving buffer else read_loop (retries - 1) command buffer pec (delayed log) outcomes)
-      ≡ (if eqb retries 0 then Err why log outcomes leaving buffer else read_loop (retries - 1) command buffer pec (delayed log) outcomes)
+      → copied buffer (when eqb retries 0 then Err why log outcomes leaving buffer else read_loop (retries - 1) command buffer pec (delayed log) outcomes)
+      ≡ (when eqb retries 0 then Err why log outcomes leaving buffer else read_loop (retries - 1) command buffer pec (delayed log) outcomes)
   own_fault outcomes ih retries why log = copied_pick buffer (eqb retries 0) _ _ (copied_err buffer why log outcomes) (ih (retries - 1) (delayed log))
 
   pub own : (outcomes : List BusOutcome) → Own outcomes

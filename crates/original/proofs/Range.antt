@@ -7,13 +7,13 @@ use mathlib.Core.Logic.{inl, inr}
 use native.Mathlib.Omega.{arith}
 use lib.Dec.{ltb, eqb}
 use borrow.Author.Tests.{ltb-true, ltb-false, eqb-true, eqb-false}
-use Rattle.protocol.specs.Pick.{if◌then◌else◌}
+use Rattle.protocol.specs.Pick.{when◌then◌else◌}
 use Rattle.protocol.specs.Window.{in_window}
 use Rattle.protocol.proofs.WindowLaws.{empty, inside, outside}
 use Rattle.original.specs.OriginalInterface.{check_df_range}
 
 pub range_window : (start len : ℕ) → check_df_range start len ≡ in_window start len
-unfolding check_df_range if◌then◌else◌
+unfolding check_df_range when◌then◌else◌
 range_window start len = by (eqb len 0) refl (ltb start 0x4000) refl (ltb 0xFFFF (start + (len - 1))) refl (ltb 0x5FFF (start + (len - 1))) refl
   where
     by : (a : Bool) → eqb len 0 ≡ a → (b : Bool) → ltb start 0x4000 ≡ b → (c : Bool) → ltb 0xFFFF (start + (len - 1)) ≡ c → (d : Bool) → ltb 0x5FFF (start + (len - 1)) ≡ d

@@ -8,7 +8,7 @@ use native.Mathlib.Omega.{arith}
 use lib.ListN.{length, replicate}
 use lib.Dec.{ltb, eqb}
 use borrow.Author.Tests.{le-ltb, eq-eqb, ltb-false, eqb-true, eqb-false, ne_eqb}
-use Rattle.protocol.specs.Pick.{if◌then◌else◌}
+use Rattle.protocol.specs.Pick.{when◌then◌else◌}
 use Rattle.protocol.specs.Frame.{mac_bytes, fixed_pair, command_bytes, sealed}
 use Rattle.protocol.specs.Reply.{plain_ask, mac_ask}
 use Rattle.r5.specs.Voltage.{figure_of, override_of}
@@ -62,9 +62,9 @@ mac_head mac.MfgInfoC = refl
 
 -- read_dataflash is one loop or the other
 pub read_dataflash_by : (config : common.Config) (outcomes : List BusOutcome) (start : ℕ) (buffer : List ℕ) (pec : Bool) → config.pec_read ≡ pec
-    → (if rust.check_df_range start (length buffer) then flash-read.loop start config.pec_read config.max_bus_retries buffer 0 true begun outcomes else Err answer.DataFlashAddressOutOfRange begun outcomes leaving buffer)
+    → (when rust.check_df_range start (length buffer) then flash-read.loop start config.pec_read config.max_bus_retries buffer 0 true begun outcomes else Err answer.DataFlashAddressOutOfRange begun outcomes leaving buffer)
     ≡ rust-r5.read_dataflash config start buffer begun outcomes
-unfolding flash-read.loop if◌then◌else◌ rust.mac_read_from_df_with_retries rust.mac_read_from_df_with_retries_pec rust-r5.read_dataflash
+unfolding flash-read.loop when◌then◌else◌ rust.mac_read_from_df_with_retries rust.mac_read_from_df_with_retries_pec rust-r5.read_dataflash
 read_dataflash_by config outcomes start buffer true p = rw p
 read_dataflash_by config outcomes start buffer false p = rw p
 
@@ -74,7 +74,7 @@ module _ (config : Config) (few : config.max_write_retries ≤ 65535) (small : c
   set = set_for side.Read config
 
   -- a plain read that is admitted, into bytes of its own that are copied
-  plain : (l : Limit) (command : ℕ) (buffer inner : List ℕ) (pec : Bool) → measured l 0 (length buffer) ≡ phase.Waiting → length buffer ≤ length inner → (if pec then length inner + 1 else length inner) ≤ 18446744073709551615
+  plain : (l : Limit) (command : ℕ) (buffer inner : List ℕ) (pec : Bool) → measured l 0 (length buffer) ≡ phase.Waiting → length buffer ≤ length inner → (when pec then length inner + 1 else length inner) ≤ 18446744073709551615
       → reads (reading.plain_plan config l (plain_ask command (length inner) pec)) buffer w lent outcomes ≡ copied buffer (rust.read_with_retries set command inner pec begun outcomes)
   unfolding reading.plain_plan parts.has_head parts.first_address rust.read_with_retries nothing
   plain l command buffer inner pec m h few =
@@ -82,20 +82,20 @@ module _ (config : Config) (few : config.max_write_retries ≤ 65535) (small : c
       ∙ plain-read.same config l command buffer inner w lent steady h pec few outcomes config.max_read_retries nothing [] (omega arith)
 
   -- and one into the caller's own
-  plain_own : (l : Limit) (command : ℕ) (buffer : List ℕ) (pec : Bool) → measured l 0 (length buffer) ≡ phase.Waiting → (if pec then length buffer + 1 else length buffer) ≤ 18446744073709551615
+  plain_own : (l : Limit) (command : ℕ) (buffer : List ℕ) (pec : Bool) → measured l 0 (length buffer) ≡ phase.Waiting → (when pec then length buffer + 1 else length buffer) ≤ 18446744073709551615
       → reads (reading.plain_plan config l (plain_ask command (length buffer) pec)) buffer w lent outcomes ≡ rust.read_with_retries set command buffer pec begun outcomes
   unfolding rust.read_with_retries
   plain_own l command buffer pec m few =
       plain l command buffer buffer pec m (omega arith) few ∙ plain-read.own command buffer pec outcomes config.max_read_retries begun
 
   -- a length that is small
-  counts : (pec : Bool) (n : ℕ) → n ≤ 33 → (if pec then n + 1 else n) ≤ 18446744073709551615
-  unfolding if◌then◌else◌
+  counts : (pec : Bool) (n : ℕ) → n ≤ 33 → (when pec then n + 1 else n) ≤ 18446744073709551615
+  unfolding when◌then◌else◌
   counts true n h = omega arith
   counts false n h = omega arith
 
   read_register_by : (address : ℕ) (buffer : List ℕ) (t : Bool) → ltb 32 (length buffer) ≡ t → reads (machine.read_register config address (length buffer)) buffer w lent outcomes ≡ rust.read_register set address buffer begun outcomes
-  unfolding machine.read_register reading.plain_plan parts.first_address measured admitted answered if◌then◌else◌ rust.read_register
+  unfolding machine.read_register reading.plain_plan parts.first_address measured admitted answered when◌then◌else◌ rust.read_register
   read_register_by address buffer true t =
       no_transfer (machine.read_register config address (length buffer)) (length buffer) w lent buffer answer.DataTooLarge outcomes (rw (le-ltb w 39 roomy, t)) ∙ rw t
   read_register_by address buffer false t =
@@ -105,11 +105,11 @@ module _ (config : Config) (few : config.max_write_retries ≤ 65535) (small : c
   read_register_lem address buffer = read_register_by address buffer (ltb 32 (length buffer)) refl
 
   pub buffer_read_lem : (address : ℕ) (buffer : List ℕ) → length buffer ≤ 18446744073709551615 → reads (machine.read_buffer config address (length buffer)) buffer w lent outcomes ≡ rust.buffer_read set address buffer begun outcomes
-  unfolding machine.read_buffer rust.buffer_read measured if◌then◌else◌
+  unfolding machine.read_buffer rust.buffer_read measured when◌then◌else◌
   buffer_read_lem address buffer h = plain_own limit.Free address buffer false refl h
 
   read_mfg_info_by : (buffer : List ℕ) (t : Bool) → ltb 33 (length buffer) ≡ t → (pec : Bool) → config.pec_read ≡ pec → reads (machine-r5.read_mfg_info config (length buffer)) buffer w lent outcomes ≡ rust-r5.read_mfg_info set buffer begun outcomes
-  unfolding machine-r5.read_mfg_info machine-r5.whole_ask reading.plain_plan parts.first_address measured admitted answered if◌then◌else◌ rust.read_with_retries rust-r5.read_mfg_info
+  unfolding machine-r5.read_mfg_info machine-r5.whole_ask reading.plain_plan parts.first_address measured admitted answered when◌then◌else◌ rust.read_with_retries rust-r5.read_mfg_info
   read_mfg_info_by buffer true t pec p =
       no_transfer (machine-r5.read_mfg_info config (length buffer)) (length buffer) w lent buffer answer.DataTooLarge outcomes (rw (le-ltb w 39 roomy, t)) ∙ rw t
   read_mfg_info_by buffer false t true p =
@@ -139,7 +139,7 @@ module _ (config : Config) (few : config.max_write_retries ≤ 65535) (small : c
   -- a key of exactly so many bytes
   keyed : (command : MacCommand) (size : ℕ) (buffer : List ℕ) → length buffer ≡ size → size ≤ 32
       → reads (machine-r5.mac_read config command size) buffer w lent outcomes ≡ rust.mac_read_with_retries set (0x44 ∷ 2 ∷ fixed_pair command) buffer begun outcomes
-  unfolding machine-r5.mac_read measured if◌then◌else◌
+  unfolding machine-r5.mac_read measured when◌then◌else◌
   keyed command size buffer e h =
       let m : measured (limit.Exactly size) 0 (length buffer) ≡ phase.Waiting = rw (eq-eqb (length buffer) size e) in
       ap (λ (k : ℕ). reads (reading.mac_plan config (limit.Exactly size) command k) buffer w lent outcomes) (sym e) ∙ behind_own (limit.Exactly size) command buffer m (omega arith)
@@ -158,7 +158,7 @@ module _ (config : Config) (few : config.max_write_retries ≤ 65535) (small : c
   read_charging_voltage_override_lem buffer e = keyed mac.ChargingVoltageOverride 10 buffer e (omega arith)
 
   read_mfg_info_c_by : (buffer : List ℕ) (t : Bool) → ltb 32 (length buffer) ≡ t → (pec : Bool) → config.pec_read ≡ pec → reads (machine-r5.read_mfg_info_c config (length buffer)) buffer w lent outcomes ≡ rust-r5.read_mfg_info_c set buffer begun outcomes
-  unfolding machine-r5.read_mfg_info_c machine-r5.whole_ask reading.mac_plan parts.first_address measured admitted answered if◌then◌else◌ rust-r5.read_mfg_info_c
+  unfolding machine-r5.read_mfg_info_c machine-r5.whole_ask reading.mac_plan parts.first_address measured admitted answered when◌then◌else◌ rust-r5.read_mfg_info_c
   read_mfg_info_c_by buffer true t pec p =
       no_transfer (machine-r5.read_mfg_info_c config (length buffer)) (length buffer) w lent buffer answer.DataTooLarge outcomes (rw (le-ltb w 39 roomy, t)) ∙ rw t
   read_mfg_info_c_by buffer false t true p =
@@ -178,8 +178,8 @@ module _ (config : Config) (few : config.max_write_retries ≤ 65535) (small : c
   -- data flash, without and with PEC
   dataflash_by : (start : ℕ) (buffer : List ℕ) (t : Bool) → in_window start (length buffer) ≡ t → (n : Bool) → eqb (length buffer) 0 ≡ n
       → reads (machine-r5.read_dataflash config start) buffer w lent outcomes
-      ≡ (if rust.check_df_range start (length buffer) then flash-read.loop start config.pec_read config.max_read_retries buffer 0 true begun outcomes else Err answer.DataFlashAddressOutOfRange begun outcomes leaving buffer)
-  unfolding machine-r5.read_dataflash parts.has_head parts.first_address measured admitted windowed answered if◌then◌else◌ nothing
+      ≡ (when rust.check_df_range start (length buffer) then flash-read.loop start config.pec_read config.max_read_retries buffer 0 true begun outcomes else Err answer.DataFlashAddressOutOfRange begun outcomes leaving buffer)
+  unfolding machine-r5.read_dataflash parts.has_head parts.first_address measured admitted windowed answered when◌then◌else◌ nothing
   dataflash_by start buffer false t n e =
       no_transfer (machine-r5.read_dataflash config start) (length buffer) w lent buffer answer.DataFlashAddressOutOfRange outcomes (rw (le-ltb w 39 roomy, t)) ∙ rw (range_window, t)
   dataflash_by start buffer true t true e =
@@ -203,9 +203,9 @@ module _ (config : Config) (few : config.max_write_retries ≤ 65535) (small : c
   -- one that is admitted: a write, or a read behind its frame
   dispatched : (address : ℕ) (input output : List ℕ) → measured (limit.Command (length input)) 0 (length output) ≡ phase.Waiting → length output ≤ 32 → (n : Bool) → eqb (length output) 0 ≡ n
       → reads (machine.dispatch_command config address (length input) (length output)) output w lent outcomes
-      ≡ (if eqb (length output) 0 then rust.mac_write_with_retries (by_output n) (address / 65536 % 256 ∷ 2 ∷ address / 256 % 256 ∷ address % 256 ∷ []) begun outcomes leaving output
+      ≡ (when eqb (length output) 0 then rust.mac_write_with_retries (by_output n) (address / 65536 % 256 ∷ 2 ∷ address / 256 % 256 ∷ address % 256 ∷ []) begun outcomes leaving output
       else rust.mac_read_with_retries (by_output n) (address / 65536 % 256 ∷ 2 ∷ address / 256 % 256 ∷ address % 256 ∷ []) output begun outcomes)
-  unfolding machine.dispatch_command machine.command_reads parts.has_head parts.first_address parts.head_bytes command_bytes head_at sealed if◌then◌else◌ rust.with_pec rust.write_with_retries rust.mac_write_with_retries rust.mac_read_with_retries nothing
+  unfolding machine.dispatch_command machine.command_reads parts.has_head parts.first_address parts.head_bytes command_bytes head_at sealed when◌then◌else◌ rust.with_pec rust.write_with_retries rust.mac_write_with_retries rust.mac_read_with_retries nothing
   dispatched address input output m h true n =
       rw n (started (reading.plan_of config (limit.Command (length input)) (head.Command address) Reads-of.Nothing) (length output) w lent output outcomes (measure (limit.Command (length input)) 0 (length output) w roomy ∙ m)
       ∙ only_head.same (reading.plan_of config (limit.Command (length input)) (head.Command address) Reads-of.Nothing) output w lent steady refl refl (omega arith) outcomes config.max_write_retries nothing [] (omega arith))
@@ -217,7 +217,7 @@ module _ (config : Config) (few : config.max_write_retries ≤ 65535) (small : c
 
   dispatch_by : (address : ℕ) (input output : List ℕ) → rust.dispatch_panics input output ≡ false → (n : Bool) → eqb (length output) 0 ≡ n
       → reads (machine.dispatch_command config address (length input) (length output)) output w lent outcomes ≡ rust.dispatch_command (by_output n) address input output begun outcomes
-  unfolding machine.dispatch_command parts.first_address measured admitted commanded answered if◌then◌else◌ rust.dispatch_command
+  unfolding machine.dispatch_command parts.first_address measured admitted commanded answered when◌then◌else◌ rust.dispatch_command
   dispatch_by address input output safe n e = by (ltb 32 (length input)) refl (ltb 32 (length output)) refl (eqb (length input) 0) refl
     where
       by : (a : Bool) → ltb 32 (length input) ≡ a → (b : Bool) → ltb 32 (length output) ≡ b → (z : Bool) → eqb (length input) 0 ≡ z
@@ -239,7 +239,7 @@ module _ (config : Config) (few : config.max_write_retries ≤ 65535) (small : c
 
   pub dispatch_command_refused : (address : ℕ) (input output : List ℕ) → rust.dispatch_panics input output ≡ true
       → reads (machine.dispatch_command config address (length input) (length output)) output w lent outcomes ≡ Err answer.NotACommand begun outcomes leaving output
-  unfolding machine.dispatch_command parts.first_address measured admitted commanded answered if◌then◌else◌
+  unfolding machine.dispatch_command parts.first_address measured admitted commanded answered when◌then◌else◌
   dispatch_command_refused address input output panics = by (ltb 32 (length input)) refl (ltb 32 (length output)) refl (eqb (length input) 0) refl
     where
       by : (a : Bool) → ltb 32 (length input) ≡ a → (b : Bool) → ltb 32 (length output) ≡ b → (z : Bool) → eqb (length input) 0 ≡ z

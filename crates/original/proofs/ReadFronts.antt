@@ -11,7 +11,7 @@ use lib.Seq.{take-nil, take_all, take-take}
 use lib.Dec.{eqb, ltb}
 use borrow.Author.Tests.{ltb-true, ltb-false}
 use Rattle.smbus_pec.specs.Pec.{pec_of}
-use Rattle.protocol.specs.Pick.{if◌then◌else◌}
+use Rattle.protocol.specs.Pick.{when◌then◌else◌}
 use Rattle.protocol.specs.Bytes.{over}
 use Rattle.protocol.proofs.Laws.{length_over}
 use Rattle.protocol.specs.declared.error.Answer.{Answer}
@@ -34,18 +34,18 @@ module _ (command : ℕ) (buffer inner : List ℕ) (pec : Bool) (room : length b
   Plain outcomes = (retries : ℕ) (log : Log) → Comes (plain pec command) buffer [] log.transfers outcomes (copied buffer (read_loop retries command inner pec log outcomes))
 
   plain_fault : (outcomes : List BusOutcome) → Plain outcomes → (retries : ℕ) (why : Answer) (log : Log)
-      → Comes (plain pec command) buffer [] log.transfers outcomes (copied buffer (if eqb retries 0 then Err why log outcomes leaving inner else read_loop (retries - 1) command inner pec (delayed log) outcomes))
+      → Comes (plain pec command) buffer [] log.transfers outcomes (copied buffer (when eqb retries 0 then Err why log outcomes leaving inner else read_loop (retries - 1) command inner pec (delayed log) outcomes))
   unfolding copied transfers_of buffer_left
   plain_fault outcomes ih retries why log =
       either (plain pec command) buffer (copied buffer) [] log.transfers outcomes (eqb retries 0) _ _
       (stopped (plain pec command) buffer [] log.transfers outcomes _ refl (untouched buffer) (λ h. refl)) (ih (retries - 1) (delayed log))
 
-  plain_reply : (outcomes : List BusOutcome) → Plain outcomes → (retries : ℕ) (log : Log) (bytes : List ℕ) (count : ℕ) → count ≡ (if pec then length inner + 1 else length inner)
+  plain_reply : (outcomes : List BusOutcome) → Plain outcomes → (retries : ℕ) (log : Log) (bytes : List ℕ) (count : ℕ) → count ≡ (when pec then length inner + 1 else length inner)
       → (t : Bool) → pec && not (eqb (get_or (delivered count bytes) (length inner) 0) (pec_of 0 (0x16 ∷ command ∷ 0x17 ∷ take (length inner) (delivered count bytes)))) ≡ t
-      → Comes (plain pec command) buffer [] log.transfers (Acknowledged bytes ∷ outcomes) (copied buffer (if t
-      then (if eqb retries 0 then Err answer.Pec (made (read command count) log) outcomes leaving inner else read_loop (retries - 1) command inner pec (delayed (made (read command count) log)) outcomes)
+      → Comes (plain pec command) buffer [] log.transfers (Acknowledged bytes ∷ outcomes) (copied buffer (when t
+      then (when eqb retries 0 then Err answer.Pec (made (read command count) log) outcomes leaving inner else read_loop (retries - 1) command inner pec (delayed (made (read command count) log)) outcomes)
       else Ok (made (read command count) log) outcomes leaving take (length inner) (delivered count bytes)))
-  unfolding if◌then◌else◌ copied transfers_of buffer_left brought
+  unfolding when◌then◌else◌ copied transfers_of buffer_left brought
   plain_reply outcomes ih retries log bytes count c true t =
       unmoved (plain pec command) buffer [] log.transfers (read command count) (Acknowledged bytes) outcomes _
       (data_in_lem (plain pec command) (length inner) (delivered count bytes) (length_delivered count bytes ∙ c) ∙ rw t)
@@ -68,18 +68,18 @@ module _ (frame buffer inner : List ℕ) (pec : Bool) (room : length buffer ≤ 
   AtFrame outcomes = (retries : ℕ) (log : Log) → Comes (mac pec) buffer [] log.transfers outcomes (copied buffer (mac_write_turn retries pec frame inner log outcomes))
 
   mac_fault : (outcomes : List BusOutcome) → AtFrame outcomes → (retries : ℕ) (why : Answer) (log : Log)
-      → Comes (mac pec) buffer [] log.transfers outcomes (copied buffer (if eqb retries 0 then Err why log outcomes leaving inner else mac_write_turn (retries - 1) pec frame inner (delayed log) outcomes))
+      → Comes (mac pec) buffer [] log.transfers outcomes (copied buffer (when eqb retries 0 then Err why log outcomes leaving inner else mac_write_turn (retries - 1) pec frame inner (delayed log) outcomes))
   unfolding copied transfers_of buffer_left
   mac_fault outcomes ih retries why log =
       either (mac pec) buffer (copied buffer) [] log.transfers outcomes (eqb retries 0) _ _
       (stopped (mac pec) buffer [] log.transfers outcomes _ refl (untouched buffer) (λ h. refl)) (ih (retries - 1) (delayed log))
 
-  mac_reply : (outcomes : List BusOutcome) → AtFrame outcomes → (retries : ℕ) (log : Log) (bytes : List ℕ) (sent count : ℕ) → count ≡ (if pec then 1 + 2 + length inner + 1 else 1 + 2 + length inner)
+  mac_reply : (outcomes : List BusOutcome) → AtFrame outcomes → (retries : ℕ) (log : Log) (bytes : List ℕ) (sent count : ℕ) → count ≡ (when pec then 1 + 2 + length inner + 1 else 1 + 2 + length inner)
       → (t : Bool) → pec && not (eqb (get_or (delivered count bytes) (1 + 2 + length inner) 0) (pec_of 0 (0x16 ∷ 0x44 ∷ 0x17 ∷ take (1 + 2 + length inner) (delivered count bytes)))) ≡ t
-      → Comes (mac pec) buffer [] log.transfers (Acknowledged bytes ∷ outcomes) (copied buffer (if t
-      then (if eqb retries 0 then Err answer.Pec (made (read sent count) log) outcomes leaving inner else mac_write_turn (retries - 1) pec frame inner (delayed (made (read sent count) log)) outcomes)
+      → Comes (mac pec) buffer [] log.transfers (Acknowledged bytes ∷ outcomes) (copied buffer (when t
+      then (when eqb retries 0 then Err answer.Pec (made (read sent count) log) outcomes leaving inner else mac_write_turn (retries - 1) pec frame inner (delayed (made (read sent count) log)) outcomes)
       else Ok (made (read sent count) log) outcomes leaving take (length inner) (drop (1 + 2) (delivered count bytes))))
-  unfolding if◌then◌else◌ copied transfers_of buffer_left brought
+  unfolding when◌then◌else◌ copied transfers_of buffer_left brought
   mac_reply outcomes ih retries log bytes sent count c true t =
       unmoved (mac pec) buffer [] log.transfers (read sent count) (Acknowledged bytes) outcomes _
       (data_in_lem (mac pec) (1 + 2 + length inner) (delivered count bytes) (length_delivered count bytes ∙ c) ∙ rw t)
@@ -111,41 +111,41 @@ module _ (frame buffer inner : List ℕ) (pec : Bool) (room : length buffer ≤ 
 
 -- how much a data-flash read brings where so much is left
 abbrev most : Bool → ℕ → ℕ
-most pec left = if pec then 32 else min 32 left
+most pec left = when pec then 32 else min 32 left
 
-block : (start : ℕ) (pec : Bool) (left : ℕ) (reply : List ℕ) → length reply ≡ count start pec left → data_in (mac pec) reply ≡ (if bad start pec reply then [] else take (most pec left) (drop 3 reply))
-unfolding if◌then◌else◌
+block : (start : ℕ) (pec : Bool) (left : ℕ) (reply : List ℕ) → length reply ≡ count start pec left → data_in (mac pec) reply ≡ (when bad start pec reply then [] else take (most pec left) (drop 3 reply))
+unfolding when◌then◌else◌
 block start true left reply e =
     data_in_lem (mac true) 35 reply e
-    ∙ ap (λ (d : List ℕ). if bad start true reply then [] else d) (drop_take 3 32 reply)
+    ∙ ap (λ (d : List ℕ). when bad start true reply then [] else d) (drop_take 3 32 reply)
 block start false left reply e =
     let l : length reply ≡ 3 + min 32 left = omega arith in
     data_in_lem (mac false) (3 + min 32 left) reply l ∙ drop_take 3 (min 32 left) reply
 
 block_length : (start : ℕ) (pec : Bool) (left : ℕ) (reply : List ℕ) → length reply ≡ count start pec left → length (take (most pec left) (drop 3 reply)) ≡ most pec left
-unfolding if◌then◌else◌
+unfolding when◌then◌else◌
 block_length start true left reply e = rw (length-take, length-drop) (omega arith)
 block_length start false left reply e = rw (length-take, length-drop) (omega arith)
 
 -- it is stored as far as there is room
 block_room : (pec : Bool) (left : ℕ) → min 32 left ≡ min left (most pec left)
-unfolding if◌then◌else◌
+unfolding when◌then◌else◌
 block_room true left = omega arith
 block_room false left = omega arith
 
 block_least : (pec : Bool) (left : ℕ) → min 32 left ≤ most pec left
-unfolding if◌then◌else◌
+unfolding when◌then◌else◌
 block_least true left = omega arith
 block_least false left = omega arith
 
 -- so much is there then: all, or whole blocks
 reached : (pec : Bool) (b n left : ℕ) → left ≡ n - b → b < n → b + min 32 left ≡ min (b + most pec left) n
-unfolding if◌then◌else◌
+unfolding when◌then◌else◌
 reached true b n left e h = omega arith
 reached false b n left e h = omega arith
 
 whole_then : (pec : Bool) (b n left : ℕ) → left ≡ n - b → b % 32 ≡ 0 → b + most pec left < n → (b + most pec left) % 32 ≡ 0
-unfolding if◌then◌else◌
+unfolding when◌then◌else◌
 whole_then true b n left e w h = omega arith
 whole_then false b n left e w h = omega arith
 
@@ -165,7 +165,7 @@ module _ (start : ℕ) (pec : Bool) (buffer : List ℕ) (far : start + length bu
 
   flash_fault : (outcomes : List BusOutcome) → Going outcomes → (retries : ℕ) (why : Answer) (before : List ℕ) (log : Log) → length before < length buffer → length before % 32 ≡ 0
       → Comes (mac pec) buffer before log.transfers outcomes
-      (if eqb retries 0 then Err why log outcomes leaving over before buffer else loop start pec (retries - 1) (over before buffer) (length before) true (delayed log) outcomes)
+      (when eqb retries 0 then Err why log outcomes leaving over before buffer else loop start pec (retries - 1) (over before buffer) (length before) true (delayed log) outcomes)
   unfolding transfers_of buffer_left
   flash_fault outcomes ih retries why before log h w =
       either (mac pec) buffer (λ r. r) before log.transfers outcomes (eqb retries 0) _ _
@@ -199,10 +199,10 @@ module _ (start : ℕ) (pec : Bool) (buffer : List ℕ) (far : start + length bu
   flash_reply : (outcomes : List BusOutcome) → Going outcomes → (retries : ℕ) (before : List ℕ) (log : Log) (bytes : List ℕ) (left : ℕ) → left ≡ length buffer - length before
       → length before < length buffer → length before % 32 ≡ 0 → (t : Bool) → bad start pec (delivered (count start pec left) bytes) ≡ t
       → Comes (mac pec) buffer before log.transfers (Acknowledged bytes ∷ outcomes)
-      (if t then (if eqb retries 0 then Err answer.Pec (made (read 0x44 (count start pec left)) log) outcomes leaving over before buffer
+      (when t then (when eqb retries 0 then Err answer.Pec (made (read 0x44 (count start pec left)) log) outcomes leaving over before buffer
       else loop start pec (retries - 1) (over before buffer) (length before) true (delayed (made (read 0x44 (count start pec left)) log)) outcomes)
       else loop start pec retries (placed start (length before) (min 32 left) (delivered (count start pec left) bytes) (over before buffer)) (length before + min 32 left) false (made (read 0x44 (count start pec left)) log) outcomes)
-  unfolding if◌then◌else◌ brought
+  unfolding when◌then◌else◌ brought
   flash_reply outcomes ih retries before log bytes left e h w true t =
       unmoved (mac pec) buffer before log.transfers (read 0x44 (count start pec left)) (Acknowledged bytes) outcomes _
       (block start pec left (delivered (count start pec left) bytes) (length_delivered _ bytes) ∙ rw t)

@@ -1,6 +1,6 @@
 -- A reading call, fed, turn by turn: a head that goes out, a read, a failed attempt.
 -- Assumes nothing.
-use Prim.Native.Nat.{ℕ, suc, ◌+◌, ◌-◌, ◌≤◌, ◌<◌}
+use Prim.Native.Nat.{ℕ, suc, ◌-◌, ◌≤◌, ◌<◌}
 use mathlib.Core.Path.{◌≡◌, refl, sym, ◌∙◌}
 use mathlib.Core.List.{List, [], ◌∷◌, ◌++◌}
 use mathlib.Core.Bool.{Bool, true, false}
@@ -8,7 +8,7 @@ use native.Mathlib.Omega.{arith}
 use lib.ListN.{length, take, length-append, length-take, length-replicate}
 use lib.Dec.{eqb}
 use borrow.Author.Tests.{lt-ltb, eq-eqb, le-leb, lt-leb}
-use Rattle.protocol.specs.Pick.{if◌then◌else◌}
+use Rattle.protocol.specs.Pick.{when◌then◌else◌}
 use Rattle.protocol.specs.Answer.{number_of}
 use Rattle.protocol.specs.Frame.{sealed, laid_of, work_laid}
 use Rattle.protocol.specs.Reply.{bytes_asked, checked_of, heard_of}
@@ -70,26 +70,26 @@ module _ (plan : ReadPlan) (n w : ℕ) where
 
   pub shown_head_lem : {A : Type 0} (i left : ℕ) (tally : Tally) (buffer work : List ℕ) (f : Made → A) (g : Answer → A) → length buffer ≡ n → length work ≡ w → length (parts.head_bytes plan.head i) < w
       → (shows reading.next_of (at true i left tally) (length buffer) (length work) sending (λ m. take m (reading.work_after (at true i left tally) (length buffer) work)) transfer f answer g) ≡ f (write (head_at i))
-  unfolding reading.next_of reading.work_after reading.shown_of reading.shown_head reading.work_shown reading.work_head case◌waiting◌ended◌ head_at shows◌sending◌transfer◌answer◌ if◌then◌else◌ laid_of work_laid write_of
+  unfolding reading.next_of reading.work_after reading.shown_of reading.shown_head reading.work_shown reading.work_head case◌waiting◌ended◌ head_at shows◌sending◌transfer◌answer◌ when◌then◌else◌ laid_of work_laid write_of
   shown_head_lem i left tally buffer work f g b e h = rw (b, e, fits n w refl refl, lt-ltb _ _ h, take_over)
 
   pub shown_read : {A : Type 0} (i left : ℕ) (tally : Tally) (buffer work : List ℕ) (part : ℕ → List ℕ) (f : Made → A) (g : Answer → A) → length buffer ≡ n → length work ≡ w
       → (shows reading.next_of (at false i left tally) (length buffer) (length work) sending part transfer f answer g) ≡ f (read (ask_at i).command (bytes_asked (ask_at i)))
-  unfolding reading.next_of reading.shown_of reading.due_ask case◌waiting◌ended◌ shows◌sending◌transfer◌answer◌ if◌then◌else◌
+  unfolding reading.next_of reading.shown_of reading.due_ask case◌waiting◌ended◌ shows◌sending◌transfer◌answer◌ when◌then◌else◌
   shown_read i left tally buffer work part f g b e = rw (b, e, fits n w refl refl)
 
   pub kept_head : (i left : ℕ) (tally : Tally) (buffer work : List ℕ) → length buffer ≡ n → length work ≡ w → length (parts.head_bytes plan.head i) < w
       → length (reading.work_after (at true i left tally) (length buffer) work) ≡ w
-  unfolding reading.work_after reading.work_shown reading.work_head case◌waiting◌ended◌ if◌then◌else◌ work_laid
+  unfolding reading.work_after reading.work_shown reading.work_head case◌waiting◌ended◌ when◌then◌else◌ work_laid
   kept_head i left tally buffer work b e h =
       let short : length (sealed plan.head_pec (parts.head_bytes plan.head i)) ≤ length work = omega (arith, length_sealed plan.head_pec (parts.head_bytes plan.head i)) in
       rw (b, e, fits n w refl refl, lt-ltb _ _ h, length_over) e
 
   pub kept_read : (i left : ℕ) (tally : Tally) (buffer work : List ℕ) → length work ≡ w → length (reading.work_after (at false i left tally) (length buffer) work) ≡ w
-  unfolding reading.work_after reading.work_shown case◌waiting◌ended◌ if◌then◌else◌
+  unfolding reading.work_after reading.work_shown case◌waiting◌ended◌ when◌then◌else◌
   kept_read i left tally buffer work e = by (fits_of (record { length = n; work = w }) (length buffer) (length work))
     where
-      by : (t : Bool) → length (if t then work else work) ≡ w
+      by : (t : Bool) → length (when t then work else work) ≡ w
       by true = e
       by false = e
 
@@ -103,7 +103,7 @@ module _ (plan : ReadPlan) (n w : ℕ) where
   -- what a head's outcome comes to
   judged_head : (i left : ℕ) (tally : Tally) (frame beside : List ℕ) (o : BusOutcome) (m v : ℕ) → m ≡ n → v ≡ w
       → reading.judge_of (at true i left tally) (told o) (reply (write frame) beside o) m v ≡ (bus_op o err (λ e. verdict.Failed e) ok (λ bytes. verdict.Head))
-  unfolding reading.judge_of reading.weigh_of reading.acknowledged_of reading.heard_head told reply brings case◌waiting◌ended◌ case◌acknowledged◌error◌timeout◌ bus_op◌err◌ok◌ if◌then◌else◌
+  unfolding reading.judge_of reading.weigh_of reading.acknowledged_of reading.heard_head told reply brings case◌waiting◌ended◌ case◌acknowledged◌error◌timeout◌ bus_op◌err◌ok◌ when◌then◌else◌
   judged_head i left tally frame beside (Acknowledged bytes) m v e q = rw (fits m v e q)
   judged_head i left tally frame beside (BusError code) m v e q = rw (fits m v e q)
   judged_head i left tally frame beside Timeout m v e q = rw (fits m v e q)
@@ -114,16 +114,16 @@ module _ (plan : ReadPlan) (n w : ℕ) where
 
   -- whether it is believed
   unfoldable pub believed : ℕ → List ℕ → Bool
-  believed i answered = if (ask_at i).pec then checked_of (ask_at i).covered answered else true
+  believed i answered = when (ask_at i).pec then checked_of (ask_at i).covered answered else true
 
   judged_read : (i left : ℕ) (tally : Tally) (beside : List ℕ) (o : BusOutcome) (m v : ℕ) → m ≡ n → v ≡ w
       → reading.judge_of (at false i left tally) (told o) (reply (read (ask_at i).command (bytes_asked (ask_at i))) beside o) m v
-      ≡ (bus_op o err (λ e. verdict.Failed e) ok (λ bytes. if believed i (brought i bytes) then verdict.Block else verdict.Failed answer.Pec))
-  unfolding reading.judge_of reading.weigh_of reading.acknowledged_of reading.heard_block reading.verdict_of reading.due_ask heard_of believed told reply brings case◌waiting◌ended◌ case◌acknowledged◌error◌timeout◌ bus_op◌err◌ok◌ if◌then◌else◌
+      ≡ (bus_op o err (λ e. verdict.Failed e) ok (λ bytes. when believed i (brought i bytes) then verdict.Block else verdict.Failed answer.Pec))
+  unfolding reading.judge_of reading.weigh_of reading.acknowledged_of reading.heard_block reading.verdict_of reading.due_ask heard_of believed told reply brings case◌waiting◌ended◌ case◌acknowledged◌error◌timeout◌ bus_op◌err◌ok◌ when◌then◌else◌
   judged_read i left tally beside (Acknowledged bytes) m v e q =
       rw (fits m v e q, eq-eqb (bytes_asked (ask_at i)) (length (brought i bytes)) (sym (length_delivered (bytes_asked (ask_at i)) bytes))) (by (ask_at i).pec (checked_of (ask_at i).covered (brought i bytes)))
     where
-      by : (pec good : Bool) → reading.verdict_of (if pec then (if good then heard.Good else heard.WrongPec) else heard.Good) ≡ (if (if pec then good else true) then verdict.Block else verdict.Failed answer.Pec)
+      by : (pec good : Bool) → reading.verdict_of (when pec then (when good then heard.Good else heard.WrongPec) else heard.Good) ≡ (when (when pec then good else true) then verdict.Block else verdict.Failed answer.Pec)
       by true true = refl
       by true false = refl
       by false good = refl
@@ -132,12 +132,12 @@ module _ (plan : ReadPlan) (n w : ℕ) where
 
   -- a head was heard, and a read is due
   pub after_head : (i left : ℕ) (tally : Tally) → i < parts.read_count plan.reads n → reading.headed_of (at true i left tally) ≡ at false i left tally
-  unfolding reading.headed_of phase_after if◌then◌else◌
+  unfolding reading.headed_of phase_after when◌then◌else◌
   after_head i left tally h = rw (lt-leb (parts.read_count plan.reads n) i h)
 
   -- a block was handed over, and another is due
   pub after_block : (i left : ℕ) (tally : Tally) → suc i < parts.read_count plan.reads n → i ≤ 256 → reading.advance_of (at false i left tally) ≡ at false (suc i) left tally
-  unfolding reading.advance_of phase_after if◌then◌else◌
+  unfolding reading.advance_of phase_after when◌then◌else◌
   after_block i left tally h few =
       let m : more_of i ≡ suc i = omega arith in
       rw (m, lt-leb (parts.read_count plan.reads n) (suc i) h)
@@ -146,9 +146,9 @@ module _ (plan : ReadPlan) (n w : ℕ) where
     -- a failed attempt: the head is due again, or none is left
     pub after_failure : (heading : Bool) (i left : ℕ) (tally : Tally) (why : Answer) (buffer : List ℕ) (done : List Made) (outcomes : List BusOutcome) → eqb (number_of why) 0 ≡ false → (t : Bool) → eqb left 0 ≡ t
         → fed_read (reading.fail_of (at heading i left tally) why) buffer lent done outcomes
-        ≡ (if eqb left 0 then Err why (record { transfers = done; waits = tally.waits }) outcomes leaving buffer
+        ≡ (when eqb left 0 then Err why (record { transfers = done; waits = tally.waits }) outcomes leaving buffer
         else fed_read (at (parts.has_head plan.head) i (left - 1) (missed plan.growing plan.retries left tally)) buffer lent done outcomes)
-    unfolding reading.fail_of reading.end_of reading.retry_of failed waited case◌retry◌spent◌ if◌then◌else◌ answered
+    unfolding reading.fail_of reading.end_of reading.retry_of failed waited case◌retry◌spent◌ when◌then◌else◌ answered
     after_failure heading i left tally why buffer done outcomes bad true e =
         let f : reading.fail_of (at heading i left tally) why ≡ reading.end_of (at heading i left tally) why = rw e in
         rw (f, e) (at_end (reading.end_of (at heading i left tally) why) buffer lent done why refl outcomes ∙ rw bad)
@@ -158,7 +158,7 @@ module _ (plan : ReadPlan) (n w : ℕ) where
     -- it was the last one
     pub after_last : (i left : ℕ) (tally : Tally) (buffer : List ℕ) (done : List Made) (outcomes : List BusOutcome) → parts.read_count plan.reads n ≤ suc i → i ≤ 256
         → fed_read (reading.advance_of (at false i left tally)) buffer lent done outcomes ≡ Ok (record { transfers = done; waits = tally.waits }) outcomes leaving buffer
-    unfolding reading.advance_of phase_after if◌then◌else◌ answered
+    unfolding reading.advance_of phase_after when◌then◌else◌ answered
     after_last i left tally buffer done outcomes h few =
         let m : more_of i ≡ suc i = omega arith in
         let p : (reading.advance_of (at false i left tally)).phase ≡ phase.Ended answer.Done = rw (m, le-leb (parts.read_count plan.reads n) (suc i) h) in
@@ -209,10 +209,10 @@ module _ (plan : ReadPlan) (n w : ℕ) where
       turn_reply : (i left : ℕ) (tally : Tally) (buffer : List ℕ) (done : List Made) (bytes : List ℕ) (outcomes : List BusOutcome) → length buffer ≡ n
           → (t : Bool) → believed i (brought i bytes) ≡ t
           → fed_read (at false i left tally) buffer lent done (Acknowledged bytes ∷ outcomes)
-          ≡ (if t
+          ≡ (when t
           then fed_read (reading.advance_of (at false i left (tallied tally))) (reading.stored_of (at false i left (tallied tally)) (brought i bytes) buffer) lent (with_read i done) outcomes
           else fed_read (reading.fail_of (at false i left (tallied tally)) answer.Pec) buffer lent (with_read i done) outcomes)
-      unfolding fed_read reading.report_of reading.counted_of reading.buffer_after reading.stored_of reading.due_ask case◌refused◌fault◌headed◌block◌ heard◌taken◌refused◌ bus_op◌err◌ok◌ if◌then◌else◌ reply brings
+      unfolding fed_read reading.report_of reading.counted_of reading.buffer_after reading.stored_of reading.due_ask case◌refused◌fault◌headed◌block◌ heard◌taken◌refused◌ bus_op◌err◌ok◌ when◌then◌else◌ reply brings
       turn_reply i left tally buffer done bytes outcomes b true q =
           shown_read i left tally buffer (lent (length done)).work _ _ _ b (steady (length done))
           ∙ rw (judged_read i left tally (lent (length done)).beside (Acknowledged bytes) (length buffer) (length (reading.work_after (at false i left tally) (length buffer) (lent (length done)).work)) b (kept_read i left tally buffer (lent (length done)).work (steady (length done))), q)
@@ -225,7 +225,7 @@ module _ (plan : ReadPlan) (n w : ℕ) where
           → fed_read (at false i left tally) buffer lent done (o ∷ outcomes)
           ≡ (bus_op o
           err (λ e. fed_read (reading.fail_of (at false i left (tallied tally)) e) buffer lent (with_read i done) outcomes)
-          ok (λ bytes. if believed i (brought i bytes)
+          ok (λ bytes. when believed i (brought i bytes)
           then fed_read (reading.advance_of (at false i left (tallied tally))) (reading.stored_of (at false i left (tallied tally)) (brought i bytes) buffer) lent (with_read i done) outcomes
           else fed_read (reading.fail_of (at false i left (tallied tally)) answer.Pec) buffer lent (with_read i done) outcomes))
       unfolding fed_read reading.report_of reading.counted_of reading.buffer_after case◌refused◌fault◌headed◌block◌ heard◌taken◌refused◌ bus_op◌err◌ok◌

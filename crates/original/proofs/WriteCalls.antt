@@ -9,7 +9,7 @@ use lib.IntN.{ℤ, pos, negsuc}
 use lib.ListN.{length, drop, length-append, length-take}
 use lib.Dec.{ltb, eqb}
 use borrow.Author.Tests.{le-ltb, eq-eqb, ltb-false, eqb-true, eqb-false}
-use Rattle.protocol.specs.Pick.{if◌then◌else◌}
+use Rattle.protocol.specs.Pick.{when◌then◌else◌}
 use Rattle.protocol.specs.Frame.{sealed, register_bytes, mac_bytes, info_bytes, fixed_pair, pair_of}
 use Rattle.r5.specs.Voltage.{bits_of, override_bytes}
 use Rattle.r5.specs.declared.voltage.ChargingVoltageOverride.{ChargingVoltageOverride}
@@ -59,10 +59,10 @@ unfolding override_bytes pair_of
 override_length v = refl
 
 half_length : (lower upper i : ℕ) → length (half_bytes lower upper i) ≡ 4
-unfolding half_bytes mac_bytes pair_of if◌then◌else◌
+unfolding half_bytes mac_bytes pair_of when◌then◌else◌
 half_length lower upper i = by (eqb i 0)
   where
-    by : (t : Bool) → length (if t then mac_bytes (pair_of lower) [] else mac_bytes (pair_of upper) []) ≡ 4
+    by : (t : Bool) → length (when t then mac_bytes (pair_of lower) [] else mac_bytes (pair_of upper) []) ≡ 4
     by true = refl
     by false = refl
 
@@ -76,10 +76,10 @@ unfolding info_bytes
 info_bytes_lem bytes h = let e : length bytes % 256 ≡ length bytes = omega arith in rw e
 
 info_c_length : (lower upper i : ℕ) (bytes : List ℕ) → length bytes ≤ 32 → length (info_cbytes lower upper i bytes) ≤ 36
-unfolding info_cbytes if◌then◌else◌
+unfolding info_cbytes when◌then◌else◌
 info_c_length lower upper i bytes h = by (ltb i 2)
   where
-    by : (t : Bool) → length (if t then half_bytes lower upper i else mac_bytes (fixed_pair mac.MfgInfoC) bytes) ≤ 36
+    by : (t : Bool) → length (when t then half_bytes lower upper i else mac_bytes (fixed_pair mac.MfgInfoC) bytes) ≤ 36
     by true = omega (arith, half_length lower upper i)
     by false = rw (mac_bytes_lem (fixed_pair mac.MfgInfoC) bytes h) (omega arith)
 
@@ -94,7 +94,7 @@ module _ (config : Config) (small : config.max_write_retries ≤ 65535) (w : ℕ
 
   plain_write_by : (t : Bool) → config.pec_write ≡ t → (bytes : List ℕ) → rust.write_panics config.pec_write bytes ≡ false
       → writes (machine.write_with_retries config) bytes w lent outcomes ≡ rust.write_with_retries set bytes config.pec_write begun outcomes
-  unfolding machine.write_with_retries machine.plain_limit writing.plan_of writing.own_bytes is_plain frame_count bytes_at frame_at sealed first_address measured if◌then◌else◌ rust.write_with_retries rust.with_pec
+  unfolding machine.write_with_retries machine.plain_limit writing.plan_of writing.own_bytes is_plain frame_count bytes_at frame_at sealed first_address measured when◌then◌else◌ rust.write_with_retries rust.with_pec
   plain_write_by true e bytes h =
       let short : ltb 38 (length bytes) ≡ false = rw e at h in
       let m : measured (machine.write_with_retries config).limit 0 (length bytes) ≡ phase.Waiting = rw (e, short) in
@@ -109,7 +109,7 @@ module _ (config : Config) (small : config.max_write_retries ≤ 65535) (w : ℕ
   plain_write bytes h = plain_write_by config.pec_write refl bytes h
 
   plain_write_refused_by : (t : Bool) → config.pec_write ≡ t → (bytes : List ℕ) → rust.write_panics config.pec_write bytes ≡ true → writes (machine.write_with_retries config) bytes w lent outcomes ≡ Err answer.DataTooLarge begun outcomes
-  unfolding machine.write_with_retries machine.plain_limit writing.plan_of first_address measured admitted answered if◌then◌else◌
+  unfolding machine.write_with_retries machine.plain_limit writing.plan_of first_address measured admitted answered when◌then◌else◌
   plain_write_refused_by true e bytes h =
       let long : ltb 38 (length bytes) ≡ true = rw e at h in
       no_frame (machine.write_with_retries config) bytes w lent answer.DataTooLarge outcomes (rw (le-ltb w 39 roomy, e, long))
@@ -119,19 +119,19 @@ module _ (config : Config) (small : config.max_write_retries ≤ 65535) (w : ℕ
   plain_write_refused bytes h = plain_write_refused_by config.pec_write refl bytes h
 
   pub write_register_lem : (address : ℕ) (bytes : List ℕ) → writes (machine.write_register config address) bytes w lent outcomes ≡ rust.write_register set address bytes begun outcomes
-  unfolding machine.write_register writing.plan_of writing.own_bytes is_plain frame_count bytes_at register_bytes frame_at sealed if◌then◌else◌ rust.write_register rust.write_with_retries rust.with_pec
+  unfolding machine.write_register writing.plan_of writing.own_bytes is_plain frame_count bytes_at register_bytes frame_at sealed when◌then◌else◌ rust.write_register rust.write_with_retries rust.with_pec
   write_register_lem address bytes =
       limited (machine.write_register config address) bytes w lent steady small roomy refl 32 outcomes refl (λ h. omega arith) (ltb 32 (length bytes)) refl
 
   pub buffer_write_lem : (address : ℕ) (bytes : List ℕ) → writes (machine.write_buffer config address) bytes w lent outcomes ≡ rust.buffer_write set address bytes begun outcomes
-  unfolding machine.write_buffer writing.plan_of writing.own_bytes is_plain frame_count bytes_at register_bytes frame_at sealed if◌then◌else◌ rust.buffer_write rust.write_with_retries rust.with_pec
+  unfolding machine.write_buffer writing.plan_of writing.own_bytes is_plain frame_count bytes_at register_bytes frame_at sealed when◌then◌else◌ rust.buffer_write rust.write_with_retries rust.with_pec
   buffer_write_lem address bytes =
       limited (machine.write_buffer config address) bytes w lent steady small roomy refl 33 outcomes refl (λ h. omega arith) (ltb 33 (length bytes)) refl
 
   -- a MAC write of a fixed length
   keyed : (command : MacCommand) (size : ℕ) (bytes : List ℕ) → length bytes ≡ size → size ≤ 32
       → writes (machine-r5.mac_write config command size) bytes w lent outcomes ≡ rust.mac_write_with_retries set (0x44 ∷ (size + 2) ∷ fixed_pair command ++ bytes) begun outcomes
-  unfolding machine-r5.mac_write writing.plan_of writing.own_bytes is_plain frame_count bytes_at frame_at sealed first_address measured if◌then◌else◌ rust.mac_write_with_retries rust.write_with_retries rust.with_pec
+  unfolding machine-r5.mac_write writing.plan_of writing.own_bytes is_plain frame_count bytes_at frame_at sealed first_address measured when◌then◌else◌ rust.mac_write_with_retries rust.write_with_retries rust.with_pec
   keyed command size bytes e h =
       let m : measured (limit.Exactly size) 0 (length bytes) ≡ phase.Waiting = rw (eq-eqb (length bytes) size e) in
       let f : mac_bytes (fixed_pair command) bytes ≡ 0x44 ∷ (size + 2) ∷ fixed_pair command ++ bytes = mac_bytes_lem (fixed_pair command) bytes (omega arith) ∙ rw e in
@@ -152,7 +152,7 @@ module _ (config : Config) (small : config.max_write_retries ≤ 65535) (w : ℕ
   write_charging_voltage_override_lem figures = keyed mac.ChargingVoltageOverride 10 (override_bytes figures) (override_length figures) (omega arith) ∙ rw (override_bytes_lem figures)
 
   pub write_mfg_info_lem : (bytes : List ℕ) → writes (machine-r5.write_mfg_info config) bytes w lent outcomes ≡ rust-r5.write_mfg_info set bytes begun outcomes
-  unfolding machine-r5.write_mfg_info writing.plan_of writing.own_bytes is_plain frame_count bytes_at frame_at sealed if◌then◌else◌ rust-r5.write_mfg_info rust.mac_write_with_retries rust.write_with_retries rust.with_pec
+  unfolding machine-r5.write_mfg_info writing.plan_of writing.own_bytes is_plain frame_count bytes_at frame_at sealed when◌then◌else◌ rust-r5.write_mfg_info rust.mac_write_with_retries rust.write_with_retries rust.with_pec
   write_mfg_info_lem bytes = by (ltb 32 (length bytes)) refl
     where
       by : (t : Bool) → ltb 32 (length bytes) ≡ t → writes (machine-r5.write_mfg_info config) bytes w lent outcomes ≡ rust-r5.write_mfg_info set bytes begun outcomes
@@ -162,7 +162,7 @@ module _ (config : Config) (small : config.max_write_retries ≤ 65535) (w : ℕ
           ∙ rw (t, info_bytes_lem bytes (ltb-false 32 (length bytes) t))
 
   pub send_access_key_lem : (lower upper : ℕ) → writes (machine-r5.send_access_key config lower upper) [] w lent outcomes ≡ rust-r5.send_access_key set lower upper begun outcomes
-  unfolding machine-r5.send_access_key writing.plan_of writing.own_bytes writing.gave_up is_plain is_flash frame_count bytes_at half_bytes mac_bytes pair_of frame_at each sealed first_address measured admitted if◌then◌else◌ rust.to_le_bytes rust.mac_write_with_retries rust.write_with_retries rust.with_pec rust-r5.send_access_key
+  unfolding machine-r5.send_access_key writing.plan_of writing.own_bytes writing.gave_up is_plain is_flash frame_count bytes_at half_bytes mac_bytes pair_of frame_at each sealed first_address measured admitted when◌then◌else◌ rust.to_le_bytes rust.mac_write_with_retries rust.write_with_retries rust.with_pec rust-r5.send_access_key
   send_access_key_lem lower upper =
       frames_in_turn (machine-r5.send_access_key config lower upper) [] w lent steady (λ i j o. omega (arith, half_length lower upper i)) (omega arith) small 1 outcomes refl (rw (le-ltb w 39 roomy))
       ∙ settle_by _ _ (λ e. e) (λ log outcomes. settle_last _) _
@@ -175,7 +175,7 @@ module _ (config : Config) (small : config.max_write_retries ≤ 65535) (w : ℕ
   info_c_frames : (lower upper : ℕ) (bytes : List ℕ)
       → each (machine-r5.write_mfg_info_c config lower upper) bytes w 3 0 begun outcomes
       ≡ settle (rust.mac_write_with_retries set (mac_bytes (fixed_pair mac.MfgInfoC) bytes)) (λ e. e) (rust-r5.send_access_key set lower upper begun outcomes)
-  unfolding machine-r5.write_mfg_info_c writing.plan_of writing.own_bytes writing.gave_up is_plain is_flash bytes_at info_cbytes half_bytes mac_bytes pair_of frame_at each sealed if◌then◌else◌ rust.to_le_bytes rust.mac_write_with_retries rust.write_with_retries rust.with_pec rust-r5.send_access_key
+  unfolding machine-r5.write_mfg_info_c writing.plan_of writing.own_bytes writing.gave_up is_plain is_flash bytes_at info_cbytes half_bytes mac_bytes pair_of frame_at each sealed when◌then◌else◌ rust.to_le_bytes rust.mac_write_with_retries rust.write_with_retries rust.with_pec rust-r5.send_access_key
   info_c_frames lower upper bytes =
       let third : Log → List BusOutcome → Came = rust.mac_write_with_retries set (mac_bytes (fixed_pair mac.MfgInfoC) bytes) in
       let second : Log → List BusOutcome → Came = rust.mac_write_with_retries set (0x44 ∷ 2 ∷ rust.to_le_bytes upper) in
@@ -184,7 +184,7 @@ module _ (config : Config) (small : config.max_write_retries ≤ 65535) (w : ℕ
       ∙ settle_settle second third first
 
   pub write_mfg_info_c_lem : (lower upper : ℕ) (bytes : List ℕ) → writes (machine-r5.write_mfg_info_c config lower upper) bytes w lent outcomes ≡ rust-r5.write_mfg_info_c set lower upper bytes begun outcomes
-  unfolding machine-r5.write_mfg_info_c writing.plan_of first_address measured admitted answered frame_count bytes_at if◌then◌else◌ rust-r5.write_mfg_info_c
+  unfolding machine-r5.write_mfg_info_c writing.plan_of first_address measured admitted answered frame_count bytes_at when◌then◌else◌ rust-r5.write_mfg_info_c
   write_mfg_info_c_lem lower upper bytes = by (ltb 32 (length bytes)) refl
     where
       by : (t : Bool) → ltb 32 (length bytes) ≡ t → writes (machine-r5.write_mfg_info_c config lower upper) bytes w lent outcomes ≡ rust-r5.write_mfg_info_c set lower upper bytes begun outcomes
@@ -196,7 +196,7 @@ module _ (config : Config) (small : config.max_write_retries ≤ 65535) (w : ℕ
           ∙ rw (t, mac_bytes_lem (fixed_pair mac.MfgInfoC) bytes h)
 
   pub write_dataflash_lem : (start : ℕ) (bytes : List ℕ) → writes (machine-r5.write_dataflash config start) bytes w lent outcomes ≡ rust-r5.write_dataflash set start bytes begun outcomes
-  unfolding machine-r5.write_dataflash writing.plan_of writing.own_bytes is_plain frame_count bytes_at first_address measured admitted windowed answered if◌then◌else◌ rust.mac_write_to_df_with_retries rust-r5.write_dataflash rust.write_chunks
+  unfolding machine-r5.write_dataflash writing.plan_of writing.own_bytes is_plain frame_count bytes_at first_address measured admitted windowed answered when◌then◌else◌ rust.mac_write_to_df_with_retries rust-r5.write_dataflash rust.write_chunks
   write_dataflash_lem start bytes = by (in_window start (length bytes)) refl (eqb (length bytes) 0) refl
     where
       by : (t : Bool) → in_window start (length bytes) ≡ t → (n : Bool) → eqb (length bytes) 0 ≡ n → writes (machine-r5.write_dataflash config start) bytes w lent outcomes ≡ rust-r5.write_dataflash set start bytes begun outcomes

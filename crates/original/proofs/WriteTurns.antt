@@ -9,7 +9,7 @@ use lib.ListN.{length}
 use lib.Seq.{take-length}
 use lib.Dec.{eqb}
 use borrow.Author.Tests.{lt-ltb, eq-eqb, le-leb, lt-leb, eqb-false}
-use Rattle.protocol.specs.Pick.{if◌then◌else◌}
+use Rattle.protocol.specs.Pick.{when◌then◌else◌}
 use Rattle.protocol.specs.Answer.{number_of}
 use Rattle.protocol.specs.Bytes.{send_of}
 use Rattle.protocol.specs.Frame.{sealed, laid_of, work_laid}
@@ -42,10 +42,10 @@ at_end call payload lent done a e (o ∷ outcomes) = rw e
 -- a call that gives up says an error
 gave_up_lem : (fs : Frames) (i : ℕ) (why : Answer) (log : Log) (outcomes : List BusOutcome) → eqb (number_of why) 0 ≡ false
     → answered (writing.gave_up fs i why) log outcomes ≡ Err (writing.gave_up fs i why) log outcomes
-unfolding answered writing.gave_up if◌then◌else◌
+unfolding answered writing.gave_up when◌then◌else◌
 gave_up_lem fs i why log outcomes e = by (is_flash fs) (eqb i 0)
   where
-    by : (flash first : Bool) → answered (if flash then (if first then why else answer.PartialDataFlashWrite (i * 32)) else why) log outcomes ≡ Err (if flash then (if first then why else answer.PartialDataFlashWrite (i * 32)) else why) log outcomes
+    by : (flash first : Bool) → answered (when flash then (when first then why else answer.PartialDataFlashWrite (i * 32)) else why) log outcomes ≡ Err (when flash then (when first then why else answer.PartialDataFlashWrite (i * 32)) else why) log outcomes
     by true true = rw e
     by true false = refl
     by false first = rw e
@@ -67,7 +67,7 @@ module _ (plan : WritePlan) (payload : List ℕ) (w : ℕ) where
 
   -- frame i as it goes out
   unfoldable pub frame_at : ℕ → List ℕ
-  frame_at i = if own then payload else sealed plan.pec (bytes_at plan.frames i payload)
+  frame_at i = when own then payload else sealed plan.pec (bytes_at plan.frames i payload)
 
   fits : fits_of (record { length = length payload; work = w }) (length payload) w ≡ true
   unfolding fits_of
@@ -77,14 +77,14 @@ module _ (plan : WritePlan) (payload : List ℕ) (w : ℕ) where
   shown : {A : Type 0} (i left : ℕ) (tally : Tally) (work : List ℕ) (f : Made → A) (g : Answer → A) → length work ≡ w → (own ≡ false → length (bytes_at plan.frames i payload) < w)
       → (t : Bool) → own ≡ t
       → (shows writing.next_of (at i left tally) payload (length work) sending writing.part_of (at i left tally) payload (writing.work_after (at i left tally) payload work) transfer f answer g) ≡ f (write (frame_at i))
-  unfolding writing.next_of writing.work_after writing.part_of writing.own_bytes writing.shown_of writing.work_shown writing.due_bytes case◌waiting◌ended◌ frame_at shows◌sending◌transfer◌answer◌ if◌then◌else◌ send_of laid_of work_laid write_of
+  unfolding writing.next_of writing.work_after writing.part_of writing.own_bytes writing.shown_of writing.work_shown writing.due_bytes case◌waiting◌ended◌ frame_at shows◌sending◌transfer◌answer◌ when◌then◌else◌ send_of laid_of work_laid write_of
   shown i left tally work f g e h true o = rw (e, fits, o, o, take-length)
   shown i left tally work f g e h false o = rw (e, fits, lt-ltb _ _ (h o), o, o, take_over)
 
   -- showing leaves the work buffer as long as it was
   kept : (i left : ℕ) (tally : Tally) (work : List ℕ) → length work ≡ w → (own ≡ false → length (bytes_at plan.frames i payload) < w)
       → (t : Bool) → own ≡ t → length (writing.work_after (at i left tally) payload work) ≡ w
-  unfolding writing.work_after writing.own_bytes writing.work_shown writing.due_bytes case◌waiting◌ended◌ if◌then◌else◌ work_laid
+  unfolding writing.work_after writing.own_bytes writing.work_shown writing.due_bytes case◌waiting◌ended◌ when◌then◌else◌ work_laid
   kept i left tally work e h true o = rw (e, fits, o) e
   kept i left tally work e h false o =
       let short : length (sealed plan.pec (bytes_at plan.frames i payload)) ≤ length work = omega (arith, h o, length_sealed plan.pec (bytes_at plan.frames i payload)) in
@@ -93,7 +93,7 @@ module _ (plan : WritePlan) (payload : List ℕ) (w : ℕ) where
   -- a report is taken
   reported : {A : Type 0} (i left : ℕ) (tally : Tally) (frame beside : List ℕ) (o : BusOutcome) (f : WriteCall → A) (g : Answer → A) (n : ℕ) → n ≡ w
       → (wrote writing.report_of (at i left tally) (told o) (length (reply (write frame) beside o)) (length payload) n taken f refused g) ≡ f (writing.settle_of (at i left (tallied tally)) (told o))
-  unfolding writing.report_of writing.counted_of writing.replied_of told reply brings case◌waiting◌ended◌ case◌acknowledged◌error◌timeout◌ wrote◌taken◌refused◌ if◌then◌else◌
+  unfolding writing.report_of writing.counted_of writing.replied_of told reply brings case◌waiting◌ended◌ case◌acknowledged◌error◌timeout◌ wrote◌taken◌refused◌ when◌then◌else◌
   reported i left tally frame beside (Acknowledged bytes) f g n e = rw (e, fits)
   reported i left tally frame beside (BusError code) f g n e = rw (e, fits)
   reported i left tally frame beside Timeout f g n e = rw (e, fits)
@@ -112,9 +112,9 @@ module _ (plan : WritePlan) (payload : List ℕ) (w : ℕ) where
     -- a failed attempt
     after_failure : (i left : ℕ) (tally : Tally) (why : Answer) (done : List Made) (outcomes : List BusOutcome) (t : Bool) → eqb left 0 ≡ t
         → fed_write (writing.fail_of (at i left tally) why) payload lent done outcomes
-        ≡ (if eqb left 0 then answered (writing.gave_up plan.frames i why) (record { transfers = done; waits = tally.waits }) outcomes
+        ≡ (when eqb left 0 then answered (writing.gave_up plan.frames i why) (record { transfers = done; waits = tally.waits }) outcomes
         else fed_write (at i (left - 1) (missed plan.growing plan.retries left tally)) payload lent done outcomes)
-    unfolding writing.fail_of writing.end_of writing.retry_of failed waited case◌retry◌spent◌ if◌then◌else◌
+    unfolding writing.fail_of writing.end_of writing.retry_of failed waited case◌retry◌spent◌ when◌then◌else◌
     after_failure i left tally why done outcomes true e =
         let f : writing.fail_of (at i left tally) why ≡ writing.end_of (at i left tally) why = rw e in
         rw (f, e) (at_end (writing.end_of (at i left tally) why) payload lent done _ refl outcomes)
@@ -139,7 +139,7 @@ module _ (plan : WritePlan) (payload : List ℕ) (w : ℕ) where
 
       after_frame : (outcomes : List BusOutcome) → Same outcomes → (todo i left : ℕ) (tally : Tally) (done : List Made) → suc (i + todo) ≡ frame_count plan.frames (length payload) → tally.waits ≤ suc i * 65535
           → fed_write (writing.advance_of (at i left tally)) payload lent done outcomes ≡ each todo (suc i) (record { transfers = done; waits = tally.waits }) outcomes
-      unfolding each writing.advance_of phase_after answered if◌then◌else◌
+      unfolding each writing.advance_of phase_after answered when◌then◌else◌
       after_frame outcomes ih zero i left tally done c b =
           let m : more_of i ≡ suc i = omega arith in
           let p : (writing.advance_of (at i left tally)).phase ≡ phase.Ended answer.Done = rw (m, le-leb (frame_count plan.frames (length payload)) (suc i) (omega arith)) in
@@ -153,8 +153,8 @@ module _ (plan : WritePlan) (payload : List ℕ) (w : ℕ) where
           → suc (i + todo) ≡ frame_count plan.frames (length payload) → left ≤ 65535 → tally.waits + left ≤ suc i * 65535 → (t : Bool) → eqb left 0 ≡ t
           → fed_write (writing.fail_of (at i left tally) why) payload lent (done ++ (write (frame_at i) ∷ [])) outcomes
           ≡ settle (each todo (suc i)) (writing.gave_up plan.frames i)
-          (if eqb left 0 then Err why (out i tally done) outcomes else write_with_retries_internal (left - 1) (frame_at i) (delayed (out i tally done)) outcomes)
-      unfolding if◌then◌else◌ settle
+          (when eqb left 0 then Err why (out i tally done) outcomes else write_with_retries_internal (left - 1) (frame_at i) (delayed (out i tally done)) outcomes)
+      unfolding when◌then◌else◌ settle
       after_fault outcomes ih todo i left tally why done bad c l b true t =
           after_failure i left tally why (done ++ (write (frame_at i) ∷ [])) outcomes true t ∙ rw t (gave_up_lem plan.frames i why (out i tally done) outcomes bad)
       after_fault outcomes ih todo i left tally why done bad c l b false t =

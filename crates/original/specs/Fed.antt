@@ -1,7 +1,7 @@
 -- A call of the step machine and its host: the call shows a transfer, the host makes it and reports what the bus did, until the call ends or the outcomes run out.
 -- Assumes nothing.
 use Rattle.std.specs.Prelude.{ℕ, suc, ◌≡◌, List, [], ◌∷◌, ◌++◌, length, take, eqb}
-use Rattle.protocol.specs.Pick.{if◌then◌else◌}
+use Rattle.protocol.specs.Pick.{when◌then◌else◌}
 use Rattle.protocol.specs.Answer.{number_of}
 use Rattle.protocol.specs.declared.error.Answer.{Answer}
 use Rattle.engine.specs.declared.bus.Transfer.{Transfer}
@@ -40,7 +40,7 @@ reply t beside Timeout = beside
 
 -- answer 0 is the Rust's Ok, any other an error
 unfoldable pub answered : Answer → Log → List BusOutcome → Came
-answered a log outcomes = if eqb (number_of a) 0 then Ok log outcomes else Err a log outcomes
+answered a log outcomes = when eqb (number_of a) 0 then Ok log outcomes else Err a log outcomes
 
 -- what a call shows: a transfer, with the part to send where it is a write; or an answer
 infixr 10 shows◌sending◌transfer◌answer◌

@@ -3,7 +3,7 @@
 -- Stated over the transfers made and what the bus did with each of them, and over no counter of the call. Assumes nothing.
 use Rattle.std.specs.Prelude.{ℕ, ◌-◌, ◌%◌, ◌≤◌, ◌<◌, ◌≡◌, Bool, false, List, [], ◌∷◌, ◌++◌, length, take, drop, get_or, eqb}
 use Rattle.smbus_pec.specs.Pec.{pec_of}
-use Rattle.protocol.specs.Pick.{if◌then◌else◌}
+use Rattle.protocol.specs.Pick.{when◌then◌else◌}
 use Rattle.protocol.specs.Bytes.{over}
 use Rattle.protocol.specs.declared.common.Config.{Config}
 use Rattle.interface.specs.Plans as machine
@@ -32,7 +32,7 @@ right_pec command reply = eqb (get_or reply (length reply - 1) 0) (pec_of 0 (0x1
 -- the data of a reply; none where its PEC is wrong
 unfoldable pub data_in : Layout → List ℕ → List ℕ
 data_in layout reply =
-    if layout.pec then (if right_pec layout.command reply then drop layout.before (take (length reply - 1) reply) else [])
+    when layout.pec then (when right_pec layout.command reply then drop layout.before (take (length reply - 1) reply) else [])
     else drop layout.before reply
 
 -- the data that one transfer brought: that of an acknowledged read; nothing else brings any

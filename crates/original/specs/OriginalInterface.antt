@@ -3,7 +3,7 @@
 -- Assumes nothing.
 use Rattle.std.specs.Prelude.{ℕ, zero, suc, ◌+◌, ◌-◌, ◌/◌, ◌%◌, min, Bool, true, false, not, ◌&&◌, ◌||◌, List, [], ◌∷◌, ◌++◌, length, take, drop, get_or, ltb, leb, eqb}
 use Rattle.smbus_pec.specs.Pec.{pec_of}
-use Rattle.protocol.specs.Pick.{if◌then◌else◌}
+use Rattle.protocol.specs.Pick.{when◌then◌else◌}
 use Rattle.protocol.specs.declared.error.Answer.TheVariants as answer
 use Rattle.original.specs.OriginalCommon.{Config}
 use Rattle.original.specs.Bus.{BusOutcome, delivered, write, read, Log, made, delayed, Came, Ok, Err, Waiting, Read, ◌leaving◌, bus_op◌err◌ok◌, settle}
@@ -19,10 +19,10 @@ with_pec frame = frame ++ (pec_of 0 (0x16 ∷ frame) ∷ [])
 -- check_df_range: a sum that no u16 holds is refused too
 unfoldable pub check_df_range : ℕ → ℕ → Bool
 check_df_range starting_address len =
-    if eqb len 0 then true else
-    if ltb starting_address 0x4000 then false else
-    if ltb 0xFFFF (starting_address + (len - 1)) then false else
-    if ltb 0x5FFF (starting_address + (len - 1)) then false else true
+    when eqb len 0 then true else
+    when ltb starting_address 0x4000 then false else
+    when ltb 0xFFFF (starting_address + (len - 1)) then false else
+    when ltb 0x5FFF (starting_address + (len - 1)) then false else true
 
 -- write_with_retries_internal
 unfoldable pub write_with_retries_internal : ℕ → List ℕ → Log → List BusOutcome → Came
@@ -30,13 +30,13 @@ write_with_retries_internal retries frame log [] = Waiting (made (write frame) l
 write_with_retries_internal retries frame log (o ∷ outcomes) =
     let now : Log = made (write frame) log in
     bus_op o
-    err (λ e. if eqb retries 0 then Err e now outcomes else write_with_retries_internal (retries - 1) frame (delayed now) outcomes)
+    err (λ e. when eqb retries 0 then Err e now outcomes else write_with_retries_internal (retries - 1) frame (delayed now) outcomes)
     ok (λ bytes. Ok now outcomes)
 
 -- write_with_retries
 unfoldable pub write_with_retries : Config → List ℕ → Bool → Log → List BusOutcome → Came
 write_with_retries config frame use_pec log outcomes =
-    write_with_retries_internal config.max_bus_retries (if use_pec then with_pec frame else frame) log outcomes
+    write_with_retries_internal config.max_bus_retries (when use_pec then with_pec frame else frame) log outcomes
 
 -- it panics over 38 bytes with PEC
 abbrev pub write_panics : Bool → List ℕ → Bool
@@ -54,31 +54,31 @@ write_chunks config starting_address bytes (suc turns) committed bytes_left log 
     let start_idx : ℕ = length bytes - bytes_left in
     let end_idx : ℕ = start_idx + output_buf_end_idx - 4 in
     let output_buf : List ℕ = 0x44 ∷ (output_buf_end_idx - 2) ∷ to_le_bytes (starting_address + start_idx) ++ take (end_idx - start_idx) (drop start_idx bytes) in
-    if eqb bytes_left 0 then Ok log outcomes else
-    if ltb 0xFFFF (starting_address + start_idx) then Err answer.DataFlashAddressOutOfRange log outcomes else
+    when eqb bytes_left 0 then Ok log outcomes else
+    when ltb 0xFFFF (starting_address + start_idx) then Err answer.DataFlashAddressOutOfRange log outcomes else
     settle (λ log outcomes. write_chunks config starting_address bytes turns (committed + (end_idx - start_idx)) (bytes_left - 32) log outcomes)
-    (λ e. if eqb committed 0 then e else answer.PartialDataFlashWrite committed)
-    (write_with_retries_internal config.max_bus_retries (if config.pec_write then with_pec output_buf else output_buf) log outcomes)
+    (λ e. when eqb committed 0 then e else answer.PartialDataFlashWrite committed)
+    (write_with_retries_internal config.max_bus_retries (when config.pec_write then with_pec output_buf else output_buf) log outcomes)
 
 -- mac_write_to_df_with_retries
 unfoldable pub mac_write_to_df_with_retries : Config → ℕ → List ℕ → Log → List BusOutcome → Came
 mac_write_to_df_with_retries config starting_address bytes log outcomes =
-    if check_df_range starting_address (length bytes) then write_chunks config starting_address bytes (length bytes) 0 (length bytes) log outcomes
+    when check_df_range starting_address (length bytes) then write_chunks config starting_address bytes (length bytes) 0 (length bytes) log outcomes
     else Err answer.DataFlashAddressOutOfRange log outcomes
 
 -- the loop of read_with_retries: one budget for bus failures and for wrong PECs
 unfoldable pub read_loop : ℕ → ℕ → List ℕ → Bool → Log → List BusOutcome → Read
-read_loop retries command buffer use_pec log [] = Waiting (made (read command (if use_pec then length buffer + 1 else length buffer)) log) leaving buffer
+read_loop retries command buffer use_pec log [] = Waiting (made (read command (when use_pec then length buffer + 1 else length buffer)) log) leaving buffer
 read_loop retries command buffer use_pec log (o ∷ outcomes) =
     let read_len : ℕ = length buffer in
-    let count : ℕ = if use_pec then read_len + 1 else read_len in
+    let count : ℕ = when use_pec then read_len + 1 else read_len in
     let now : Log = made (read command count) log in
     bus_op o
-    err (λ e. if eqb retries 0 then Err e now outcomes leaving buffer else read_loop (retries - 1) command buffer use_pec (delayed now) outcomes)
+    err (λ e. when eqb retries 0 then Err e now outcomes leaving buffer else read_loop (retries - 1) command buffer use_pec (delayed now) outcomes)
     ok (λ bytes.
     let read_buf : List ℕ = delivered count bytes in
-    if use_pec && not (eqb (get_or read_buf read_len 0) (pec_of 0 (0x16 ∷ command ∷ 0x17 ∷ take read_len read_buf))) then
-    (if eqb retries 0 then Err answer.Pec now outcomes leaving buffer else read_loop (retries - 1) command buffer use_pec (delayed now) outcomes)
+    when use_pec && not (eqb (get_or read_buf read_len 0) (pec_of 0 (0x16 ∷ command ∷ 0x17 ∷ take read_len read_buf))) then
+    (when eqb retries 0 then Err answer.Pec now outcomes leaving buffer else read_loop (retries - 1) command buffer use_pec (delayed now) outcomes)
     else Ok now outcomes leaving take read_len read_buf)
 
 -- read_with_retries
@@ -88,27 +88,27 @@ read_with_retries config command buffer use_pec log outcomes = read_loop config.
 -- the loop of mac_read_with_retries: the command's frame, then the read, from one budget
 unfoldable mutual
   pub mac_write_turn : ℕ → Bool → List ℕ → List ℕ → Log → List BusOutcome → Read
-  mac_write_turn retries use_pec frame buffer log [] = Waiting (made (write (if use_pec then with_pec frame else frame)) log) leaving buffer
+  mac_write_turn retries use_pec frame buffer log [] = Waiting (made (write (when use_pec then with_pec frame else frame)) log) leaving buffer
   mac_write_turn retries use_pec frame buffer log (o ∷ outcomes) =
-      let now : Log = made (write (if use_pec then with_pec frame else frame)) log in
+      let now : Log = made (write (when use_pec then with_pec frame else frame)) log in
       bus_op o
-      err (λ e. if eqb retries 0 then Err e now outcomes leaving buffer else mac_write_turn (retries - 1) use_pec frame buffer (delayed now) outcomes)
+      err (λ e. when eqb retries 0 then Err e now outcomes leaving buffer else mac_write_turn (retries - 1) use_pec frame buffer (delayed now) outcomes)
       ok (λ bytes. mac_read_turn retries use_pec frame buffer now outcomes)
 
   -- the frame's first byte is sent, and the PEC is worked out with MAC_CMD
   pub mac_read_turn : ℕ → Bool → List ℕ → List ℕ → Log → List BusOutcome → Read
   mac_read_turn retries use_pec frame buffer log [] =
-      Waiting (made (read (get_or frame 0 0) (if use_pec then 1 + 2 + length buffer + 1 else 1 + 2 + length buffer)) log) leaving buffer
+      Waiting (made (read (get_or frame 0 0) (when use_pec then 1 + 2 + length buffer + 1 else 1 + 2 + length buffer)) log) leaving buffer
   mac_read_turn retries use_pec frame buffer log (o ∷ outcomes) =
       let reply_len : ℕ = 1 + 2 + length buffer in
-      let count : ℕ = if use_pec then reply_len + 1 else reply_len in
+      let count : ℕ = when use_pec then reply_len + 1 else reply_len in
       let now : Log = made (read (get_or frame 0 0) count) log in
       bus_op o
-      err (λ e. if eqb retries 0 then Err e now outcomes leaving buffer else mac_write_turn (retries - 1) use_pec frame buffer (delayed now) outcomes)
+      err (λ e. when eqb retries 0 then Err e now outcomes leaving buffer else mac_write_turn (retries - 1) use_pec frame buffer (delayed now) outcomes)
       ok (λ bytes.
       let read_buf : List ℕ = delivered count bytes in
-      if use_pec && not (eqb (get_or read_buf reply_len 0) (pec_of 0 (0x16 ∷ 0x44 ∷ 0x17 ∷ take reply_len read_buf))) then
-      (if eqb retries 0 then Err answer.Pec now outcomes leaving buffer else mac_write_turn (retries - 1) use_pec frame buffer (delayed now) outcomes)
+      when use_pec && not (eqb (get_or read_buf reply_len 0) (pec_of 0 (0x16 ∷ 0x44 ∷ 0x17 ∷ take reply_len read_buf))) then
+      (when eqb retries 0 then Err answer.Pec now outcomes leaving buffer else mac_write_turn (retries - 1) use_pec frame buffer (delayed now) outcomes)
       else Ok now outcomes leaving take (length buffer) (drop (1 + 2) read_buf))
 
 -- mac_read_with_retries
@@ -118,24 +118,24 @@ mac_read_with_retries config frame buffer log outcomes = mac_write_turn config.m
 -- the loop of mac_read_from_df_with_retries: one budget for all of it
 unfoldable pub read_chunks : ℕ → ℕ → List ℕ → ℕ → Bool → Log → List BusOutcome → Read
 read_chunks retries starting_address buffer bytes_read send_address log [] =
-    if leb (length buffer) bytes_read then Ok log [] leaving buffer else
-    if send_address && ltb 0xFFFF (starting_address + bytes_read) then Err answer.DataFlashAddressOutOfRange log [] leaving buffer else
-    if send_address then Waiting (made (write (0x44 ∷ 2 ∷ to_le_bytes (starting_address + bytes_read))) log) leaving buffer
+    when leb (length buffer) bytes_read then Ok log [] leaving buffer else
+    when send_address && ltb 0xFFFF (starting_address + bytes_read) then Err answer.DataFlashAddressOutOfRange log [] leaving buffer else
+    when send_address then Waiting (made (write (0x44 ∷ 2 ∷ to_le_bytes (starting_address + bytes_read))) log) leaving buffer
     else Waiting (made (read 0x44 (min 35 (length buffer - bytes_read + 2 + 1))) log) leaving buffer
 read_chunks retries starting_address buffer bytes_read send_address log (o ∷ outcomes) =
     let sent : Log = made (write (0x44 ∷ 2 ∷ to_le_bytes (starting_address + bytes_read))) log in
     let output_buf_end_idx : ℕ = min 35 (length buffer - bytes_read + 2 + 1) in
     let chunk_len : ℕ = output_buf_end_idx - 3 in
     let now : Log = made (read 0x44 output_buf_end_idx) log in
-    if leb (length buffer) bytes_read then Ok log (o ∷ outcomes) leaving buffer else
-    if send_address && ltb 0xFFFF (starting_address + bytes_read) then Err answer.DataFlashAddressOutOfRange log (o ∷ outcomes) leaving buffer else
-    if send_address then
+    when leb (length buffer) bytes_read then Ok log (o ∷ outcomes) leaving buffer else
+    when send_address && ltb 0xFFFF (starting_address + bytes_read) then Err answer.DataFlashAddressOutOfRange log (o ∷ outcomes) leaving buffer else
+    when send_address then
     (bus_op o
-    err (λ e. if eqb retries 0 then Err e sent outcomes leaving buffer else read_chunks (retries - 1) starting_address buffer bytes_read true (delayed sent) outcomes)
+    err (λ e. when eqb retries 0 then Err e sent outcomes leaving buffer else read_chunks (retries - 1) starting_address buffer bytes_read true (delayed sent) outcomes)
     ok (λ bytes. read_chunks retries starting_address buffer bytes_read false sent outcomes))
     else
     (bus_op o
-    err (λ e. if eqb retries 0 then Err e now outcomes leaving buffer else read_chunks (retries - 1) starting_address buffer bytes_read true (delayed now) outcomes)
+    err (λ e. when eqb retries 0 then Err e now outcomes leaving buffer else read_chunks (retries - 1) starting_address buffer bytes_read true (delayed now) outcomes)
     ok (λ bytes.
     let output_buf : List ℕ = delivered output_buf_end_idx bytes in
     read_chunks retries starting_address (take bytes_read buffer ++ take chunk_len (drop 3 output_buf) ++ drop (bytes_read + chunk_len) buffer) (bytes_read + chunk_len) false now outcomes))
@@ -143,66 +143,66 @@ read_chunks retries starting_address buffer bytes_read send_address log (o ∷ o
 -- mac_read_from_df_with_retries
 unfoldable pub mac_read_from_df_with_retries : Config → ℕ → List ℕ → Log → List BusOutcome → Read
 mac_read_from_df_with_retries config starting_address buffer log outcomes =
-    if check_df_range starting_address (length buffer) then read_chunks config.max_bus_retries starting_address buffer 0 true log outcomes
+    when check_df_range starting_address (length buffer) then read_chunks config.max_bus_retries starting_address buffer 0 true log outcomes
     else Err answer.DataFlashAddressOutOfRange log outcomes leaving buffer
 
 -- the loop of mac_read_from_df_with_retries_pec: always 36 bytes; after a wrong PEC the chunk's own address goes out again
 unfoldable pub read_chunks_pec : ℕ → ℕ → List ℕ → ℕ → Bool → Log → List BusOutcome → Read
 read_chunks_pec retries starting_address buffer bytes_read send_address log [] =
-    if leb (length buffer) bytes_read then Ok log [] leaving buffer else
-    if send_address && ltb 0xFFFF (starting_address + bytes_read) then Err answer.DataFlashAddressOutOfRange log [] leaving buffer else
-    if send_address then Waiting (made (write (with_pec (0x44 ∷ 2 ∷ to_le_bytes (starting_address + bytes_read)))) log) leaving buffer
+    when leb (length buffer) bytes_read then Ok log [] leaving buffer else
+    when send_address && ltb 0xFFFF (starting_address + bytes_read) then Err answer.DataFlashAddressOutOfRange log [] leaving buffer else
+    when send_address then Waiting (made (write (with_pec (0x44 ∷ 2 ∷ to_le_bytes (starting_address + bytes_read)))) log) leaving buffer
     else Waiting (made (read 0x44 36) log) leaving buffer
 read_chunks_pec retries starting_address buffer bytes_read send_address log (o ∷ outcomes) =
     let sent : Log = made (write (with_pec (0x44 ∷ 2 ∷ to_le_bytes (starting_address + bytes_read)))) log in
     let chunk_len : ℕ = min (length buffer - bytes_read) 32 in
     let now : Log = made (read 0x44 36) log in
-    if leb (length buffer) bytes_read then Ok log (o ∷ outcomes) leaving buffer else
-    if send_address && ltb 0xFFFF (starting_address + bytes_read) then Err answer.DataFlashAddressOutOfRange log (o ∷ outcomes) leaving buffer else
-    if send_address then
+    when leb (length buffer) bytes_read then Ok log (o ∷ outcomes) leaving buffer else
+    when send_address && ltb 0xFFFF (starting_address + bytes_read) then Err answer.DataFlashAddressOutOfRange log (o ∷ outcomes) leaving buffer else
+    when send_address then
     (bus_op o
-    err (λ e. if eqb retries 0 then Err e sent outcomes leaving buffer else read_chunks_pec (retries - 1) starting_address buffer bytes_read true (delayed sent) outcomes)
+    err (λ e. when eqb retries 0 then Err e sent outcomes leaving buffer else read_chunks_pec (retries - 1) starting_address buffer bytes_read true (delayed sent) outcomes)
     ok (λ bytes. read_chunks_pec retries starting_address buffer bytes_read false sent outcomes))
     else
     (bus_op o
-    err (λ e. if eqb retries 0 then Err e now outcomes leaving buffer else read_chunks_pec (retries - 1) starting_address buffer bytes_read true (delayed now) outcomes)
+    err (λ e. when eqb retries 0 then Err e now outcomes leaving buffer else read_chunks_pec (retries - 1) starting_address buffer bytes_read true (delayed now) outcomes)
     ok (λ bytes.
     let output_buf : List ℕ = delivered 36 bytes in
-    if not (eqb (get_or output_buf 35 0) (pec_of 0 (0x16 ∷ 0x44 ∷ 0x17 ∷ take 35 output_buf))) then
-    (if eqb retries 0 then Err answer.Pec now outcomes leaving buffer
+    when not (eqb (get_or output_buf 35 0) (pec_of 0 (0x16 ∷ 0x44 ∷ 0x17 ∷ take 35 output_buf))) then
+    (when eqb retries 0 then Err answer.Pec now outcomes leaving buffer
     else read_chunks_pec (retries - 1) starting_address buffer bytes_read true (delayed now) outcomes)
     else read_chunks_pec retries starting_address (take bytes_read buffer ++ take chunk_len (drop 3 output_buf) ++ drop (bytes_read + chunk_len) buffer) (bytes_read + chunk_len) false now outcomes))
 
 -- mac_read_from_df_with_retries_pec
 unfoldable pub mac_read_from_df_with_retries_pec : Config → ℕ → List ℕ → Log → List BusOutcome → Read
 mac_read_from_df_with_retries_pec config starting_address buffer log outcomes =
-    if check_df_range starting_address (length buffer) then read_chunks_pec config.max_bus_retries starting_address buffer 0 true log outcomes
+    when check_df_range starting_address (length buffer) then read_chunks_pec config.max_bus_retries starting_address buffer 0 true log outcomes
     else Err answer.DataFlashAddressOutOfRange log outcomes leaving buffer
 
 -- write_register
 unfoldable pub write_register : Config → ℕ → List ℕ → Log → List BusOutcome → Came
 write_register config address bytes log outcomes =
-    if ltb 32 (length bytes) then Err answer.DataTooLarge log outcomes
+    when ltb 32 (length bytes) then Err answer.DataTooLarge log outcomes
     else write_with_retries config (address ∷ bytes) config.pec_write log outcomes
 
 -- AsyncBufferInterface::write
 unfoldable pub buffer_write : Config → ℕ → List ℕ → Log → List BusOutcome → Came
 buffer_write config address bytes log outcomes =
-    if ltb 33 (length bytes) then Err answer.DataTooLarge log outcomes
+    when ltb 33 (length bytes) then Err answer.DataTooLarge log outcomes
     else write_with_retries config (address ∷ bytes) config.pec_write log outcomes
 
 -- read_register
 unfoldable pub read_register : Config → ℕ → List ℕ → Log → List BusOutcome → Read
 read_register config address buffer log outcomes =
-    if ltb 32 (length buffer) then Err answer.DataTooLarge log outcomes leaving buffer
+    when ltb 32 (length buffer) then Err answer.DataTooLarge log outcomes leaving buffer
     else read_with_retries config address buffer config.pec_read log outcomes
 
 -- dispatch_command
 unfoldable pub dispatch_command : Config → ℕ → List ℕ → List ℕ → Log → List BusOutcome → Read
 dispatch_command config address input output log outcomes =
     let buf : List ℕ = address / 65536 % 256 ∷ 2 ∷ address / 256 % 256 ∷ address % 256 ∷ [] in
-    if ltb 32 (length input) || ltb 32 (length output) then Err answer.DataTooLarge log outcomes leaving output else
-    if eqb (length output) 0 then mac_write_with_retries config buf log outcomes leaving output
+    when ltb 32 (length input) || ltb 32 (length output) then Err answer.DataTooLarge log outcomes leaving output else
+    when eqb (length output) 0 then mac_write_with_retries config buf log outcomes leaving output
     else mac_read_with_retries config buf output log outcomes
 
 -- it panics where there is an input and neither is too large

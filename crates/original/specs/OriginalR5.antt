@@ -1,7 +1,7 @@
 -- The calls of versions/r5.rs as they stand there; read_register_unchecked and write_register_unchecked, which were retired (02, W-210), are left out here.
 -- Assumes nothing.
 use Rattle.std.specs.Prelude.{ℕ, ◌+◌, ◌-◌, ◌*◌, true, false, List, [], ◌∷◌, ◌++◌, length, get_or, replicate, ℤ, pos, negsuc, ltb}
-use Rattle.protocol.specs.Pick.{if◌then◌else◌}
+use Rattle.protocol.specs.Pick.{when◌then◌else◌}
 use Rattle.protocol.specs.declared.error.Answer.TheVariants as answer
 use Rattle.r5.specs.declared.voltage.ChargingVoltageOverride.{ChargingVoltageOverride}
 use Rattle.original.specs.OriginalCommon.{Config}
@@ -37,7 +37,7 @@ unseal_fg config unseal_key_lower unseal_key_upper log outcomes = send_access_ke
 -- write_mfg_info_c
 unfoldable pub write_mfg_info_c : Config → ℕ → ℕ → List ℕ → Log → List BusOutcome → Came
 write_mfg_info_c config lower upper bytes log outcomes =
-    if ltb 32 (length bytes) then Err answer.DataTooLarge log outcomes else
+    when ltb 32 (length bytes) then Err answer.DataTooLarge log outcomes else
     and_then (λ log outcomes. mac_write_with_retries config (0x44 ∷ (length bytes + 2) ∷ 0x7B ∷ 0x00 ∷ bytes) log outcomes)
     (send_access_key config lower upper log outcomes)
 
@@ -45,21 +45,21 @@ write_mfg_info_c config lower upper bytes log outcomes =
 unfoldable pub read_mfg_info_c : Config → List ℕ → Log → List BusOutcome → Read
 read_mfg_info_c config buffer log outcomes =
     let buf : List ℕ = 0x44 ∷ 2 ∷ 0x7B ∷ 0x00 ∷ [] in
-    if ltb 32 (length buffer) then Err answer.DataTooLarge log outcomes leaving buffer else
-    if config.pec_read then copied buffer (mac_read_with_retries config buf (replicate 32 0) log outcomes)
+    when ltb 32 (length buffer) then Err answer.DataTooLarge log outcomes leaving buffer else
+    when config.pec_read then copied buffer (mac_read_with_retries config buf (replicate 32 0) log outcomes)
     else mac_read_with_retries config buf buffer log outcomes
 
 -- write_mfg_info
 unfoldable pub write_mfg_info : Config → List ℕ → Log → List BusOutcome → Came
 write_mfg_info config bytes log outcomes =
-    if ltb 32 (length bytes) then Err answer.DataTooLarge log outcomes
+    when ltb 32 (length bytes) then Err answer.DataTooLarge log outcomes
     else mac_write_with_retries config (0x70 ∷ length bytes ∷ bytes) log outcomes
 
 -- read_mfg_info: with PEC into 33 bytes of its own
 unfoldable pub read_mfg_info : Config → List ℕ → Log → List BusOutcome → Read
 read_mfg_info config buffer log outcomes =
-    if ltb 33 (length buffer) then Err answer.DataTooLarge log outcomes leaving buffer else
-    if config.pec_read then copied buffer (read_with_retries config 0x70 (replicate 33 0) true log outcomes)
+    when ltb 33 (length buffer) then Err answer.DataTooLarge log outcomes leaving buffer else
+    when config.pec_read then copied buffer (read_with_retries config 0x70 (replicate 33 0) true log outcomes)
     else read_with_retries config 0x70 buffer false log outcomes
 
 -- i16::to_le_bytes
@@ -80,7 +80,7 @@ write_charging_voltage_override config figures log outcomes =
 
 -- i16::from_le_bytes
 unfoldable pub i16_from_le_bytes : ℕ → ℕ → ℤ
-i16_from_le_bytes low high = if ltb (low + 256 * high) 0x8000 then pos (low + 256 * high) else negsuc (0xFFFF - (low + 256 * high))
+i16_from_le_bytes low high = when ltb (low + 256 * high) 0x8000 then pos (low + 256 * high) else negsuc (0xFFFF - (low + 256 * high))
 
 -- read_charging_voltage_override, with its ten bytes for a buffer
 unfoldable pub read_charging_voltage_override : Config → List ℕ → Log → List BusOutcome → Read
@@ -99,7 +99,7 @@ override_figures buffer = record {
 -- read_dataflash
 unfoldable pub read_dataflash : Config → ℕ → List ℕ → Log → List BusOutcome → Read
 read_dataflash config starting_address buffer log outcomes =
-    if config.pec_read then mac_read_from_df_with_retries_pec config starting_address buffer log outcomes
+    when config.pec_read then mac_read_from_df_with_retries_pec config starting_address buffer log outcomes
     else mac_read_from_df_with_retries config starting_address buffer log outcomes
 
 -- write_dataflash

@@ -7,7 +7,7 @@ use mathlib.Core.List.{List, [], ◌∷◌, ◌++◌}
 use native.Mathlib.Omega.{arith}
 use lib.Dec.{eqb}
 use borrow.Author.Tests.{lt-ltb, le-ltb, le-leb, lt-leb, ne_eqb}
-use Rattle.protocol.specs.Pick.{if◌then◌else◌}
+use Rattle.protocol.specs.Pick.{when◌then◌else◌}
 use Rattle.hexadecimal.specs.Hex.{value_of}
 use Rattle.packs.specs.declared.Said.{Said}
 use Rattle.packs.specs.declared.Said.TheVariants as said
@@ -21,7 +21,7 @@ within count line numbers = sheet record { count = count; line = line } numbers
 
 -- a line feed is no digit
 pub feed_no_digit : (b : ℕ) → value_of b < 16 → eqb b 10 ≡ false
-unfolding value_of if◌then◌else◌
+unfolding value_of when◌then◌else◌
 feed_no_digit b h = ne_eqb b 10 (λ e. let z : value_of 10 < 16 = subst (λ (k : ℕ). value_of k < 16) e h in absurd (omega (arith, z)))
 
 -- one byte after the other
@@ -33,14 +33,14 @@ feed_append (b ∷ s) t d = feed_append s t (step_of b d)
 module _ (count : Count) (numbers : List ℕ) where
   -- a digit of a line that has fewer than six
   pub step_digit : (b line : ℕ) → value_of b < 16 → 0 < line → line < 0x1000000 → step_of b (within count line numbers) ≡ within count (line * 16 + value_of b) numbers
-  unfolding step_of is_refused digit_of if◌then◌else◌
+  unfolding step_of is_refused digit_of when◌then◌else◌
   step_digit b line v some few =
       let z : eqb line 0 ≡ false = ne_eqb line 0 (λ e. absurd (omega arith)) in
       rw (z, feed_no_digit b v, le-ltb 15 (value_of b) (omega arith), lt-leb 0x1000000 line few) refl
 
   -- a line feed
   pub step_line : (line : ℕ) → 0 < line → step_of 10 (within count line numbers) ≡ counted_of (said_of line) count numbers
-  unfolding step_of is_refused if◌then◌else◌
+  unfolding step_of is_refused when◌then◌else◌
   step_line line some = let z : eqb line 0 ≡ false = ne_eqb line 0 (λ e. absurd (omega arith)) in rw z refl
 
   pub feed_digit : (b line : ℕ) (t : List ℕ) → value_of b < 16 → 0 < line → line < 0x1000000
@@ -56,7 +56,7 @@ module _ (count : Count) (numbers : List ℕ) where
   pub feed_read : (a b c d : ℕ) (t : List ℕ) → value_of a < 16 → value_of b < 16 → value_of c < 16 → value_of d < 16
       → feed_of (48 ∷ 48 ∷ a ∷ b ∷ c ∷ d ∷ 10 ∷ t) (within count 1 numbers)
       ≡ feed_of t (counted_of (said.Read ((value_of c * 16 + value_of d) * 256 + (value_of a * 16 + value_of b))) count numbers)
-  unfolding value_of said_of if◌then◌else◌
+  unfolding value_of said_of when◌then◌else◌
   feed_read a b c d t ha hb hc hd =
       let line : ℕ = (((256 * 16 + value_of a) * 16 + value_of b) * 16 + value_of c) * 16 + value_of d in
       let says : said_of line ≡ said.Read ((value_of c * 16 + value_of d) * 256 + (value_of a * 16 + value_of b)) =
@@ -73,7 +73,7 @@ module _ (count : Count) (numbers : List ℕ) where
   -- 01, a byte that is not 0 and a line feed
   pub feed_unread : (a b : ℕ) (t : List ℕ) → value_of a < 16 → value_of b < 16 → 0 < value_of a * 16 + value_of b
       → feed_of (48 ∷ 49 ∷ a ∷ b ∷ 10 ∷ t) (within count 1 numbers) ≡ feed_of t (counted_of (said.Unread (value_of a * 16 + value_of b)) count numbers)
-  unfolding value_of said_of if◌then◌else◌
+  unfolding value_of said_of when◌then◌else◌
   feed_unread a b t ha hb some =
       let line : ℕ = (257 * 16 + value_of a) * 16 + value_of b in
       let says : said_of line ≡ said.Unread (value_of a * 16 + value_of b) =

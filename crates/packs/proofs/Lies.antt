@@ -10,7 +10,7 @@ use lib.ListN.{length, drop, get_or, drop_of_length-le}
 use lib.Seq.{drop-cons}
 use lib.Dec.{ltb, eqb}
 use borrow.Author.Tests.{eqb-true, eqb-false, ltb-false}
-use Rattle.protocol.specs.Pick.{if◌then◌else◌}
+use Rattle.protocol.specs.Pick.{when◌then◌else◌}
 use Rattle.hexadecimal.specs.Hex.{value_of, byte_of}
 use Rattle.packs.specs.declared.Said.{Said}
 use Rattle.packs.specs.declared.Said.TheVariants as said
@@ -22,19 +22,19 @@ use Rattle.packs.specs.Ahead.{pair_at, read_ahead, unread_ahead, ahead_of, line_
 use Rattle.packs.proofs.Feed.{within, feed_read, feed_unread}
 
 -- what holds of both arms holds of the choice
-pub pick : (P : Said → Type 0) (t : Bool) (a b : Said) → (t ≡ true → P a) → (t ≡ false → P b) → P (if t then a else b)
-unfolding if◌then◌else◌
+pub pick : (P : Said → Type 0) (t : Bool) (a b : Said) → (t ≡ true → P a) → (t ≡ false → P b) → P (when t then a else b)
+unfolding when◌then◌else◌
 pick P true a b f g = f refl
 pick P false a b f g = g refl
 
 -- a byte of two digits
 pub pair_digits : (h l : ℕ) → byte_of h l ≤ 255 → (value_of h < 16) × (value_of l < 16) × (byte_of h l ≡ value_of h * 16 + value_of l)
-unfolding byte_of if◌then◌else◌
+unfolding byte_of when◌then◌else◌
 pair_digits h l = by (ltb 15 (value_of h)) refl (ltb 15 (value_of l)) refl
   where
     by : (t : Bool) → ltb 15 (value_of h) ≡ t → (u : Bool) → ltb 15 (value_of l) ≡ u
-        → (if t then 256 else (if u then 256 else (value_of h * 16 + value_of l))) ≤ 255
-        → (value_of h < 16) × (value_of l < 16) × ((if t then 256 else (if u then 256 else (value_of h * 16 + value_of l))) ≡ value_of h * 16 + value_of l)
+        → (when t then 256 else (when u then 256 else (value_of h * 16 + value_of l))) ≤ 255
+        → (value_of h < 16) × (value_of l < 16) × ((when t then 256 else (when u then 256 else (value_of h * 16 + value_of l))) ≡ value_of h * 16 + value_of l)
     by true e u f le = absurd (omega arith)
     by false e true f le = absurd (omega arith)
     by false e false f le = let p = ltb-false 15 (value_of h) e in let q = ltb-false 15 (value_of l) f in (omega arith, omega arith, refl)
@@ -153,10 +153,10 @@ module _ (chunk : List ℕ) (at : ℕ) (count : Count) (numbers : List ℕ) wher
 -- a turn of `take`: its line, counted where it lies, or one byte
 pub turn_leads : (chunk : List ℕ) (at : ℕ) (r : Reader) (numbers : List ℕ) (line : Said) → at < length chunk → line ≡ line_at r.line chunk at
     → (at + used_by line ≤ length chunk) × (feed_of (drop at chunk) (sheet r numbers) ≡ feed_of (drop (at + used_by line) chunk) (turn_of line (get_or chunk at 0) (sheet r numbers)))
-unfolding line_at Leads used_by turn_of if◌then◌else◌
+unfolding line_at Leads used_by turn_of when◌then◌else◌
 turn_leads chunk at r numbers line h = by (eqb r.line 1) refl
   where
-    by : (t : Bool) → eqb r.line 1 ≡ t → line ≡ (if t then ahead_of chunk at else said.Nothing)
+    by : (t : Bool) → eqb r.line 1 ≡ t → line ≡ (when t then ahead_of chunk at else said.Nothing)
         → (at + used_by line ≤ length chunk) × (feed_of (drop at chunk) (sheet r numbers) ≡ feed_of (drop (at + used_by line) chunk) (turn_of line (get_or chunk at 0) (sheet r numbers)))
     by true e q = rw (q, eqb-true r.line 1 e) (ahead_leads chunk at r.count numbers h)
     by false e q = rw q (omega arith, byte_leads chunk at r.count numbers (sheet r numbers) h)

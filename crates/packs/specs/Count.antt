@@ -1,7 +1,7 @@
 -- The count over the lines so far, byte by byte. (02, W-212)
 -- Assumes nothing.
 use Rattle.std.specs.Prelude.{ℕ, ◌+◌, ◌*◌, ◌/◌, ◌%◌, min, max, Bool, List, [], ◌∷◌, set, get_or, replicate, ltb, leb, eqb}
-use Rattle.protocol.specs.Pick.{if◌then◌else◌}
+use Rattle.protocol.specs.Pick.{when◌then◌else◌}
 use Rattle.hexadecimal.specs.Hex.{value_of}
 use Rattle.packs.specs.declared.Said.{Said}
 use Rattle.packs.specs.declared.Said.TheVariants as said
@@ -55,8 +55,8 @@ one_more answer numbers = set numbers answer ((get_or numbers answer 0 + 1) % 65
 -- what a line's digits say, a number after a 1: 00 and the cycles, low byte first; 01 and an answer that is not 0
 unfoldable pub said_of : ℕ → Said
 said_of line =
-    if leb 0x1000000 line then (if ltb line 0x1010000 then said.Read (line % 256 * 256 + line / 256 % 256) else said.Nothing) else
-    if ltb 0x10100 line then (if ltb line 0x10200 then said.Unread (line % 256) else said.Nothing) else
+    when leb 0x1000000 line then (when ltb line 0x1010000 then said.Read (line % 256 * 256 + line / 256 % 256) else said.Nothing) else
+    when ltb 0x10100 line then (when ltb line 0x10200 then said.Unread (line % 256) else said.Nothing) else
     said.Nothing
 
 -- a pack is counted
@@ -67,7 +67,7 @@ counted_by said.Nothing count numbers = sheet (refused_of count) numbers
 
 -- a line is whole: it is refused where it is no pack, or one too many
 unfoldable pub counted_of : Said → Count → List ℕ → Sheet
-counted_of s count numbers = if leb 65535 (seen_of count) then sheet (refused_of count) numbers else counted_by s count numbers
+counted_of s count numbers = when leb 65535 (seen_of count) then sheet (refused_of count) numbers else counted_by s count numbers
 
 -- one more digit of a line
 unfoldable pub digit_of : Reader → ℕ → Reader
@@ -76,10 +76,10 @@ digit_of reader value = record { count = reader.count; line = reader.line * 16 +
 -- one byte: a line feed, or a digit; a byte that is neither, and a seventh digit, refuse their line
 unfoldable pub step_of : ℕ → Sheet → Sheet
 step_of b d =
-    if is_refused d.reader then d else
-    if eqb b 10 then counted_of (said_of d.reader.line) d.reader.count d.numbers else
-    if ltb 15 (value_of b) then sheet (refused_of d.reader.count) d.numbers else
-    if leb 0x1000000 d.reader.line then sheet (refused_of d.reader.count) d.numbers else
+    when is_refused d.reader then d else
+    when eqb b 10 then counted_of (said_of d.reader.line) d.reader.count d.numbers else
+    when ltb 15 (value_of b) then sheet (refused_of d.reader.count) d.numbers else
+    when leb 0x1000000 d.reader.line then sheet (refused_of d.reader.count) d.numbers else
     sheet (digit_of d.reader (value_of b)) d.numbers
 
 -- byte after byte

@@ -7,7 +7,7 @@ use native.Mathlib.Omega.{arith}
 use lib.ListN.{length, take, drop, set, length-append, length-drop}
 use borrow.Author.Tests.{le-ltb}
 use Rattle.hexadecimal.specs.Line.{feed_bytes}
-use Rattle.protocol.specs.Pick.{if◌then◌else◌}
+use Rattle.protocol.specs.Pick.{when◌then◌else◌}
 use Rattle.hexadecimal.specs.Hex.{hex_of, out_encoded}
 use Rattle.hexadecimal.proofs.Laws.{hex_append, length_hex}
 use Rattle.protocol.specs.Bytes.{over}
@@ -15,7 +15,7 @@ use Rattle.protocol.proofs.Laws.{over_set, take_over, over_over, length_over, la
 
 -- with room, the digits lie over the front
 pub encoded_over : (s out : List ℕ) → length s * 2 ≤ length out → out_encoded s out ≡ over (hex_of s) out
-unfolding out_encoded if◌then◌else◌ over
+unfolding out_encoded when◌then◌else◌ over
 encoded_over s out h =
     let le : length s ≤ length out / 2 = omega arith in
     rw (le-ltb (length out / 2) (length s) le)

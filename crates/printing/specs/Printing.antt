@@ -2,7 +2,7 @@
 -- Assumes nothing.
 use Rattle.std.specs.Prelude.{ℕ, ◌+◌, ◌*◌, ◌/◌, ◌%◌, List, [], ◌∷◌, ◌++◌, length, leb}
 use Rattle.hexadecimal.specs.Line.{feed_bytes}
-use Rattle.protocol.specs.Pick.{if◌then◌else◌}
+use Rattle.protocol.specs.Pick.{when◌then◌else◌}
 use Rattle.protocol.specs.Bytes.{over}
 use Rattle.protocol.specs.Frame.{pair_of}
 use Rattle.protocol.specs.Answer.{number_of, detail_of}
@@ -11,11 +11,11 @@ use Rattle.engine.specs.declared.budget.Tally.{Tally}
 
 -- how many bytes are printed where there is room for so many; 0 where that is too few
 unfoldable pub printed_of : List ℕ → ℕ → ℕ
-printed_of said room = if leb (length said * 2 + 1) room then length (feed_bytes said) else 0
+printed_of said room = when leb (length said * 2 + 1) room then length (feed_bytes said) else 0
 
 -- what printing leaves: the line over the front, where there is room
 unfoldable pub out_printed : List ℕ → List ℕ → List ℕ
-out_printed said out = if leb (length said * 2 + 1) (length out) then over (feed_bytes said) out else out
+out_printed said out = when leb (length said * 2 + 1) (length out) then over (feed_bytes said) out else out
 
 -- a number's four bytes, low byte first
 unfoldable pub quad_of : ℕ → List ℕ

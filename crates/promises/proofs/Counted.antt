@@ -5,7 +5,7 @@ use mathlib.Core.Path.{◌≡◌, refl, subst}
 use mathlib.Core.Logic.{inl, inr}
 use mathlib.Core.List.{List}
 use lib.ListN.{length}
-use Rattle.protocol.specs.Pick.{if◌then◌else◌}
+use Rattle.protocol.specs.Pick.{when◌then◌else◌}
 use Rattle.protocol.specs.Answer.{number_of}
 use Rattle.protocol.specs.declared.common.Config.{Config}
 use Rattle.protocol.specs.declared.error.Answer.{Answer}
@@ -18,12 +18,12 @@ use Rattle.promises.proofs.Stopped.{stopped}
 
 -- figures
 pub counts : (given_count (answer.PartialDataFlashWrite 64) ≡ 64) × (given_count (answer.I2c 5) ≡ 0) × (given_count answer.Timeout ≡ 0)
-unfolding if◌then◌else◌
+unfolding when◌then◌else◌
 counts = (refl, refl, refl)
 
 -- each answer but 0 counts what was acknowledged
 error_counts : (n i : ℕ) (a : Answer) → (number_of a ≡ 0 → ⊥) → Answered 32 n i a → given_count a ≡ i * 32
-unfolding if◌then◌else◌
+unfolding when◌then◌else◌
 error_counts n i a error (all_acked z h) = absurd (error z)
 error_counts n i a error (some_acked z e p h) = rw (z, e)
 error_counts n i a error (none_acked (inl z) e) = rw (z, e)

@@ -6,7 +6,7 @@ use mathlib.Core.Bool.{true}
 use mathlib.Core.List.{List, [], ◌∷◌}
 use lib.ListN.{length}
 use borrow.Author.Tests.{eq-eqb}
-use Rattle.protocol.specs.Pick.{if◌then◌else◌}
+use Rattle.protocol.specs.Pick.{when◌then◌else◌}
 use Rattle.engine.specs.declared.bus.Outcome.{Outcome}
 use Rattle.engine.specs.declared.bus.Phase.TheVariants as phase
 use Rattle.engine.specs.declared.bus.Transfer.{Transfer}
@@ -47,7 +47,7 @@ use Rattle.promises.proofs.RunRows.{again_fits, Came, came, rows_of, kept_of, en
 
 pub is_admitted : (payload : List ℕ) (w : World) (course : List ℕ) → length w.flash ≡ 8192 → sound_of course ≡ true
     → run_of payload course w ≡ leaves_of (length payload) (drive_of payload (fates_of course) w)
-unfolding run_of admit_of case◌refused◌admitted◌ if◌then◌else◌
+unfolding run_of admit_of case◌refused◌admitted◌ when◌then◌else◌
 is_admitted payload w course whole sound = rw (eq-eqb (length w.flash) 8192 whole, sound)
 
 -- ---- what a run keeps of its call

@@ -9,7 +9,7 @@ use lib.Dec.{eqb, ltb}
 use lib.ListN.{length, take}
 use borrow.Author.Tests.{eqb-true, eqb-false}
 use Rattle.protocol.specs.Common.{TwoByteBudgets}
-use Rattle.protocol.specs.Pick.{if◌then◌else◌}
+use Rattle.protocol.specs.Pick.{when◌then◌else◌}
 use Rattle.protocol.specs.declared.common.Config.{Config}
 use Rattle.protocol.specs.declared.error.Answer.{Answer}
 use Rattle.protocol.specs.declared.error.Answer.TheVariants as answer
@@ -205,7 +205,7 @@ fates_front (suc k) [] = refl
 fates_front (suc k) (byte ∷ course) = ap (λ (fs : List Fate). fate_of byte ∷ fs) (fates_front k course)
 
 sound_front : (k : ℕ) (course : List ℕ) → sound_of course ≡ true → sound_of (take k course) ≡ true
-unfolding sound_of if◌then◌else◌
+unfolding sound_of when◌then◌else◌
 sound_front zero course sound = refl
 sound_front (suc k) [] sound = refl
 sound_front (suc k) (byte ∷ course) sound = by (sound_front k course) (ltb 2 byte) refl
@@ -216,7 +216,7 @@ sound_front (suc k) (byte ∷ course) sound = by (sound_front k course) (ltb 2 b
 
 -- a run is cut exactly where its call waits and is lent the lengths of its start
 cut_only : (p : Phase) (fits : Bool) → end_of p fits ≡ end.Cut → (p ≡ phase.Waiting) × (fits ≡ true)
-unfolding end_of case◌waiting◌ended◌ if◌then◌else◌
+unfolding end_of case◌waiting◌ended◌ when◌then◌else◌
 cut_only phase.Waiting true e = (refl, refl)
 cut_only phase.Waiting false e = let z : ◌≡◌ {A = ℕ} 0 1 = cc in absurd (omega arith)
 cut_only (phase.Ended a) fits e = let z : ◌≡◌ {A = ℕ} 0 1 = cc in absurd (omega arith)

@@ -8,7 +8,7 @@ use native.Mathlib.Omega.{arith}
 use lib.Dec.{eqb}
 use lib.ListN.{length, drop, length-take, length-drop, replicate}
 use borrow.Author.Tests.{eq-eqb, ne_eqb, eqb-true, eqb-false}
-use Rattle.protocol.specs.Pick.{if◌then◌else◌}
+use Rattle.protocol.specs.Pick.{when◌then◌else◌}
 use Rattle.protocol.specs.Window.{in_window}
 use Rattle.protocol.specs.declared.common.Config.{Config}
 use Rattle.protocol.specs.declared.error.Answer.{Answer}
@@ -63,7 +63,7 @@ events_in (f ∷ fs) = event_in f ∷ events_in fs
 
 -- which is what the bytes of a course say
 event_at_lem : (byte : ℕ) → event_in (fate_of byte) ≡ event_at byte
-unfolding fate_of if◌then◌else◌
+unfolding fate_of when◌then◌else◌
 event_at_lem zero = refl
 event_at_lem (suc zero) = refl
 event_at_lem (suc (suc n)) = rw (ne_eqb (suc (suc n)) 0 (λ e. omega arith), ne_eqb (suc (suc n)) 1 (λ e. omega arith))
@@ -107,7 +107,7 @@ module _ (config : Config) (address : ℕ) (payload : List ℕ) (n : ℕ) (gauge
   ended_at : (room : 39 ≤ n) (i : ℕ) (b : Budget) (t : Tally) (work flash : List ℕ) (p : Phase) → length work ≡ n
       → (leaves_of (length payload) (beside gauge buffer (world_at config address payload n p i b t work flash))).run.end
       ≡ end_in (shows payload (world_at config address payload n p i b t work flash))
-  unfolding leaves_of ended_of end_of phase_of fits_of case◌waiting◌ended◌ bus.fits_of if◌then◌else◌
+  unfolding leaves_of ended_of end_of phase_of fits_of case◌waiting◌ended◌ bus.fits_of when◌then◌else◌
   ended_at room i b t work flash phase.Waiting long =
       rw (shows_block config address payload n i b t work long room, eq-eqb (length payload) (length payload) refl, eq-eqb (length work) n long)
   ended_at room i b t work flash (phase.Ended a) long = rw (shows_ended config address payload n a i b t (length work))
@@ -268,7 +268,7 @@ on_courses_leaves address payload flash e now win whole g =
 -- ---- every transfer is heard
 
 pub heard_sound : (n : ℕ) → sound_of (replicate n 0) ≡ true
-unfolding sound_of if◌then◌else◌
+unfolding sound_of when◌then◌else◌
 heard_sound zero = refl
 heard_sound (suc n) = heard_sound n
 

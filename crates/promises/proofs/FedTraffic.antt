@@ -8,7 +8,7 @@ use native.Mathlib.Omega.{arith}
 use lib.Dec.{eqb}
 use lib.ListN.{length, length-append, replicate}
 use Rattle.protocol.specs.Common.{TwoByteBudgets}
-use Rattle.protocol.specs.Pick.{if◌then◌else◌}
+use Rattle.protocol.specs.Pick.{when◌then◌else◌}
 use Rattle.protocol.specs.Answer.{number_of}
 use Rattle.protocol.specs.declared.common.Config.{Config}
 use Rattle.protocol.specs.declared.error.Answer.{Answer}
@@ -63,13 +63,13 @@ record Runs (m v made outcomes before : ℕ) (after : Tally) (r : Read) : Type 0
 -- a call with an answer makes no more
 answers : (m v : ℕ) (call : Call) → Good m v call → (a : Answer) (done : List Made) (outcomes : List BusOutcome) (buffer : List ℕ) (n : ℕ)
     → Runs m v (length done) n (tally_of call).transfers (tally_of call) (answered a (record { transfers = done; waits = (tally_of call).waits }) outcomes leaving buffer)
-unfolding answered transfers_of answered_in waits_in if◌then◌else◌
+unfolding answered transfers_of answered_in waits_in when◌then◌else◌
 answers m v call good a done outcomes buffer n = by (eqb (number_of a) 0)
   where
     log : Log
     log = record { transfers = done; waits = (tally_of call).waits }
 
-    by : (t : Bool) → Runs m v (length done) n (tally_of call).transfers (tally_of call) ((if t then Ok log outcomes else Err a log outcomes) leaving buffer)
+    by : (t : Bool) → Runs m v (length done) n (tally_of call).transfers (tally_of call) ((when t then Ok log outcomes else Err a log outcomes) leaving buffer)
     by true = record { makes = omega arith; over = λ h. tt; rests = rests m v call good; counted = refl; waited = refl }
     by false = record { makes = omega arith; over = λ h. tt; rests = rests m v call good; counted = refl; waited = refl }
 

@@ -9,7 +9,7 @@ use native.Mathlib.Omega.{arith}
 use lib.Dec.{eqb}
 use lib.ListN.{length}
 use borrow.Author.Tests.{ne_eqb, eqb-true, eqb-false}
-use Rattle.protocol.specs.Pick.{if◌then◌else◌}
+use Rattle.protocol.specs.Pick.{when◌then◌else◌}
 use Rattle.protocol.specs.Bytes.{over}
 use Rattle.protocol.specs.declared.common.Config.{Config}
 use Rattle.protocol.specs.declared.error.Answer.TheVariants as answer
@@ -45,13 +45,13 @@ module _ (config : Config) (address : ℕ) (payload : List ℕ) (n : ℕ) (room 
     -- a report of other lengths is refused
     not_fitting : (o : Outcome) (r lent work : ℕ) → (lent ≡ length payload → ⊥) ⊎ (work ≡ n → ⊥)
         → call_w (report_of (call_at config address payload n phase.Waiting i b t) o r lent work) ≡ call_at config address payload n phase.Waiting i b t
-    unfolding report_of case◌waiting◌ended◌ if◌then◌else◌
+    unfolding report_of case◌waiting◌ended◌ when◌then◌else◌
     not_fitting o r lent work other = rw (not_fits (length payload) n lent work other)
 
     -- an acknowledgement with a reply is refused, at whatever lengths
     not_asked : (r lent work : ℕ) → (r ≡ 0 → ⊥)
         → call_w (report_of (call_at config address payload n phase.Waiting i b t) outcome.Acknowledged r lent work) ≡ call_at config address payload n phase.Waiting i b t
-    unfolding report_of replied_of case◌waiting◌ended◌ case◌acknowledged◌error◌timeout◌ if◌then◌else◌
+    unfolding report_of replied_of case◌waiting◌ended◌ case◌acknowledged◌error◌timeout◌ when◌then◌else◌
     not_asked r lent work some = by (fits_of (record { length = length payload; work = n }) lent work) refl
       where
         by : (z : Bool) → fits_of (record { length = length payload; work = n }) lent work ≡ z

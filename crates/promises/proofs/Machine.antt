@@ -8,7 +8,7 @@ use mathlib.Core.List.{List, []}
 use native.Mathlib.Omega.{arith}
 use lib.ListN.{length, drop, length-append, length-take}
 use borrow.Author.Tests.{eq-eqb, lt-ltb}
-use Rattle.protocol.specs.Pick.{if◌then◌else◌}
+use Rattle.protocol.specs.Pick.{when◌then◌else◌}
 use Rattle.protocol.specs.Bytes.{over, send_of, blocks_of}
 use Rattle.protocol.specs.Frame.{sealed, pair_of, mac_bytes, laid_of, work_laid}
 use Rattle.protocol.specs.Answer.{number_of}
@@ -51,7 +51,7 @@ why_number timed_out = inr refl
 
 -- a write brings no bytes, and those beside a failure are not looked at
 no_reply : (e : Event) (beside : List ℕ) → replied_of (heard_as e) (length (lent_of e [] beside)) ≡ false
-unfolding replied_of case◌acknowledged◌error◌timeout◌ if◌then◌else◌
+unfolding replied_of case◌acknowledged◌error◌timeout◌ when◌then◌else◌
 no_reply (acknowledged) beside = refl
 no_reply (failed (bus_error code)) beside = refl
 no_reply (failed timed_out) beside = refl
@@ -59,13 +59,13 @@ no_reply (unheard (bus_error code)) beside = refl
 no_reply (unheard timed_out) beside = refl
 
 pub nothing_lent : (o : Outcome) → replied_of o 0 ≡ false
-unfolding replied_of case◌acknowledged◌error◌timeout◌ if◌then◌else◌
+unfolding replied_of case◌acknowledged◌error◌timeout◌ when◌then◌else◌
 nothing_lent outcome.Acknowledged = refl
 nothing_lent (outcome.BusError code) = refl
 nothing_lent outcome.Timeout = refl
 
 sealed_short : (pec : Bool) (f : List ℕ) → length f ≤ 36 → length (sealed pec f) ≤ 37
-unfolding sealed if◌then◌else◌
+unfolding sealed when◌then◌else◌
 sealed_short true f h = simp length-append (omega arith)
 sealed_short false f h = omega arith
 
@@ -94,18 +94,18 @@ module _ (config : Config) (address : ℕ) (payload : List ℕ) (n : ℕ) where
   module _ (i : ℕ) (b : Budget) (t : Tally) (work : List ℕ) (long : length work ≡ n) (room : 39 ≤ n) where
     -- the machine shows the frame of the block that is due
     pub shows_block : next_of (call_at phase.Waiting i b t) payload (length work) ≡ transfer.Write (length (frame_of i))
-    unfolding next_of case◌waiting◌ended◌ fits_of own_bytes is_plain plan_of write_dataflash shown_of due_bytes bytes_at laid_of write_of if◌then◌else◌
+    unfolding next_of case◌waiting◌ended◌ fits_of own_bytes is_plain plan_of write_dataflash shown_of due_bytes bytes_at laid_of write_of when◌then◌else◌
     shows_block =
         rw (eq-eqb (length payload) (length payload) refl, eq-eqb (length work) n long, lt-ltb (length (block_bytes address i payload)) (length work) (omega (arith, block_short i)))
 
     pub lays : work_after (call_at phase.Waiting i b t) payload work ≡ over (frame_of i) work
-    unfolding work_after case◌waiting◌ended◌ fits_of own_bytes is_plain plan_of write_dataflash work_shown due_bytes bytes_at work_laid if◌then◌else◌
+    unfolding work_after case◌waiting◌ended◌ fits_of own_bytes is_plain plan_of write_dataflash work_shown due_bytes bytes_at work_laid when◌then◌else◌
     lays =
         rw (eq-eqb (length payload) (length payload) refl, eq-eqb (length work) n long, lt-ltb (length (block_bytes address i payload)) (length work) (omega (arith, block_short i)))
 
     -- and hands it out
     pub hands_out : part_of (call_at phase.Waiting i b t) payload (over (frame_of i) work) (length (frame_of i)) ≡ frame_of i
-    unfolding part_of own_bytes is_plain plan_of write_dataflash send_of if◌then◌else◌
+    unfolding part_of own_bytes is_plain plan_of write_dataflash send_of when◌then◌else◌
     hands_out = take_over (frame_of i) work
 
     pub laid_long : length (over (frame_of i) work) ≡ n
@@ -113,7 +113,7 @@ module _ (config : Config) (address : ℕ) (payload : List ℕ) (n : ℕ) where
 
     -- a report that brings no bytes where it acknowledges is taken
     pub is_taken : (o : Outcome) (r : ℕ) → replied_of o r ≡ false → report_of (call_at phase.Waiting i b t) o r (length payload) n ≡ reported.Taken (settle_of (call_at phase.Waiting i b (tallied t)) o)
-    unfolding report_of counted_of case◌waiting◌ended◌ fits_of if◌then◌else◌
+    unfolding report_of counted_of case◌waiting◌ended◌ fits_of when◌then◌else◌
     is_taken o r bare = rw (eq-eqb (length payload) (length payload) refl, eq-eqb n n refl, bare)
 
     -- what became of the frame is heard, whatever is lent beside a failure

@@ -9,7 +9,7 @@ use lib.Dec.{eqb}
 use lib.ListN.{length}
 use borrow.Author.Tests.{eqb-true, eqb-false}
 use Rattle.protocol.specs.Common.{TwoByteBudgets}
-use Rattle.protocol.specs.Pick.{if◌then◌else◌}
+use Rattle.protocol.specs.Pick.{when◌then◌else◌}
 use Rattle.protocol.specs.Answer.{number_of}
 use Rattle.protocol.specs.declared.common.Side.TheVariants as side
 use Rattle.protocol.specs.declared.common.Config.{Config}
@@ -41,18 +41,18 @@ use Rattle.promises.proofs.Stopped.{Going, going_step, going, run_ended, run_emp
 -- ---- an answer, in the Rust's words
 
 transfers_answered : (a : Answer) (log : Log) (os : List BusOutcome) → made_in (answered a log os) ≡ log.transfers
-unfolding answered if◌then◌else◌
+unfolding answered when◌then◌else◌
 transfers_answered a log os = by (eqb (number_of a) 0)
   where
-    by : (t : Bool) → made_in (if t then Ok log os else Err a log os) ≡ log.transfers
+    by : (t : Bool) → made_in (when t then Ok log os else Err a log os) ≡ log.transfers
     by true = refl
     by false = refl
 
 stop_answered : (a : Answer) (log : Log) (os : List BusOutcome) → end.Answered a ≡ stop_of (answered a log os)
-unfolding answered if◌then◌else◌
+unfolding answered when◌then◌else◌
 stop_answered a log os = by (eqb (number_of a) 0) refl
   where
-    by : (t : Bool) → eqb (number_of a) 0 ≡ t → end.Answered a ≡ stop_of (if t then Ok log os else Err a log os)
+    by : (t : Bool) → eqb (number_of a) 0 ≡ t → end.Answered a ≡ stop_of (when t then Ok log os else Err a log os)
     by true e = rw (done_only a (eqb-true (number_of a) 0 e))
     by false e = refl
 
@@ -67,7 +67,7 @@ told_outcome (unheard (bus_error code)) = refl
 told_outcome (unheard timed_out) = refl
 
 brings_none : (e : Event) (frame beside : List ℕ) → replied_of (heard_as e) (length (reply (write frame) beside (outcome_in e))) ≡ false
-unfolding reply brings replied_of case◌acknowledged◌error◌timeout◌ if◌then◌else◌
+unfolding reply brings replied_of case◌acknowledged◌error◌timeout◌ when◌then◌else◌
 brings_none (acknowledged) frame beside = refl
 brings_none (failed (bus_error code)) frame beside = refl
 brings_none (failed timed_out) frame beside = refl

@@ -8,7 +8,7 @@ use native.Mathlib.Omega.{arith}
 use lib.Dec.{eqb}
 use lib.ListN.{length}
 use borrow.Author.Tests.{eq-eqb, eqb-true, eqb-false}
-use Rattle.protocol.specs.Pick.{if◌then◌else◌}
+use Rattle.protocol.specs.Pick.{when◌then◌else◌}
 use Rattle.protocol.specs.declared.common.Config.{Config}
 use Rattle.protocol.specs.declared.error.Answer.{Answer}
 use Rattle.protocol.specs.declared.error.Answer.TheVariants as answer
@@ -150,7 +150,7 @@ module _ (payload : List ℕ) (config : Config) (address : ℕ) (buffer work fla
   ended_at : (p : Phase) (h : Bool) (i : ℕ) (b : Budget) (t : Tally) (g : Gauge) (now work' : List ℕ) → length now ≡ length buffer → length work' ≡ length work
       → (leaves_of (length payload) (in_model (read_world config address (length buffer) (length work) p h i b t g now work' flash))).run.end
       ≡ end_in (read_shows (read_world config address (length buffer) (length work) p h i b t g now work' flash))
-  unfolding leaves_of ended_of end_of phase_of fits_of reading.next_of case◌waiting◌ended◌ bus.fits_of if◌then◌else◌
+  unfolding leaves_of ended_of end_of phase_of fits_of reading.next_of case◌waiting◌ended◌ bus.fits_of when◌then◌else◌
   ended_at phase.Waiting true i b t g now work' fits long =
       rw (shows_head config address (length buffer) (length work) i b t g now work' flash fits long a.room, eq-eqb (length now) (length buffer) fits, eq-eqb (length work') (length work) long)
   ended_at phase.Waiting false i b t g now work' fits long =

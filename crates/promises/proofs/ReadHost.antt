@@ -8,7 +8,7 @@ use native.Mathlib.Omega.{arith}
 use lib.Dec.{eqb}
 use lib.ListN.{length, take}
 use borrow.Author.Tests.{ne_eqb, eqb-true, eqb-false}
-use Rattle.protocol.specs.Pick.{if◌then◌else◌}
+use Rattle.protocol.specs.Pick.{when◌then◌else◌}
 use Rattle.protocol.specs.Bytes.{over}
 use Rattle.protocol.specs.Reply.{bytes_asked, heard_of}
 use Rattle.protocol.specs.declared.common.Config.{Config}
@@ -73,16 +73,16 @@ module _ (config : Config) (address size n : ℕ) (room : 39 ≤ n) where
 
     -- of other lengths
     refuses_lengths : (h : Bool) (o : Outcome) → fits_of (record { length = size; work = n }) lent w ≡ false → Refuses h o
-    unfolding judge_of case◌waiting◌ended◌ if◌then◌else◌
+    unfolding judge_of case◌waiting◌ended◌ when◌then◌else◌
     refuses_lengths h o z = (answer.WrongBuffer, rw z)
 
     -- an acknowledged head with a reply, and a read with another number of bytes than was asked
     refuses_head : fits_of (record { length = size; work = n }) lent w ≡ true → (length bytes ≡ 0 → ⊥) → Refuses true outcome.Acknowledged
-    unfolding judge_of weigh_of acknowledged_of heard_head case◌waiting◌ended◌ case◌acknowledged◌error◌timeout◌ if◌then◌else◌
+    unfolding judge_of weigh_of acknowledged_of heard_head case◌waiting◌ended◌ case◌acknowledged◌error◌timeout◌ when◌then◌else◌
     refuses_head z some = (answer.WrongReply, rw (z, ne_eqb (length bytes) 0 some))
 
     refuses_read : fits_of (record { length = size; work = n }) lent w ≡ true → (length bytes ≡ bytes_asked (block_ask (size - i * 32) config.pec_read) → ⊥) → Refuses false outcome.Acknowledged
-    unfolding judge_of weigh_of acknowledged_of heard_block verdict_of heard_of due_ask ask_of read_dataflash case◌waiting◌ended◌ case◌acknowledged◌error◌timeout◌ if◌then◌else◌
+    unfolding judge_of weigh_of acknowledged_of heard_block verdict_of heard_of due_ask ask_of read_dataflash case◌waiting◌ended◌ case◌acknowledged◌error◌timeout◌ when◌then◌else◌
     refuses_read z other = (answer.WrongReply, rw (z, ne_eqb (bytes_asked (block_ask (size - i * 32) config.pec_read)) (length bytes) (λ e. other (sym e))))
 
     refuses : (h : Bool) (o : Outcome) (g : Gauge) (now work flash : List ℕ) → length now ≡ size → length work ≡ n

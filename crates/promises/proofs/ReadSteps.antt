@@ -10,7 +10,7 @@ use lib.ListN.{length, take, drop, length-take, length-drop}
 use lib.Seq.{take-add, drop-drop, take-nil, length-take-le}
 use borrow.Author.Tests.{eq-eqb, le-leb, lt-ltb}
 use Rattle.smbus_pec.specs.Pec.{pec_of}
-use Rattle.protocol.specs.Pick.{if◌then◌else◌}
+use Rattle.protocol.specs.Pick.{when◌then◌else◌}
 use Rattle.protocol.specs.Bytes.{over, block_in, stored_at, blocks_of}
 use Rattle.protocol.specs.Frame.{sealed, pair_of, mac_bytes, laid_of, work_laid}
 use Rattle.protocol.specs.Reply.{mac_ask, bytes_asked, heard_of, data_of}
@@ -62,17 +62,17 @@ pub wanted_block : (at n i : ℕ) (flash : List ℕ) → block_of 32 i (take n (
 wanted_block at n i flash = rw (drop_take, take_min, drop-drop)
 
 head_short : (pec : Bool) (a : ℕ) → length (sealed pec (mac_bytes (pair_of a) [])) ≤ 5
-unfolding sealed mac_bytes pair_of if◌then◌else◌
+unfolding sealed mac_bytes pair_of when◌then◌else◌
 head_short true a = omega arith
 head_short false a = omega arith
 
 ask_command : (pec : Bool) (left : ℕ) → (block_ask left pec).command ≡ 0x44
-unfolding block_ask mac_ask if◌then◌else◌
+unfolding block_ask mac_ask when◌then◌else◌
 ask_command true left = refl
 ask_command false left = refl
 
 pub ask_small : (pec : Bool) (left : ℕ) → bytes_asked (block_ask left pec) ≤ 36
-unfolding if◌then◌else◌
+unfolding when◌then◌else◌
 ask_small true left = rw count_of (omega arith)
 ask_small false left = rw count_of (omega arith)
 
@@ -104,11 +104,11 @@ module _ (config : Config) (address size n : ℕ) where
     -- ---- the head is due
 
     pub shows_head : next_of (read_at phase.Waiting true i b t) (length buffer) (length work) ≡ transfer.Write (length (head_of i))
-    unfolding next_of case◌waiting◌ended◌ fits_of shown_of shown_head read_dataflash head_bytes laid_of write_of if◌then◌else◌ mac_bytes pair_of
+    unfolding next_of case◌waiting◌ended◌ fits_of shown_of shown_head read_dataflash head_bytes laid_of write_of when◌then◌else◌ mac_bytes pair_of
     shows_head = rw (eq-eqb (length buffer) size fits, eq-eqb (length work) n long, lt-ltb 4 (length work) (omega arith))
 
     pub lays_head : work_after (read_at phase.Waiting true i b t) (length buffer) work ≡ over (head_of i) work
-    unfolding work_after case◌waiting◌ended◌ fits_of work_shown work_head read_dataflash head_bytes work_laid if◌then◌else◌ mac_bytes pair_of
+    unfolding work_after case◌waiting◌ended◌ fits_of work_shown work_head read_dataflash head_bytes work_laid when◌then◌else◌ mac_bytes pair_of
     lays_head = rw (eq-eqb (length buffer) size fits, eq-eqb (length work) n long, lt-ltb 4 (length work) (omega arith))
 
     pub head_long : length (over (head_of i) work) ≡ n
@@ -123,11 +123,11 @@ module _ (config : Config) (address size n : ℕ) where
     -- ---- a read is due
 
     pub shows_read : next_of (read_at phase.Waiting false i b t) (length buffer) (length work) ≡ transfer.Read 0x44 (bytes_asked (block_ask (size - i * 32) config.pec_read))
-    unfolding next_of case◌waiting◌ended◌ fits_of shown_of due_ask ask_of read_dataflash if◌then◌else◌
+    unfolding next_of case◌waiting◌ended◌ fits_of shown_of due_ask ask_of read_dataflash when◌then◌else◌
     shows_read = rw (eq-eqb (length buffer) size fits, eq-eqb (length work) n long, ask_command)
 
     pub lays_none : work_after (read_at phase.Waiting false i b t) (length buffer) work ≡ work
-    unfolding work_after case◌waiting◌ended◌ fits_of work_shown if◌then◌else◌
+    unfolding work_after case◌waiting◌ended◌ fits_of work_shown when◌then◌else◌
     lays_none = rw (eq-eqb (length buffer) size fits, eq-eqb (length work) n long)
 
     -- how many bytes it asks for, and those that the gauge brings
@@ -147,12 +147,12 @@ module _ (config : Config) (address size n : ℕ) where
     -- ---- what the call hears
 
     reported_failed : (c : Cause) (h : Bool) (bytes : List ℕ) → call_r (report_of (read_at phase.Waiting h i b t) (cause_of c) bytes size n) ≡ fail_of (read_at phase.Waiting h i b (tallied t)) (why_of c)
-    unfolding report_of counted_of judge_of weigh_of case◌waiting◌ended◌ case◌acknowledged◌error◌timeout◌ case◌refused◌fault◌headed◌block◌ fits_of if◌then◌else◌
+    unfolding report_of counted_of judge_of weigh_of case◌waiting◌ended◌ case◌acknowledged◌error◌timeout◌ case◌refused◌fault◌headed◌block◌ fits_of when◌then◌else◌
     reported_failed (bus_error code) h bytes = rw (eq-eqb size size refl, eq-eqb n n refl)
     reported_failed timed_out h bytes = rw (eq-eqb size size refl, eq-eqb n n refl)
 
     buffer_failed : (c : Cause) (h : Bool) (bytes : List ℕ) → buffer_after (read_at phase.Waiting h i b t) (cause_of c) bytes buffer n ≡ buffer
-    unfolding buffer_after judge_of weigh_of case◌waiting◌ended◌ case◌acknowledged◌error◌timeout◌ case◌refused◌fault◌headed◌block◌ fits_of if◌then◌else◌
+    unfolding buffer_after judge_of weigh_of case◌waiting◌ended◌ case◌acknowledged◌error◌timeout◌ case◌refused◌fault◌headed◌block◌ fits_of when◌then◌else◌
     buffer_failed (bus_error code) h bytes = rw (eq-eqb (length buffer) size fits, eq-eqb n n refl)
     buffer_failed timed_out h bytes = rw (eq-eqb (length buffer) size fits, eq-eqb n n refl)
 
@@ -179,23 +179,23 @@ module _ (config : Config) (address size n : ℕ) where
         ∙ ap (lending laid') (sym (heard_failed (unheard c) c refl h brought [] laid l g' flash' k))
 
     pub head_heard : call_r (report_of (read_at phase.Waiting true i b t) outcome.Acknowledged [] size n) ≡ read_at (phase_after (blocks_of size) i) false i b (tallied t)
-    unfolding report_of counted_of judge_of weigh_of acknowledged_of heard_head headed_of parts.read_count read_dataflash case◌waiting◌ended◌ case◌acknowledged◌error◌timeout◌ case◌refused◌fault◌headed◌block◌ fits_of if◌then◌else◌
+    unfolding report_of counted_of judge_of weigh_of acknowledged_of heard_head headed_of parts.read_count read_dataflash case◌waiting◌ended◌ case◌acknowledged◌error◌timeout◌ case◌refused◌fault◌headed◌block◌ fits_of when◌then◌else◌
     head_heard = rw (eq-eqb size size refl, eq-eqb n n refl)
 
     pub head_heard_buffer : buffer_after (read_at phase.Waiting true i b t) outcome.Acknowledged [] buffer n ≡ buffer
-    unfolding buffer_after judge_of weigh_of acknowledged_of heard_head case◌waiting◌ended◌ case◌acknowledged◌error◌timeout◌ case◌refused◌fault◌headed◌block◌ fits_of if◌then◌else◌
+    unfolding buffer_after judge_of weigh_of acknowledged_of heard_head case◌waiting◌ended◌ case◌acknowledged◌error◌timeout◌ case◌refused◌fault◌headed◌block◌ fits_of when◌then◌else◌
     head_heard_buffer = rw (eq-eqb (length buffer) size fits, eq-eqb n n refl)
 
     module _ (bytes : List ℕ) (good : heard_of (block_ask (size - i * 32) config.pec_read) bytes ≡ reply.Good) where
       pub received : i < 4294967295 → call_r (report_of (read_at phase.Waiting false i b t) outcome.Acknowledged bytes size n) ≡ read_at (phase_after (blocks_of size) (suc i)) false (suc i) b (tallied t)
-      unfolding report_of counted_of judge_of weigh_of acknowledged_of heard_block verdict_of due_ask ask_of advance_of parts.read_count read_dataflash case◌waiting◌ended◌ case◌acknowledged◌error◌timeout◌ case◌refused◌fault◌headed◌block◌ fits_of if◌then◌else◌
+      unfolding report_of counted_of judge_of weigh_of acknowledged_of heard_block verdict_of due_ask ask_of advance_of parts.read_count read_dataflash case◌waiting◌ended◌ case◌acknowledged◌error◌timeout◌ case◌refused◌fault◌headed◌block◌ fits_of when◌then◌else◌
       received h =
           let more : min (i + 1) 4294967295 ≡ suc i = omega arith in
           rw (eq-eqb size size refl, eq-eqb n n refl, good, more)
 
       pub received_buffer : buffer_after (read_at phase.Waiting false i b t) outcome.Acknowledged bytes buffer n
           ≡ stored_at (i * 32) 32 (data_of (block_ask (size - i * 32) config.pec_read) bytes) buffer
-      unfolding buffer_after judge_of weigh_of acknowledged_of heard_block verdict_of due_ask ask_of stored_of most_of read_dataflash case◌waiting◌ended◌ case◌acknowledged◌error◌timeout◌ case◌refused◌fault◌headed◌block◌ fits_of if◌then◌else◌
+      unfolding buffer_after judge_of weigh_of acknowledged_of heard_block verdict_of due_ask ask_of stored_of most_of read_dataflash case◌waiting◌ended◌ case◌acknowledged◌error◌timeout◌ case◌refused◌fault◌headed◌block◌ fits_of when◌then◌else◌
       received_buffer = rw (eq-eqb (length buffer) size fits, eq-eqb n n refl, good)
 
     -- ---- the reply is damaged
@@ -207,17 +207,17 @@ module _ (config : Config) (address size n : ℕ) where
 
     module _ (bytes : List ℕ) (wrong : heard_of (block_ask (size - i * 32) config.pec_read) bytes ≡ reply.WrongPec) where
       disbelieved : call_r (report_of (read_at phase.Waiting false i b t) outcome.Acknowledged bytes size n) ≡ fail_of (read_at phase.Waiting false i b (tallied t)) answer.Pec
-      unfolding report_of counted_of judge_of weigh_of acknowledged_of heard_block verdict_of due_ask ask_of read_dataflash case◌waiting◌ended◌ case◌acknowledged◌error◌timeout◌ case◌refused◌fault◌headed◌block◌ fits_of if◌then◌else◌
+      unfolding report_of counted_of judge_of weigh_of acknowledged_of heard_block verdict_of due_ask ask_of read_dataflash case◌waiting◌ended◌ case◌acknowledged◌error◌timeout◌ case◌refused◌fault◌headed◌block◌ fits_of when◌then◌else◌
       disbelieved = rw (eq-eqb size size refl, eq-eqb n n refl, wrong)
 
       disbelieved_buffer : buffer_after (read_at phase.Waiting false i b t) outcome.Acknowledged bytes buffer n ≡ buffer
-      unfolding buffer_after judge_of weigh_of acknowledged_of heard_block verdict_of due_ask ask_of read_dataflash case◌waiting◌ended◌ case◌acknowledged◌error◌timeout◌ case◌refused◌fault◌headed◌block◌ fits_of if◌then◌else◌
+      unfolding buffer_after judge_of weigh_of acknowledged_of heard_block verdict_of due_ask ask_of read_dataflash case◌waiting◌ended◌ case◌acknowledged◌error◌timeout◌ case◌refused◌fault◌headed◌block◌ fits_of when◌then◌else◌
       disbelieved_buffer = rw (eq-eqb (length buffer) size fits, eq-eqb n n refl, wrong)
 
     pub made_damaged : config.pec_read ≡ true → (front : List ℕ) (last : ℕ) → length front ≡ 35 → (pec_of 0 (0x16 ∷ 0x44 ∷ 0x17 ∷ front) ≡ last → ⊥)
         → read_over (damaged front last) (read_world phase.Waiting false i b t g buffer work flash)
         ≡ record { call = fail_of (read_at phase.Waiting false i b (tallied t)) answer.Pec; gauge = moved_of g; buffer = buffer; work = work; flash = flash; got = i }
-    unfolding read_over makes heard if◌then◌else◌
+    unfolding read_over makes heard when◌then◌else◌
     made_damaged pec front last full other =
         let wrong : heard_of (block_ask (size - i * 32) config.pec_read) (front ++ (last ∷ [])) ≡ reply.WrongPec = rw pec (reply_damaged (size - i * 32) front last full other) in
         let asks : count_at ≡ 36 = rw pec (count_of true (size - i * 32)) in
@@ -239,7 +239,7 @@ made_over config address size n e beside a h i b t g buffer work flash = refl
 pub block_in_lem : (size i : ℕ) (wanted old buffer bytes : List ℕ) → i * 32 < size → length wanted ≡ size → length old ≡ size
     → buffer ≡ over (take (i * 32) wanted) old → take (min 32 (size - i * 32)) bytes ≡ block_of 32 i wanted
     → stored_at (i * 32) 32 bytes buffer ≡ over (take (suc i * 32) wanted) old
-unfolding stored_at block_in if◌then◌else◌
+unfolding stored_at block_in when◌then◌else◌
 block_in_lem size i wanted old buffer bytes h w o e q =
     let f : length (take (i * 32) wanted) ≡ i * 32 = length-take-le (i * 32) wanted (omega arith) in
     let l : length buffer ≡ size = ap length e ∙ length_over (take (i * 32) wanted) old (omega arith) ∙ o in

@@ -8,7 +8,7 @@ use native.Mathlib.Omega.{arith}
 use lib.Dec.{eqb}
 use lib.ListN.{length}
 use borrow.Author.Tests.{eq-eqb, ne_eqb, eqb-true, eqb-false, le-ltb}
-use Rattle.protocol.specs.Pick.{if◌then◌else◌}
+use Rattle.protocol.specs.Pick.{when◌then◌else◌}
 use Rattle.protocol.specs.Bytes.{over}
 use Rattle.protocol.specs.declared.common.Config.{Config}
 use Rattle.protocol.specs.declared.error.Answer.{Answer}
@@ -55,21 +55,21 @@ module _ (config : Config) (address : ℕ) (buffer work flash : List ℕ) (a : A
 
   -- an accepted read waits with its head due, or is done where nothing is to be read
   pub start_is : (t : Bool) → eqb (length buffer) 0 ≡ t
-      → start ≡ read_world config address (length buffer) (length work) (if t then phase.Ended answer.Done else phase.Waiting) true 0 (read_budget config) nothing gauge buffer work flash
-  unfolding read_began start_of admitted measured windowed read_dataflash has_head first_address if◌then◌else◌
+      → start ≡ read_world config address (length buffer) (length work) (when t then phase.Ended answer.Done else phase.Waiting) true 0 (read_budget config) nothing gauge buffer work flash
+  unfolding read_began start_of admitted measured windowed read_dataflash has_head first_address when◌then◌else◌
   start_is t e = rw (le-ltb (length work) 39 a.room, a.window, e)
 
   -- nothing is to be read: it has ended before its first transfer
   pub read_empty : length buffer ≡ 0 → (es : List Event)
       → read_run es start ≡ read_world config address (length buffer) (length work) (phase.Ended answer.Done) true 0 (read_budget config) nothing gauge buffer work flash
-  unfolding if◌then◌else◌
+  unfolding when◌then◌else◌
   read_empty none es =
       rw (start_is true (eq-eqb (length buffer) 0 none)) (read_ended config address (length buffer) (length work) es answer.Done true 0 _ nothing gauge buffer work flash)
 
   -- something is to be read
   begins : (noisy : Bool) → 0 < length buffer → (low : 0x4000 ≤ address) (high : address + length buffer ≤ 0x6000)
       → Reading noisy config address (length work) buffer flash a.room a.whole low high start
-  unfolding if◌then◌else◌ over
+  unfolding when◌then◌else◌ over
   begins noisy some low high = record {
     at = phase.Waiting;
     head = true;
@@ -137,7 +137,7 @@ module _ (config : Config) (address : ℕ) (buffer work flash : List ℕ) (a : A
 
   -- ALSO WHERE REPLIES ARE DAMAGED
   pub damaged : config.pec_read ≡ true → (cs : List Coming) → Damages cs → ReadPromised true address buffer flash (read_noisily cs start)
-  unfolding if◌then◌else◌
+  unfolding when◌then◌else◌
   damaged pec cs d =
       stops true (read_noisily cs start)
       (λ none. rw (start_is true (eq-eqb (length buffer) 0 none)) (noise_ended config address (length buffer) (length work) cs answer.Done true 0 _ nothing gauge buffer work flash))

@@ -10,7 +10,7 @@ use lib.ListN.{length, take, drop, length-take, length-drop}
 use lib.Seq.{length-take-le}
 use borrow.Author.Tests.{leb-true, leb-false}
 use Rattle.smbus_pec.specs.Pec.{pec_of}
-use Rattle.protocol.specs.Pick.{if◌then◌else◌}
+use Rattle.protocol.specs.Pick.{when◌then◌else◌}
 use Rattle.protocol.specs.Bytes.{over, stored_at, blocks_of}
 use Rattle.protocol.specs.Reply.{data_of}
 use Rattle.protocol.specs.declared.common.Config.{Config}
@@ -81,7 +81,7 @@ module _ (noisy : Bool) (config : Config) (address n : ℕ) (old flash : List �
   reading_failed : (why : Answer) (h : Bool) (i : ℕ) (b : Budget) (t : Tally) (g : Gauge) (buffer work : List ℕ) → length work ≡ n → i * 32 < size → ReadAnswered noisy size i why
       → buffer ≡ over (take (i * 32) wanted) old
       → Reading (record { call = fail_of (read_at config address size n phase.Waiting h i b t) why; gauge = g; buffer = buffer; work = work; flash = flash; got = i })
-  unfolding fail_of failedOf case◌retry◌spent◌ retry_of end_of has_head read_dataflash if◌then◌else◌
+  unfolding fail_of failedOf case◌retry◌spent◌ retry_of end_of has_head read_dataflash when◌then◌else◌
   reading_failed why h i b t g buffer work long l says f = by (eqb b.left 0) refl
     where
       by : (z : Bool) → eqb b.left 0 ≡ z
@@ -107,10 +107,10 @@ module _ (noisy : Bool) (config : Config) (address n : ℕ) (old flash : List �
           })
 
   kept_after : (h : Bool) (i : ℕ) (g : Gauge) → (i * 32 < size → g.pointer ≡ address + i * 32) → Kept (phase_after (blocks_of size) i) h i g
-  unfolding phase_after if◌then◌else◌
+  unfolding phase_after when◌then◌else◌
   kept_after h i g points = by (leb (blocks_of size) i) refl
     where
-      by : (z : Bool) → leb (blocks_of size) i ≡ z → Kept (if z then phase.Ended answer.Done else phase.Waiting) h i g
+      by : (z : Bool) → leb (blocks_of size) i ≡ z → Kept (when z then phase.Ended answer.Done else phase.Waiting) h i g
       by true z = let l : blocks_of size ≤ i = leb-true _ _ z in all_got refl (omega arith)
       by false z =
           let l : i < blocks_of size = leb-false _ _ z in

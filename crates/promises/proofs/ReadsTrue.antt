@@ -10,7 +10,7 @@ use lib.Dec.{eqb, leb}
 use lib.ListN.{length, take, drop, replicate, length-take}
 use lib.Seq.{take_all, take-append_seam, length-take-le, drop_at, drop-length}
 use borrow.Author.Tests.{eqb-true, eqb-false, leb-false, lt-leb}
-use Rattle.protocol.specs.Pick.{if◌then◌else◌}
+use Rattle.protocol.specs.Pick.{when◌then◌else◌}
 use Rattle.protocol.specs.Bytes.{over, blocks_of}
 use Rattle.protocol.specs.Answer.{number_of}
 use Rattle.protocol.specs.declared.common.Config.{Config}
@@ -104,7 +104,7 @@ module _ (config : Config) (address n : ℕ) (old flash : List ℕ) (room : 39 �
   reads_on : (m i : ℕ) (b : Budget) (t : Tally) (g : Gauge) (buffer work : List ℕ) → length work ≡ n → i * 32 < length old → blocks_of (length old) ≤ i + m
       → g.pointer ≡ address + i * 32 → buffer ≡ over (take (i * 32) (flash_bytes address (length old) flash)) old
       → (read_run (replicate m acknowledged) (read_world config address (length old) n phase.Waiting false i b t g buffer work flash)).call.phase ≡ phase.Ended answer.Done
-  unfolding each phase_after if◌then◌else◌
+  unfolding each phase_after when◌then◌else◌
   reads_on zero i b t g buffer work long l k q f = absurd (omega arith)
   reads_on (suc m) i b t g buffer work long l k q f =
       ap (λ (w : ReadWorld). (read_run (replicate m acknowledged) w).call.phase) (step_read_heard false config address n old flash room whole low high i b t g buffer work long l f)
@@ -116,14 +116,14 @@ module _ (config : Config) (address n : ℕ) (old flash : List ℕ) (room : 39 �
 
       by : (z : Bool) → leb (blocks_of (length old)) (suc i) ≡ z
           → (suc i < blocks_of (length old) → (read_run (replicate m acknowledged) (next phase.Waiting)).call.phase ≡ phase.Ended answer.Done)
-          → (read_run (replicate m acknowledged) (next (if z then phase.Ended answer.Done else phase.Waiting))).call.phase ≡ phase.Ended answer.Done
+          → (read_run (replicate m acknowledged) (next (when z then phase.Ended answer.Done else phase.Waiting))).call.phase ≡ phase.Ended answer.Done
       by true z more = ap (λ (w : ReadWorld). w.call.phase) (read_ended config address (length old) n (replicate m acknowledged) answer.Done false (suc i) b (tallied t) _ _ work flash)
       by false z more = more (leb-false _ _ z)
 
   -- the head first
   reads_all : (m : ℕ) (b : Budget) (t : Tally) (g : Gauge) (work : List ℕ) → length work ≡ n → 0 < length old → blocks_of (length old) < m
       → (read_run (replicate m acknowledged) (read_world config address (length old) n phase.Waiting true 0 b t g old work flash)).call.phase ≡ phase.Ended answer.Done
-  unfolding each phase_after if◌then◌else◌ over
+  unfolding each phase_after when◌then◌else◌ over
   reads_all zero b t g work long some k = absurd (omega arith)
   reads_all (suc m) b t g work long some k =
       let more : leb (blocks_of (length old)) 0 ≡ false = lt-leb (blocks_of (length old)) 0 (omega arith) in
@@ -139,7 +139,7 @@ shows_done call n w e = rw e
 module _ (payload : List ℕ) (config : Config) (address : ℕ) (buffer work flash : List ℕ) (a : Accepted address buffer work flash) (gauge : Gauge) where
   -- a read over heard transfers ends well
   heard_ends : (m : ℕ) → blocks_of (length buffer) < m → EndedWell (read_ran config address payload buffer work flash gauge (replicate m 0)).run.end
-  unfolding if◌then◌else◌
+  unfolding when◌then◌else◌
   heard_ends m k =
       let w : ReadWorld = read_ran_in config address buffer work flash gauge (replicate m 0) in
       let shown : read_shows w ≡ transfer.Ended answer.Done =

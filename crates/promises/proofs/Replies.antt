@@ -9,7 +9,7 @@ use lib.ListN.{length, take, drop, get_or, replicate, length-append, length-take
 use lib.Seq.{take_all, take-take, take-append-le, take-append_seam, get_or-append_seam, length-take-le, take_at}
 use borrow.Author.Tests.{eq-eqb, ne_eqb}
 use Rattle.smbus_pec.specs.Pec.{pec_of}
-use Rattle.protocol.specs.Pick.{if◌then◌else◌}
+use Rattle.protocol.specs.Pick.{when◌then◌else◌}
 use Rattle.protocol.specs.Reply.{mac_ask, lead_of, around_of, bytes_asked, checked_of, heard_of, data_of}
 use Rattle.protocol.specs.declared.reply.Heard.TheVariants as heard
 use Rattle.protocol.proofs.Cases.{not_eq}
@@ -40,8 +40,8 @@ module _ (gauge : Gauge) (flash : List ℕ) where
           (sym (eq-eqb _ _ (ap (λ (l : List ℕ). pec_of 0 (0x16 ∷ 0x44 ∷ 0x17 ∷ l)) front ∙ sym last)))
 
 -- the number of bytes that a block's read asks for
-pub count_of : (pec : Bool) (left : ℕ) → bytes_asked (block_ask left pec) ≡ (if pec then 36 else min 32 left + 3)
-unfolding block_ask mac_ask bytes_asked around_of lead_of if◌then◌else◌
+pub count_of : (pec : Bool) (left : ℕ) → bytes_asked (block_ask left pec) ≡ (when pec then 36 else min 32 left + 3)
+unfolding block_ask mac_ask bytes_asked around_of lead_of when◌then◌else◌
 count_of true left = refl
 count_of false left = omega arith
 
@@ -52,7 +52,7 @@ module _ (gauge : Gauge) (flash : List ℕ) (pec : Bool) (left : ℕ) where
 
 -- a reply that the gauge gives is believed
 pub reply_good : (gauge : Gauge) (flash : List ℕ) (pec : Bool) (left : ℕ) → heard_of (block_ask left pec) (cut_reply gauge flash pec left) ≡ heard.Good
-unfolding heard_of block_ask mac_ask bytes_asked around_of lead_of if◌then◌else◌
+unfolding heard_of block_ask mac_ask bytes_asked around_of lead_of when◌then◌else◌
 reply_good gauge flash true left =
     let whole : take 36 (reply_of gauge flash) ≡ reply_of gauge flash = take_all 36 (reply_of gauge flash) (omega (arith, reply_long gauge flash)) in
     rw (whole, eq-eqb 36 (length (reply_of gauge flash)) (sym (reply_long gauge flash)), reply_checked gauge flash)
@@ -63,7 +63,7 @@ reply_good gauge flash false left =
 -- a reply of the number asked whose last byte is not its PEC is not
 pub reply_damaged : (left : ℕ) (front : List ℕ) (last : ℕ) → length front ≡ 35 → (pec_of 0 (0x16 ∷ 0x44 ∷ 0x17 ∷ front) ≡ last → ⊥)
     → heard_of (block_ask left true) (front ++ (last ∷ [])) ≡ heard.WrongPec
-unfolding block_ask mac_ask if◌then◌else◌
+unfolding block_ask mac_ask when◌then◌else◌
 reply_damaged left front last full other =
     let long : length (front ++ (last ∷ [])) ≡ 36 = length-append front (last ∷ []) ∙ rw full refl in
     laws.wrong_pec (block_ask left true) (front ++ (last ∷ [])) (count_of true left ∙ sym long) refl
@@ -83,7 +83,7 @@ brought c d at flash end small few fits =
 -- the part of its data that is handed over is the flash's
 pub reply_data : (gauge : Gauge) (flash : List ℕ) (pec : Bool) (left : ℕ) → offset_of gauge.pointer + min 32 left ≤ length flash
     → take (min 32 left) (data_of (block_ask left pec) (cut_reply gauge flash pec left)) ≡ take (min 32 left) (drop (offset_of gauge.pointer) flash)
-unfolding data_of block_ask mac_ask bytes_asked around_of lead_of if◌then◌else◌
+unfolding data_of block_ask mac_ask bytes_asked around_of lead_of when◌then◌else◌
 reply_data gauge flash true left fits =
     rw (replied.reply gauge flash) (take-take (min 32 left) 32 _ (omega arith) ∙ brought (min 32 left) 33 (offset_of gauge.pointer) flash _ (omega arith) (omega arith) fits)
 reply_data gauge flash false left fits =

@@ -10,7 +10,7 @@ use native.Mathlib.Nat.{add-zero}
 use lib.Dec.{eqb, leb}
 use lib.ListN.{length, drop, length-drop, replicate}
 use borrow.Author.Tests.{eqb-true, eqb-false, leb-false}
-use Rattle.protocol.specs.Pick.{if◌then◌else◌}
+use Rattle.protocol.specs.Pick.{when◌then◌else◌}
 use Rattle.protocol.specs.Bytes.{over, blocks_of}
 use Rattle.protocol.specs.Answer.{number_of}
 use Rattle.protocol.specs.Window.{in_window}
@@ -44,7 +44,7 @@ use Rattle.promises.proofs.Stopped.{began_is, run_ended, run_empty, stopped}
 
 -- the count that is given is of acknowledged bytes
 count_acked : (n i : ℕ) (a : Answer) → Answered 32 n i a → (given_count a ≤ i * 32) × (given_count a ≤ n)
-unfolding if◌then◌else◌
+unfolding when◌then◌else◌
 count_acked n i a (all_acked z h) = rw z (omega arith, omega arith)
 count_acked n i a (some_acked z e p h) = rw (z, e) (omega arith, omega arith)
 count_acked n i a (none_acked (inl z) e) = rw z (omega arith, omega arith)
@@ -147,7 +147,7 @@ module _ (config : Config) (address : ℕ) (payload : List ℕ) (n : ℕ) (room 
   -- each acknowledgement brings the next block, until there is none
   all_heard : (m i : ℕ) (b : Budget) (t : Tally) (work flash : List ℕ) → length work ≡ n → i * 32 < length payload → length payload ≤ (i + m) * 32
       → (run payload (replicate m acknowledged) (world_at config address payload n phase.Waiting i b t work flash)).call.phase ≡ phase.Ended answer.Done
-  unfolding each phase_after if◌then◌else◌
+  unfolding each phase_after when◌then◌else◌
   all_heard zero i b t work flash long h l = absurd (omega arith)
   all_heard (suc m) i b t work flash long h l =
       ap (λ (w : WriteWorld). (run payload (replicate m acknowledged) w).call.phase) (step_acknowledged config address payload n i b t work long room flash (omega arith))
@@ -160,7 +160,7 @@ module _ (config : Config) (address : ℕ) (payload : List ℕ) (n : ℕ) (room 
 
       by : (z : Bool) → leb (blocks_of (length payload)) (suc i) ≡ z
           → (suc i < blocks_of (length payload) → (run payload (replicate m acknowledged) (next phase.Waiting)).call.phase ≡ phase.Ended answer.Done)
-          → (run payload (replicate m acknowledged) (next (if z then phase.Ended answer.Done else phase.Waiting))).call.phase ≡ phase.Ended answer.Done
+          → (run payload (replicate m acknowledged) (next (when z then phase.Ended answer.Done else phase.Waiting))).call.phase ≡ phase.Ended answer.Done
       by true z more =
           ap (λ (w : WriteWorld). w.call.phase) (run_ended config address payload n (replicate m acknowledged) answer.Done (suc i) _ (tallied t) _ _)
       by false z more = more (leb-false _ _ z)
@@ -174,7 +174,7 @@ pub unbroken : (config : Config) (address : ℕ) (payload work flash : List ℕ)
     → (n : ℕ) → length payload ≤ n * 32
     → EndedWell (end_in (shows payload (run payload (replicate n acknowledged) (began config address payload work flash))))
     × ((run payload (replicate n acknowledged) (began config address payload work flash)).flash ≡ clean address payload flash)
-unfolding if◌then◌else◌
+unfolding when◌then◌else◌
 unbroken config address payload work flash a n l =
     let w : WriteWorld = run payload (replicate n acknowledged) (began config address payload work flash) in
     let shown : shows payload w ≡ transfer.Ended answer.Done = shows_done w.call payload (length w.work) (done_at (eqb (length payload) 0) refl) in

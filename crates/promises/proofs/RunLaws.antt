@@ -7,7 +7,7 @@ use mathlib.Core.List.{List, [], ◌∷◌, ◌++◌}
 use lib.ListN.{length, take, drop}
 use lib.Dec.{ltb, eqb}
 use borrow.Author.Tests.{eqb-true, eqb-false}
-use Rattle.protocol.specs.Pick.{if◌then◌else◌}
+use Rattle.protocol.specs.Pick.{when◌then◌else◌}
 use Rattle.protocol.specs.Window.{in_window}
 use Rattle.protocol.specs.declared.error.Answer.{Answer}
 use Rattle.engine.specs.Pick.{case◌waiting◌ended◌}
@@ -63,13 +63,13 @@ flash_kept fate.LostAfter made gauge flash = acts_kept made gauge flash
 -- ---- a byte of a course
 
 first_fate : (byte : ℕ) (f : Fate) → Means byte f → (rest : List ℕ) → fates_of (byte ∷ rest) ≡ f ∷ fates_of rest
-unfolding fates_of fate_of if◌then◌else◌
+unfolding fates_of fate_of when◌then◌else◌
 first_fate byte f heard rest = refl
 first_fate byte f lost_before rest = refl
 first_fate byte f lost_after rest = refl
 
 first_sound : (byte : ℕ) (f : Fate) → Means byte f → (rest : List ℕ) → sound_of rest ≡ true → sound_of (byte ∷ rest) ≡ true
-unfolding sound_of if◌then◌else◌
+unfolding sound_of when◌then◌else◌
 first_sound byte f heard rest sound = sound
 first_sound byte f lost_before rest sound = sound
 first_sound byte f lost_after rest sound = sound
@@ -88,7 +88,7 @@ is_taken_so (reported.Taken call) = refl
 is_cut : (payload buffer work flash : List ℕ) (link : Link) → length flash ≡ 8192 → phase_of link.call ≡ phase.Waiting
     → LentAgain link.call (length payload) (length buffer) (length work)
     → run_of payload [] (world link buffer work flash) ≡ left (record { link = link; end = end.Cut }) buffer work flash
-unfolding leaves_of ended_of drive_of fates_of end_of case◌waiting◌ended◌ if◌then◌else◌
+unfolding leaves_of ended_of drive_of fates_of end_of case◌waiting◌ended◌ when◌then◌else◌
 is_cut payload buffer work flash link whole waits again =
     is_admitted payload (world link buffer work flash) [] whole none_sound ∙ rw (waits, again_fits link.call (length payload) (length buffer) (length work) again)
 
@@ -143,12 +143,12 @@ fates_both [] further = refl
 fates_both (byte ∷ course) further = ap (λ (es : List Fate). fate_of byte ∷ es) (fates_both course further)
 
 pub sound_both : (course further : List ℕ) → sound_of course ≡ true → sound_of further ≡ true → sound_of (course ++ further) ≡ true
-unfolding sound_of if◌then◌else◌
+unfolding sound_of when◌then◌else◌
 sound_both [] further p q = q
 sound_both (byte ∷ course) further p q = by (ltb 2 byte) p (λ r. sound_both course further r q)
   where
-    by : (t : Bool) → (if t then false else sound_of course) ≡ true → (sound_of course ≡ true → sound_of (course ++ further) ≡ true)
-        → (if t then false else sound_of (course ++ further)) ≡ true
+    by : (t : Bool) → (when t then false else sound_of course) ≡ true → (sound_of course ≡ true → sound_of (course ++ further) ≡ true)
+        → (when t then false else sound_of (course ++ further)) ≡ true
     by true p on = p
     by false p on = on p
 

@@ -8,7 +8,7 @@ use mathlib.Core.Logic.{◌⊎◌, inl, inr}
 use native.Mathlib.Omega.{arith}
 use lib.Dec.{eqb}
 use borrow.Author.Tests.{eq-eqb, eqb-true, eqb-false}
-use Rattle.protocol.specs.Pick.{if◌then◌else◌}
+use Rattle.protocol.specs.Pick.{when◌then◌else◌}
 use Rattle.protocol.specs.Answer.{number_of}
 use Rattle.protocol.specs.declared.error.Answer.{Answer}
 use Rattle.protocol.specs.declared.error.Answer.TheVariants as answer
@@ -172,6 +172,6 @@ module _ (f : ℕ) (course : List ℕ) (c : Call) (p n w : ℕ) where
 
 -- a call that is driven with the lengths of its start is cut or gives its own answer
 pub end_own : (own : List ℕ) (p : Phase) → Among own p → GivesOneOf own (end_of p true)
-unfolding end_of case◌waiting◌ended◌ if◌then◌else◌
+unfolding end_of case◌waiting◌ended◌ when◌then◌else◌
 end_own own phase.Waiting among = tt
 end_own own (phase.Ended a) among = among

@@ -9,7 +9,7 @@ use native.Mathlib.Omega.{arith}
 use lib.Dec.{eqb, leb}
 use lib.ListN.{length, drop, length-take, length-drop}
 use borrow.Author.Tests.{eqb-true, eqb-false, leb-true, leb-false, ne_eqb, eq-eqb, le-ltb}
-use Rattle.protocol.specs.Pick.{if◌then◌else◌}
+use Rattle.protocol.specs.Pick.{when◌then◌else◌}
 use Rattle.protocol.specs.Bytes.{over, blocks_of}
 use Rattle.protocol.specs.declared.common.Config.{Config}
 use Rattle.protocol.specs.declared.error.Answer.{Answer}
@@ -47,19 +47,19 @@ ToldAt k n i (phase.Ended a) = Answered k n i a
 
 -- once all blocks of n bytes are acknowledged the call is done, and before that it waits
 told_after : (n i : ℕ) → ToldAt 32 n i (phase_after (blocks_of n) i)
-unfolding phase_after if◌then◌else◌
+unfolding phase_after when◌then◌else◌
 told_after n i = by (leb (blocks_of n) i) refl
   where
-    by : (t : Bool) → leb (blocks_of n) i ≡ t → ToldAt 32 n i (if t then phase.Ended answer.Done else phase.Waiting)
+    by : (t : Bool) → leb (blocks_of n) i ≡ t → ToldAt 32 n i (when t then phase.Ended answer.Done else phase.Waiting)
     by true t = let h : blocks_of n ≤ i = leb-true _ _ t in all_acked refl (omega arith)
     by false t = let h : i < blocks_of n = leb-false _ _ t in omega arith
 
 -- a call that gives up says how much was acknowledged
-told_gave_up : (n i : ℕ) (c : Cause) → i * 32 < n → Answered 32 n i (if eqb i 0 then why_of c else answer.PartialDataFlashWrite (i * 32))
-unfolding if◌then◌else◌
+told_gave_up : (n i : ℕ) (c : Cause) → i * 32 < n → Answered 32 n i (when eqb i 0 then why_of c else answer.PartialDataFlashWrite (i * 32))
+unfolding when◌then◌else◌
 told_gave_up n i c h = by c (eqb i 0) refl
   where
-    by : (c : Cause) (t : Bool) → eqb i 0 ≡ t → Answered 32 n i (if t then why_of c else answer.PartialDataFlashWrite (i * 32))
+    by : (c : Cause) (t : Bool) → eqb i 0 ≡ t → Answered 32 n i (when t then why_of c else answer.PartialDataFlashWrite (i * 32))
     by c true t = none_acked (why_number c) (eqb-true i 0 t)
     by c false t = let some : i ≡ 0 → ⊥ = eqb-false i 0 t in some_acked refl refl (omega arith) h
 
@@ -101,11 +101,11 @@ module _ (config : Config) (address : ℕ) (payload old : List ℕ) (n : ℕ) (r
   going_failed : (c : Cause) (i : ℕ) (b : Budget) (t : Tally) (work flash : List ℕ) → length work ≡ n → i * 32 < length payload
       → Overlaid 32 (place_of address) payload old i flash
       → Going (record { call = fail_of (call_at config address payload n phase.Waiting i b t) (why_of c); work = work; flash = flash; acked = i })
-  unfolding fail_of failedOf case◌retry◌spent◌ retry_of end_of gave_up is_flash plan_of write_dataflash if◌then◌else◌
+  unfolding fail_of failedOf case◌retry◌spent◌ retry_of end_of gave_up is_flash plan_of write_dataflash when◌then◌else◌
   going_failed c i b t work flash long h v = by (eqb b.left 0) refl
     where
       by : (z : Bool) → eqb b.left 0 ≡ z → Going (record { call = fail_of (call_at config address payload n phase.Waiting i b t) (why_of c); work = work; flash = flash; acked = i })
-      by true z = rw z (record { at = phase.Ended (if eqb i 0 then why_of c else answer.PartialDataFlashWrite (i * 32)); i = i; b = b; t = t; work = work; flash = flash; is = refl; long = long; holds = v; told = told_gave_up (length payload) i c h })
+      by true z = rw z (record { at = phase.Ended (when eqb i 0 then why_of c else answer.PartialDataFlashWrite (i * 32)); i = i; b = b; t = t; work = work; flash = flash; is = refl; long = long; holds = v; told = told_gave_up (length payload) i c h })
       by false z = rw z (record { at = phase.Waiting; i = i; b = record { left = b.left - 1 }; t = missed config.growing_waits config.max_write_retries b.left t; work = work; flash = flash; is = refl; long = long; holds = v; told = h })
 
   going_at : (e : Event) (at : Phase) (i : ℕ) (b : Budget) (t : Tally) (work flash : List ℕ) → length work ≡ n
@@ -158,8 +158,8 @@ module _ (config : Config) (address : ℕ) (payload old : List ℕ) (n : ℕ) (r
 -- an accepted write waits with its first block due, or is done where there is none
 pub began_is : (config : Config) (address : ℕ) (payload work flash : List ℕ) → Accepted address payload work flash → (t : Bool) → eqb (length payload) 0 ≡ t
     → began config address payload work flash
-    ≡ world_at config address payload (length work) (if t then phase.Ended answer.Done else phase.Waiting) 0 (block_budget config) nothing work flash
-unfolding began start_of admitted measured windowed plan_of write_dataflash first_address if◌then◌else◌
+    ≡ world_at config address payload (length work) (when t then phase.Ended answer.Done else phase.Waiting) 0 (block_budget config) nothing work flash
+unfolding began start_of admitted measured windowed plan_of write_dataflash first_address when◌then◌else◌
 began_is config address payload work flash a t e = rw (le-ltb (length work) 39 a.room, a.window, e)
 
 -- what nothing in a list changes stays as it is over all of it
@@ -178,7 +178,7 @@ run_ended config address payload n es a i b t work flash =
 pub run_empty : (config : Config) (address : ℕ) (payload work flash : List ℕ) → Accepted address payload work flash → length payload ≡ 0 → (es : List Event)
     → run payload es (began config address payload work flash)
     ≡ world_at config address payload (length work) (phase.Ended answer.Done) 0 (block_budget config) nothing work flash
-unfolding if◌then◌else◌
+unfolding when◌then◌else◌
 run_empty config address payload work flash a none es =
     rw (began_is config address payload work flash a true (eq-eqb (length payload) 0 none)) (run_ended config address payload (length work) es answer.Done 0 _ _ work flash)
 
@@ -195,7 +195,7 @@ module _ (config : Config) (address : ℕ) (payload work flash : List ℕ) (a : 
   -- a write that is not empty keeps what every event keeps
   pub going : (low : 0x4000 ≤ address) (high : address + length payload ≤ 0x6000) (es : List Event)
       → Going config address payload flash (length work) a.room a.whole low high (run payload es (began config address payload work flash))
-  unfolding if◌then◌else◌
+  unfolding when◌then◌else◌
   going low high es =
       let t : eqb (length payload) 0 ≡ false = ne_eqb (length payload) 0 (λ e. omega arith) in
       let whole : length flash ≡ 8192 = a.whole in

@@ -7,7 +7,7 @@ use mathlib.Core.List.{List}
 use lib.ListN.{length}
 use lib.Dec.{eqb}
 use borrow.Author.Tests.{eq-eqb}
-use Rattle.protocol.specs.Pick.{if◌then◌else◌}
+use Rattle.protocol.specs.Pick.{when◌then◌else◌}
 use Rattle.protocol.specs.Reply as reply
 use Rattle.protocol.specs.declared.error.Answer.TheVariants as answer
 use Rattle.engine.specs.Pick.{case◌waiting◌ended◌, case◌acknowledged◌error◌timeout◌}
@@ -48,7 +48,7 @@ shown_w c payload work t e =
 
 taken_w : (c : WriteCall) (o : Outcome) (r n w : ℕ) → c.phase ≡ phase.Waiting → Same c.task.lent n w → (o ≡ outcome.Acknowledged → r ≡ 0)
     → writing.report_of c o r n w ≡ wrote.Taken (writing.settle_of (writing.counted_of c) o)
-unfolding writing.report_of writing.replied_of case◌waiting◌ended◌ case◌acknowledged◌error◌timeout◌ if◌then◌else◌
+unfolding writing.report_of writing.replied_of case◌waiting◌ended◌ case◌acknowledged◌error◌timeout◌ when◌then◌else◌
 taken_w c outcome.Acknowledged r n w p s h = rw (p, same_fits c.task.lent n w s, eq-eqb r 0 (h refl))
 taken_w c (outcome.BusError code) r n w p s h = rw (p, same_fits c.task.lent n w s)
 taken_w c outcome.Timeout r n w p s h = rw (p, same_fits c.task.lent n w s)
@@ -64,11 +64,11 @@ shown_r c n work t e =
 
 module _ (c : ReadCall) (n w : ℕ) (p : c.phase ≡ phase.Waiting) (s : Same c.task.lent n w) where
   fine : (bytes : List ℕ) → length bytes ≡ asked c → (next : ReadCall) × (reading.report_of c outcome.Acknowledged bytes n w ≡ got.Taken next)
-  unfolding reading.report_of reading.judge_of reading.weigh_of reading.acknowledged_of reading.heard_head reading.heard_block reading.verdict_of reply.heard_of asked case◌waiting◌ended◌ case◌acknowledged◌error◌timeout◌ case◌refused◌fault◌headed◌block◌ if◌then◌else◌
+  unfolding reading.report_of reading.judge_of reading.weigh_of reading.acknowledged_of reading.heard_head reading.heard_block reading.verdict_of reply.heard_of asked case◌waiting◌ended◌ case◌acknowledged◌error◌timeout◌ case◌refused◌fault◌headed◌block◌ when◌then◌else◌
   fine bytes long = by c.heading refl (reading.due_ask c).pec refl (reply.checked_of (reading.due_ask c).covered bytes) refl
     where
       asks : Bool → ℕ
-      asks heading = if heading then 0 else reply.bytes_asked (reading.due_ask c)
+      asks heading = when heading then 0 else reply.bytes_asked (reading.due_ask c)
 
       by : (h : Bool) → c.heading ≡ h → (k : Bool) → (reading.due_ask c).pec ≡ k → (g : Bool) → reply.checked_of (reading.due_ask c).covered bytes ≡ g
           → (next : ReadCall) × (reading.report_of c outcome.Acknowledged bytes n w ≡ got.Taken next)
@@ -86,7 +86,7 @@ module _ (c : ReadCall) (n w : ℕ) (p : c.phase ≡ phase.Waiting) (s : Same c.
           (reading.fail_of (reading.counted_of c) answer.Pec, rw (all, x, y, same_fits c.task.lent n w s, h, p))
 
   taken_r : (o : Outcome) (bytes : List ℕ) → (o ≡ outcome.Acknowledged → length bytes ≡ asked c) → (next : ReadCall) × (reading.report_of c o bytes n w ≡ got.Taken next)
-  unfolding reading.report_of reading.judge_of reading.weigh_of case◌waiting◌ended◌ case◌acknowledged◌error◌timeout◌ case◌refused◌fault◌headed◌block◌ if◌then◌else◌
+  unfolding reading.report_of reading.judge_of reading.weigh_of case◌waiting◌ended◌ case◌acknowledged◌error◌timeout◌ case◌refused◌fault◌headed◌block◌ when◌then◌else◌
   taken_r outcome.Acknowledged bytes long = fine bytes (long refl)
   taken_r (outcome.BusError code) bytes long = (reading.fail_of (reading.counted_of c) (answer.I2c code), rw (p, same_fits c.task.lent n w s))
   taken_r outcome.Timeout bytes long = (reading.fail_of (reading.counted_of c) answer.Timeout, rw (p, same_fits c.task.lent n w s))
@@ -104,7 +104,7 @@ shows_waits (call.Read c) payload buffer work made (shows_read command count sho
 -- and takes what becomes of it
 pub takes : (c : Call) (payload buffer work : List ℕ) (made : Made) → Shows c payload buffer work made → (o : Outcome) (bytes : List ℕ) → (o ≡ outcome.Acknowledged → length bytes ≡ brings made)
     → (next : Call) × (report_of c o bytes (length payload) (length buffer) (length (work_after c payload (length buffer) work)) ≡ reported.Taken next)
-unfolding next_of work_after report_of wrote_of got_of brings asked if◌then◌else◌
+unfolding next_of work_after report_of wrote_of got_of brings asked when◌then◌else◌
 takes (call.Write c) payload buffer work made (shows_write n shows) o bytes long =
     let s = shown_w c payload work (transfer.Write n) shows in
     (call.Write (writing.settle_of (writing.counted_of c) o), rw (taken_w c o (length bytes) (length payload) (length (writing.work_after c payload work)) s.0 s.1 long))

@@ -7,7 +7,7 @@
 -- Assumes nothing.
 use Rattle.std.specs.Prelude.{ℕ, ◌+◌, ◌*◌, ◌≤◌, ◌<◌, ◌≡◌, true, ◌⊎◌, List, length, drop, replicate, eqb}
 use Rattle.protocol.specs.Common.{TwoByteBudgets}
-use Rattle.protocol.specs.Pick.{if◌then◌else◌}
+use Rattle.protocol.specs.Pick.{when◌then◌else◌}
 use Rattle.protocol.specs.Answer.{number_of, detail_of}
 use Rattle.protocol.specs.Window.{in_window}
 use Rattle.protocol.specs.declared.common.Side.TheVariants as side
@@ -72,7 +72,7 @@ EndedWell (end.Answered a) = number_of a ≡ 0
 
 -- the count that an answer gives; none given means zero
 abbrev pub given_count : Answer → ℕ
-given_count a = if eqb (number_of a) 6 then detail_of a else 0
+given_count a = when eqb (number_of a) 6 then detail_of a else 0
 
 -- goes one after the other, from a flash to what the last one leaves, which ended well; `Go address payload flash e now` says of one go how it stopped
 -- and what flash it left. After an error the next go sends only the bytes past the count, to the address that many further on; after a stop in the

@@ -2,7 +2,7 @@
 -- Assumes nothing.
 use Rattle.std.specs.Prelude.{ℕ, suc, ◌+◌, ◌*◌, ◌-◌, ◌/◌, ◌%◌, ◌≤◌, ◌<◌, min, ◌≡◌, Bool, ◌⊎◌, List, [], ◌∷◌, ◌++◌, length, take, drop, get_or}
 use Rattle.smbus_pec.specs.Pec.{pec_of}
-use Rattle.protocol.specs.Pick.{if◌then◌else◌}
+use Rattle.protocol.specs.Pick.{when◌then◌else◌}
 
 -- where an address lies in the flash: the byte of 4000 hex is first. The demand has a place of its own and does not borrow the model's (`offset_of`)
 abbrev pub place_of : ℕ → ℕ
@@ -26,7 +26,7 @@ block_frame pec address i payload =
     let block : List ℕ = block_of 32 i payload in
     let at : ℕ = address + i * 32 in
     let frame : List ℕ = 0x44 ∷ (length block + 2) ∷ at % 256 ∷ at / 256 % 256 ∷ block in
-    if pec then frame ++ (pec_of 0 (0x16 ∷ frame) ∷ []) else frame
+    when pec then frame ++ (pec_of 0 (0x16 ∷ frame) ∷ []) else frame
 
 -- the flash with the first i blocks of a payload over it, or all of them where there are fewer
 abbrev pub upto : ℕ → ℕ → List ℕ → List ℕ → ℕ → List ℕ

@@ -1,7 +1,7 @@
 -- Demand 3 is about something: worked runs of a write of 33 bytes, without retries, that reach each answer such a call can give.
 -- Assumes nothing.
 use Rattle.std.specs.Prelude.{◌≡◌, refl, true, false, List, [], ◌∷◌, replicate}
-use Rattle.protocol.specs.Pick.{if◌then◌else◌}
+use Rattle.protocol.specs.Pick.{when◌then◌else◌}
 use Rattle.protocol.specs.Bytes.{over}
 use Rattle.protocol.specs.Frame.{sealed, pair_of, mac_bytes, laid_of, work_laid}
 use Rattle.protocol.specs.Window.{in_window}
@@ -33,5 +33,5 @@ pub worked_runs :
     × (worked (failed (bus_error 5) ∷ []) ≡ transfer.Ended (answer.I2c 5))
     × (worked (unheard timed_out ∷ (acknowledged) ∷ []) ≡ transfer.Ended answer.Timeout)
     × (worked ((acknowledged) ∷ unheard timed_out ∷ []) ≡ transfer.Ended (answer.PartialDataFlashWrite 32))
-unfolding began start_of first_address admitted measured windowed in_window plan_of write_dataflash each transfer_made sent next_of work_after shown_of work_shown due_bytes bytes_at block_bytes mac_bytes pair_of laid_of work_laid write_of sealed over own_bytes is_plain is_flash frame_count fits_of part_of report_of counted_of tallied replied_of settle_of advance_of fail_of failedOf retry_of end_of gave_up phase_after case◌waiting◌ended◌ case◌acknowledged◌error◌timeout◌ case◌retry◌spent◌ makes if◌then◌else◌ nothing
+unfolding began start_of first_address admitted measured windowed in_window plan_of write_dataflash each transfer_made sent next_of work_after shown_of work_shown due_bytes bytes_at block_bytes mac_bytes pair_of laid_of work_laid write_of sealed over own_bytes is_plain is_flash frame_count fits_of part_of report_of counted_of tallied replied_of settle_of advance_of fail_of failedOf retry_of end_of gave_up phase_after case◌waiting◌ended◌ case◌acknowledged◌error◌timeout◌ case◌retry◌spent◌ makes when◌then◌else◌ nothing
 worked_runs = (refl, refl, refl, refl, refl, refl)

@@ -2,7 +2,7 @@
 -- Assumes nothing.
 use Rattle.std.specs.Prelude.{◌≡◌, refl, Bool, true, false, List, [], ◌∷◌, ◌++◌, replicate}
 use Rattle.smbus_pec.specs.Pec.{bit_step, bit_steps, byte_step, pec_of}
-use Rattle.protocol.specs.Pick.{if◌then◌else◌}
+use Rattle.protocol.specs.Pick.{when◌then◌else◌}
 use Rattle.protocol.specs.Bytes.{over, block_in, stored_at}
 use Rattle.protocol.specs.Frame.{sealed, pair_of, mac_bytes, laid_of, work_laid}
 use Rattle.protocol.specs.Reply.{mac_ask, lead_of, around_of, bytes_asked, checked_of, heard_of, data_of}
@@ -59,5 +59,5 @@ pub worked_reads :
     × ((worked_noise (comes (acknowledged) ∷ damaged (replicate 35 0) 0 ∷ comes (acknowledged) ∷ damaged (replicate 35 0) 0 ∷ [])).buffer ≡ replicate 33 0xA5)
     × (read_shows (worked_noise damaged_later) ≡ transfer.Ended answer.Done)
     × ((worked_noise damaged_later).buffer ≡ replicate 32 1 ++ (2 ∷ []))
-unfolding bit_step bit_steps byte_step pec_of read_over checked_of read_began start_of first_address admitted measured windowed in_window read_dataflash has_head each read_made head_sent asked heard next_of work_after shown_of work_shown shown_head work_head head_bytes mac_bytes pair_of laid_of work_laid write_of sealed over fits_of due_ask ask_of block_ask mac_ask bytes_asked around_of lead_of heard_of data_of report_of counted_of buffer_after judge_of weigh_of acknowledged_of heard_head heard_block verdict_of headed_of advance_of stored_of stored_at block_in most_of parts.read_count fail_of failedOf retry_of end_of phase_after waited tallied nothing new_gauge stored acts heard_frame heard_read read_frame form_of whole_of replies_to moved_of reply_of reply_front block_at case◌waiting◌ended◌ case◌acknowledged◌error◌timeout◌ case◌retry◌spent◌ case◌refused◌fault◌headed◌block◌ makes if◌then◌else◌
+unfolding bit_step bit_steps byte_step pec_of read_over checked_of read_began start_of first_address admitted measured windowed in_window read_dataflash has_head each read_made head_sent asked heard next_of work_after shown_of work_shown shown_head work_head head_bytes mac_bytes pair_of laid_of work_laid write_of sealed over fits_of due_ask ask_of block_ask mac_ask bytes_asked around_of lead_of heard_of data_of report_of counted_of buffer_after judge_of weigh_of acknowledged_of heard_head heard_block verdict_of headed_of advance_of stored_of stored_at block_in most_of parts.read_count fail_of failedOf retry_of end_of phase_after waited tallied nothing new_gauge stored acts heard_frame heard_read read_frame form_of whole_of replies_to moved_of reply_of reply_front block_at case◌waiting◌ended◌ case◌acknowledged◌error◌timeout◌ case◌retry◌spent◌ case◌refused◌fault◌headed◌block◌ makes when◌then◌else◌
 worked_reads = (refl, refl, refl, refl, refl, refl, refl, refl, refl, refl, refl, refl, refl, refl)

@@ -12,7 +12,7 @@ use lib.Seq.{length-take-le, set_split, append_snoc, take-append_seam, drop-appe
 use lib.Dec.{ltb}
 use borrow.Author.Tests.{ltb-true}
 use Rattle.smbus_pec.specs.Pec.{bit_step, bit_steps, byte_step, pec_of}
-use Rattle.protocol.specs.Pick.{if◌then◌else◌}
+use Rattle.protocol.specs.Pick.{when◌then◌else◌}
 use Rattle.protocol.specs.Bytes.{over}
 use Rattle.protocol.specs.Frame.{sealed, work_laid}
 use Rattle.protocol.specs.Reply.{lead_of}
@@ -87,7 +87,7 @@ copy_turn src dst i h k = rw add-one (go src dst i h k)
 
 -- the PEC comes after what it seals
 pub sealed_longer : (pec : Bool) (f : List ℕ) → length f ≤ length (sealed pec f)
-unfolding sealed if◌then◌else◌
+unfolding sealed when◌then◌else◌
 sealed_longer true f = simp length-append (omega arith)
 sealed_longer false f = omega arith
 
@@ -102,7 +102,7 @@ pec_of_write f = refl
 
 pub sealed_on : (w : List ℕ) (n b : ℕ) (pec : Bool) → n < length w → pec ≡ true → b ≡ pec_of 0x62 (take n w)
     → (n + 1 ≡ length (sealed pec (take n w))) × (set w n b ≡ over (sealed pec (take n w)) w)
-unfolding sealed if◌then◌else◌
+unfolding sealed when◌then◌else◌
 sealed_on w n b pec h e q =
     let le : n ≤ length w = le_of_lt h in
     let q' : b ≡ pec_of 0 (0x16 ∷ take n w) = q ∙ pec_of_write (take n w) in
@@ -110,7 +110,7 @@ sealed_on w n b pec h e q =
 
 pub sealed_off : (w : List ℕ) (n : ℕ) (pec : Bool) → n < length w → pec ≡ false
     → (n ≡ length (sealed pec (take n w))) × (w ≡ over (sealed pec (take n w)) w)
-unfolding sealed if◌then◌else◌
+unfolding sealed when◌then◌else◌
 sealed_off w n pec h e =
     let le : n ≤ length w = le_of_lt h in
     rw e (sym (length-take-le n w le), sym (over_same n w le))
@@ -133,24 +133,24 @@ built pec lead pair body w w1 w2 w3 w4 n1 n2 n3 r p1 p2 p3 p4 =
 
 -- a PEC is one byte
 pub length_sealed : (pec : Bool) (f : List ℕ) → length (sealed pec f) ≤ length f + 1
-unfolding sealed if◌then◌else◌
+unfolding sealed when◌then◌else◌
 length_sealed true f = rw length-append (omega arith)
 length_sealed false f = omega arith
 
 -- a frame that is laid keeps the work buffer's length
 pub length_laid : (pec : Bool) (f work : List ℕ) → length (work_laid pec f work) ≡ length work
-unfolding work_laid if◌then◌else◌
+unfolding work_laid when◌then◌else◌
 length_laid pec f work = by (ltb (length f) (length work)) refl
   where
-    by : (t : Bool) → ltb (length f) (length work) ≡ t → length (if t then over (sealed pec f) work else work) ≡ length work
+    by : (t : Bool) → ltb (length f) (length work) ≡ t → length (when t then over (sealed pec f) work else work) ≡ length work
     by true e = length_over (sealed pec f) work (omega (arith, ltb-true (length f) (length work) e, length_sealed pec f))
     by false e = refl
 
 -- at most three bytes stand before the data of a reply
 pub lead_small : (ask : Ask) → lead_of ask ≤ 3
-unfolding lead_of if◌then◌else◌
+unfolding lead_of when◌then◌else◌
 lead_small ask = by ask.prefixed
   where
-    by : (t : Bool) → (if t then 3 else 0) ≤ 3
+    by : (t : Bool) → (when t then 3 else 0) ≤ 3
     by true = omega arith
     by false = omega arith

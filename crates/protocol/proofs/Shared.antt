@@ -8,7 +8,7 @@ use native.Mathlib.Omega.{arith}
 use lib.ListN.{length, take, drop}
 use lib.Seq.{length-take-le}
 use borrow.Author.Tests.{lt-ltb, le-ltb, le-leb, lt-leb, eq-eqb, ne_eqb}
-use Rattle.protocol.specs.Pick.{if◌then◌else◌}
+use Rattle.protocol.specs.Pick.{when◌then◌else◌}
 use Rattle.protocol.specs.Common.{retries_on, TwoByteBudgets}
 use Rattle.protocol.specs.Bytes.{over, block_in, stored_at, send_of}
 use Rattle.protocol.specs.Frame.{sealed, laid_of, work_laid}
@@ -30,36 +30,36 @@ copies most k block buffer e =
     rw (← e) (ap (λ (n : ℕ). take k block ++ drop n buffer) size)
 
 stores : (at most : ℕ) (block buffer : List ℕ) → at ≤ length buffer → stored_at at most block buffer ≡ take at buffer ++ block_in most block (drop at buffer)
-unfolding stored_at if◌then◌else◌
+unfolding stored_at when◌then◌else◌
 stores at most block buffer h = rw (le-leb at (length buffer) h)
 
 stores_none : (at most : ℕ) (block buffer : List ℕ) → length buffer < at → stored_at at most block buffer ≡ buffer
-unfolding stored_at if◌then◌else◌
+unfolding stored_at when◌then◌else◌
 stores_none at most block buffer h = rw (lt-leb at (length buffer) h)
 
 sends : (payload work : List ℕ) (n : ℕ) → (send_of payload work true n ≡ take n work) × (send_of payload work false n ≡ take n payload)
-unfolding send_of if◌then◌else◌
+unfolding send_of when◌then◌else◌
 sends payload work n = (refl, refl)
 
 lays : (pec : Bool) (frame work : List ℕ) → length frame < length work
     → (laid_of pec frame (length work) ≡ Frame (length (sealed pec frame))) × (work_laid pec frame work ≡ sealed pec frame ++ drop (length (sealed pec frame)) work)
-unfolding laid_of work_laid over if◌then◌else◌
+unfolding laid_of work_laid over when◌then◌else◌
 lays pec frame work h = (rw (lt-ltb (length frame) (length work) h), rw (lt-ltb (length frame) (length work) h))
 
 no_room : (pec : Bool) (frame work : List ℕ) → length work ≤ length frame → (laid_of pec frame (length work) ≡ NoRoom) × (work_laid pec frame work ≡ work)
-unfolding laid_of work_laid if◌then◌else◌
+unfolding laid_of work_laid when◌then◌else◌
 no_room pec frame work h = (rw (le-ltb (length frame) (length work) h), rw (le-ltb (length frame) (length work) h))
 
 wrong_length : (ask : Ask) (reply : List ℕ) → (bytes_asked ask ≡ length reply → ⊥) → heard_of ask reply ≡ WrongLength
-unfolding heard_of if◌then◌else◌
+unfolding heard_of when◌then◌else◌
 wrong_length ask reply h = rw (ne_eqb (bytes_asked ask) (length reply) h)
 
 wrong_pec : (ask : Ask) (reply : List ℕ) → bytes_asked ask ≡ length reply → ask.pec ≡ true → checked_of ask.covered reply ≡ false → heard_of ask reply ≡ WrongPec
-unfolding heard_of if◌then◌else◌
+unfolding heard_of when◌then◌else◌
 wrong_pec ask reply h p c = rw (eq-eqb (bytes_asked ask) (length reply) h, p, c)
 
 good : (ask : Ask) (reply : List ℕ) → bytes_asked ask ≡ length reply → (ask.pec ≡ true → checked_of ask.covered reply ≡ true) → heard_of ask reply ≡ Good
-unfolding heard_of if◌then◌else◌
+unfolding heard_of when◌then◌else◌
 good ask reply h c = by ask.pec refl
   where
     by : (t : Bool) → ask.pec ≡ t → heard_of ask reply ≡ Good
@@ -72,7 +72,7 @@ few_on config small side.Write = small.0
 few_on config small side.Read = small.1
 
 pub laws : Laws
-unfolding sealed if◌then◌else◌
+unfolding sealed when◌then◌else◌
 laws = record {
   window_end_lem = (refl, refl);
   window_by_last = by_last;

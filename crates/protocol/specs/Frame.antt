@@ -2,7 +2,7 @@
 -- Assumes nothing.
 use Rattle.std.specs.Prelude.{ℕ, ◌+◌, ◌/◌, ◌%◌, Bool, List, [], ◌∷◌, ◌++◌, length, ltb}
 use Rattle.smbus_pec.specs.Pec.{pec_of}
-use Rattle.protocol.specs.Pick.{if◌then◌else◌}
+use Rattle.protocol.specs.Pick.{when◌then◌else◌}
 use Rattle.protocol.specs.Bytes.{over}
 use Rattle.protocol.specs.declared.frame.MacCommand.{MacCommand}
 use Rattle.protocol.specs.declared.frame.MacCommand.TheVariants.{SecurityKeys, AuthenticationKey, ChargingVoltageOverride, MfgInfoC}
@@ -11,7 +11,7 @@ use Rattle.protocol.specs.declared.frame.Laid.TheVariants.{Frame, NoRoom}
 
 -- the PEC of a write covers 16 hex and the frame
 unfoldable pub sealed : Bool → List ℕ → List ℕ
-sealed pec f = if pec then f ++ (pec_of 0 (0x16 ∷ f) ∷ []) else f
+sealed pec f = when pec then f ++ (pec_of 0 (0x16 ∷ f) ∷ []) else f
 
 -- a number's two bytes, low byte first
 unfoldable pub pair_of : ℕ → List ℕ
@@ -42,7 +42,7 @@ info_bytes bytes = 0x70 ∷ length bytes % 256 ∷ bytes
 
 -- a work buffer of w bytes takes a frame where the frame and a PEC have room
 unfoldable pub laid_of : Bool → List ℕ → ℕ → Laid
-laid_of pec f w = if ltb (length f) w then Frame (length (sealed pec f)) else NoRoom
+laid_of pec f w = when ltb (length f) w then Frame (length (sealed pec f)) else NoRoom
 
 unfoldable pub work_laid : Bool → List ℕ → List ℕ → List ℕ
-work_laid pec f work = if ltb (length f) (length work) then over (sealed pec f) work else work
+work_laid pec f work = when ltb (length f) (length work) then over (sealed pec f) work else work

@@ -2,7 +2,7 @@
 -- Assumes nothing.
 use Rattle.std.specs.Prelude.{ℕ, ◌+◌, ◌-◌, min, Bool, true, false, List, ◌∷◌, length, take, drop, get_or, eqb}
 use Rattle.smbus_pec.specs.Pec.{pec_of}
-use Rattle.protocol.specs.Pick.{if◌then◌else◌}
+use Rattle.protocol.specs.Pick.{when◌then◌else◌}
 use Rattle.protocol.specs.declared.reply.Ask.{Ask}
 use Rattle.protocol.specs.declared.reply.Heard.{Heard}
 use Rattle.protocol.specs.declared.reply.Heard.TheVariants.{WrongLength, WrongPec, Good}
@@ -17,11 +17,11 @@ mac_ask command wanted pec = record { command = command; covered = 0x44; prefixe
 
 -- the bytes before the data
 unfoldable pub lead_of : Ask → ℕ
-lead_of ask = if ask.prefixed then 3 else 0
+lead_of ask = when ask.prefixed then 3 else 0
 
 -- the bytes before the data, and the PEC after it
 unfoldable pub around_of : Ask → ℕ
-around_of ask = if ask.pec then lead_of ask + 1 else lead_of ask
+around_of ask = when ask.pec then lead_of ask + 1 else lead_of ask
 
 -- the number asked; it stays at the largest number, which no reply's length reaches
 unfoldable pub bytes_asked : Ask → ℕ
@@ -30,14 +30,14 @@ bytes_asked ask = min (ask.wanted + around_of ask) 18446744073709551615
 -- the PEC of a read covers 16, the command, 17 and the reply before it
 unfoldable pub checked_of : ℕ → List ℕ → Bool
 checked_of covered reply =
-    if eqb (length reply) 0 then false
+    when eqb (length reply) 0 then false
     else eqb (pec_of 0 (0x16 ∷ covered ∷ 0x17 ∷ take (length reply - 1) reply)) (get_or reply (length reply - 1) 0)
 
 -- a reply is of the number asked, and then believed where its PEC agrees or none was asked
 unfoldable pub heard_of : Ask → List ℕ → Heard
 heard_of ask reply =
-    if eqb (bytes_asked ask) (length reply) then
-    (if ask.pec then (if checked_of ask.covered reply then Good else WrongPec) else Good)
+    when eqb (bytes_asked ask) (length reply) then
+    (when ask.pec then (when checked_of ask.covered reply then Good else WrongPec) else Good)
     else WrongLength
 
 -- the data of a reply

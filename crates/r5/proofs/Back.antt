@@ -10,13 +10,13 @@ use lib.IntN.{ℤ, pos, negsuc}
 use lib.ListN.{length, get_or, drop, drop_of_length-le}
 use lib.Seq.{drop-cons}
 use borrow.Author.Tests.{ltb-true, ltb-false, lt-ltb, le-ltb}
-use Rattle.protocol.specs.Pick.{if◌then◌else◌}
+use Rattle.protocol.specs.Pick.{when◌then◌else◌}
 use Rattle.protocol.specs.Frame.{pair_of}
 use Rattle.r5.specs.Voltage.{bits_of, figure_of, override_bytes, override_of, InRange, BothWays}
 use Rattle.r5.specs.declared.voltage.ChargingVoltageOverride.{ChargingVoltageOverride}
 
 figure_back : (z : ℤ) → InRange z → figure_of (bits_of z % 256) (bits_of z / 256 % 256) ≡ z
-unfolding bits_of figure_of if◌then◌else◌
+unfolding bits_of figure_of when◌then◌else◌
 figure_back (pos n) h =
     let e : n / 256 % 256 * 256 + n % 256 ≡ n = omega arith in
     rw (e, lt-ltb n 32768 h)
@@ -27,7 +27,7 @@ figure_back (negsuc n) h =
     rw (e, t, b)
 
 bits_back : (low high : ℕ) → low < 256 → high < 256 → InRange (figure_of low high) × (bits_of (figure_of low high) ≡ high * 256 + low)
-unfolding bits_of figure_of if◌then◌else◌
+unfolding bits_of figure_of when◌then◌else◌
 bits_back low high hl hh = by (ltb (high * 256 + low) 32768) refl
   where
     by : (t : Bool) → ltb (high * 256 + low) 32768 ≡ t → InRange (figure_of low high) × (bits_of (figure_of low high) ≡ high * 256 + low)

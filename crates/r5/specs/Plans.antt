@@ -1,7 +1,7 @@
 -- The calls of versions/r5.rs that are carried over, each as a plan: its retries, its limit, its PEC, its frames. (01, The step machine, length limits; Frames and retries)
 -- Assumes nothing.
 use Rattle.std.specs.Prelude.{ℕ, Bool}
-use Rattle.protocol.specs.Pick.{if◌then◌else◌}
+use Rattle.protocol.specs.Pick.{when◌then◌else◌}
 use Rattle.protocol.specs.Reply.{plain_ask}
 use Rattle.protocol.specs.declared.common.Config.{Config}
 use Rattle.protocol.specs.declared.frame.MacCommand.{MacCommand}
@@ -55,7 +55,7 @@ write_mfg_info_c config lower upper = plan_of config (limit.AtMost 32) (frames.M
 
 -- with PEC the whole register is asked for, and only the part wanted is handed over
 unfoldable pub whole_ask : Bool → ℕ → ℕ → ℕ
-whole_ask pec size wanted = if pec then size else wanted
+whole_ask pec size wanted = when pec then size else wanted
 
 -- at most 32 bytes of info C
 unfoldable pub read_mfg_info_c : Config → ℕ → ReadPlan

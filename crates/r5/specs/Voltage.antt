@@ -1,7 +1,7 @@
 -- The charging voltage override's figures. (01, Keys; common.rs, ChargingVoltageOverride; r5.rs, to_le_bytes and from_le_bytes)
 -- Assumes nothing.
 use Rattle.std.specs.Prelude.{ℕ, ◌+◌, ◌-◌, ◌*◌, ◌/◌, ◌%◌, ◌<◌, ◌≡◌, ℤ, pos, negsuc, List, ◌++◌, length, get_or, ltb}
-use Rattle.protocol.specs.Pick.{if◌then◌else◌}
+use Rattle.protocol.specs.Pick.{when◌then◌else◌}
 use Rattle.protocol.specs.Frame.{pair_of}
 use Rattle.r5.specs.declared.voltage.ChargingVoltageOverride.{ChargingVoltageOverride}
 
@@ -13,7 +13,7 @@ bits_of (negsuc n) = 65535 - n
 -- the figure of two bytes, low byte first: FF FF is -1, 00 80 is -32768
 unfoldable pub figure_of : ℕ → ℕ → ℤ
 figure_of low high =
-    if ltb (high * 256 + low) 32768 then pos (high * 256 + low) else negsuc (65535 - (high * 256 + low))
+    when ltb (high * 256 + low) 32768 then pos (high * 256 + low) else negsuc (65535 - (high * 256 + low))
 
 -- ten bytes: the five figures, each low byte first
 unfoldable pub override_bytes : ChargingVoltageOverride → List ℕ

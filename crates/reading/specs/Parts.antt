@@ -1,7 +1,7 @@
 -- What a reading call is made of. (01, Frames and retries)
 -- Assumes nothing.
 use Rattle.std.specs.Prelude.{ℕ, ◌+◌, ◌-◌, min, Bool, true, false, List, []}
-use Rattle.protocol.specs.Pick.{if◌then◌else◌}
+use Rattle.protocol.specs.Pick.{when◌then◌else◌}
 use Rattle.protocol.specs.Bytes.{blocks_of, block_start}
 use Rattle.protocol.specs.Frame.{pair_of, fixed_pair, mac_bytes, command_bytes}
 use Rattle.protocol.specs.Reply.{mac_ask}
@@ -52,7 +52,7 @@ left_of n i = n - block_start i
 
 -- a block of data flash: 32 bytes with PEC, otherwise what is left of them
 unfoldable pub block_ask : ℕ → Bool → Ask
-block_ask left pec = if pec then mac_ask 0x44 32 true else mac_ask 0x44 (min 32 left) false
+block_ask left pec = when pec then mac_ask 0x44 32 true else mac_ask 0x44 (min 32 left) false
 
 -- what read i asks for
 unfoldable pub ask_of : Reads → ℕ → ℕ → Ask

@@ -1,7 +1,7 @@
 -- A reading call, step by step. (01, The step machine; Frames and retries)
 -- Assumes nothing.
 use Rattle.std.specs.Prelude.{ℕ, false, List, length, eqb}
-use Rattle.protocol.specs.Pick.{if◌then◌else◌}
+use Rattle.protocol.specs.Pick.{when◌then◌else◌}
 use Rattle.protocol.specs.Common.{retries_on, pec_on}
 use Rattle.protocol.specs.Bytes.{stored_at, block_start}
 use Rattle.protocol.specs.Frame.{laid_of, work_laid}
@@ -79,24 +79,24 @@ work_head call work = work_laid call.task.plan.head_pec (parts.head_bytes call.t
 -- the head that is due, or a read: its command goes back as a number
 unfoldable pub shown_of : ReadCall → ℕ → Transfer
 shown_of call w =
-    if call.heading then shown_head call w
+    when call.heading then shown_head call w
     else transfer.Read (due_ask call).command (bytes_asked (due_ask call))
 
 unfoldable pub work_shown : ReadCall → List ℕ → List ℕ
-work_shown call work = if call.heading then work_head call work else work
+work_shown call work = when call.heading then work_head call work else work
 
 -- what a call shows, given a buffer of n bytes and a work buffer of w
 unfoldable pub next_of : ReadCall → ℕ → ℕ → Transfer
 next_of call n w =
     case call.phase
-    waiting (if fits_of call.task.lent n w then shown_of call w else transfer.Refused answer.WrongBuffer)
+    waiting (when fits_of call.task.lent n w then shown_of call w else transfer.Refused answer.WrongBuffer)
     ended transfer.Ended
 
 -- what showing leaves in the work buffer
 unfoldable pub work_after : ReadCall → ℕ → List ℕ → List ℕ
 work_after call n work =
     case call.phase
-    waiting (if fits_of call.task.lent n (length work) then work_shown call work else work)
+    waiting (when fits_of call.task.lent n (length work) then work_shown call work else work)
     ended (λ a. work)
 
 -- the head was heard: it is not repeated until something fails
@@ -150,7 +150,7 @@ fail_of call why =
 
 -- an acknowledged head brings no reply
 unfoldable pub heard_head : ℕ → Verdict
-heard_head r = if eqb r 0 then verdict.Head else verdict.Refused answer.WrongReply
+heard_head r = when eqb r 0 then verdict.Head else verdict.Refused answer.WrongReply
 
 -- an acknowledged read: 9, a failed attempt with 3, or a block
 unfoldable pub verdict_of : Heard → Verdict
@@ -162,7 +162,7 @@ unfoldable pub heard_block : Ask → List ℕ → Verdict
 heard_block ask reply = verdict_of (heard_of ask reply)
 
 unfoldable pub acknowledged_of : ReadCall → List ℕ → Verdict
-acknowledged_of call reply = if call.heading then heard_head (length reply) else heard_block (due_ask call) reply
+acknowledged_of call reply = when call.heading then heard_head (length reply) else heard_block (due_ask call) reply
 
 -- the reply of a failure is not looked at
 unfoldable pub weigh_of : ReadCall → Outcome → List ℕ → Verdict
@@ -176,7 +176,7 @@ weigh_of call o reply =
 unfoldable pub judge_of : ReadCall → Outcome → List ℕ → ℕ → ℕ → Verdict
 judge_of call o reply n w =
     case call.phase
-    waiting (if fits_of call.task.lent n w then weigh_of call o reply else verdict.Refused answer.WrongBuffer)
+    waiting (when fits_of call.task.lent n w then weigh_of call o reply else verdict.Refused answer.WrongBuffer)
     ended (λ a. verdict.Refused answer.NothingOutstanding)
 
 -- the data goes into the buffer after the blocks that are there

@@ -8,7 +8,7 @@ use native.Mathlib.Omega.{arith}
 use lib.ListN.{length, get_or, length-append, get_or-append}
 use lib.Dec.{ltb}
 use borrow.Author.Tests.{ltb-true, ltb-false}
-use Rattle.protocol.specs.Pick.{if◌then◌else◌}
+use Rattle.protocol.specs.Pick.{when◌then◌else◌}
 use Rattle.report.specs.Decimal.{in_places, decimal_of, number_in, Decimals}
 
 number_more : (n : ℕ) (s : List ℕ) (d : ℕ) → number_in n (s ++ (d ∷ [])) ≡ number_in n s * 10 + (d - 48)
@@ -22,11 +22,11 @@ Fits zero n = n < 1
 Fits (suc k) n = Fits k (n / 10)
 
 places_read : (k n : ℕ) → Fits k n → number_in 0 (in_places k n) ≡ n
-unfolding in_places number_in if◌then◌else◌
+unfolding in_places number_in when◌then◌else◌
 places_read zero n h = omega arith
 places_read (suc k) n h = by (places_read k (n / 10) h) (ltb n 10) refl
   where
-    by : number_in 0 (in_places k (n / 10)) ≡ n / 10 → (t : Bool) → ltb n 10 ≡ t → number_in 0 ((if t then [] else in_places k (n / 10)) ++ ((n % 10 + 48) ∷ [])) ≡ n
+    by : number_in 0 (in_places k (n / 10)) ≡ n / 10 → (t : Bool) → ltb n 10 ≡ t → number_in 0 ((when t then [] else in_places k (n / 10)) ++ ((n % 10 + 48) ∷ [])) ≡ n
     by e true f = let l = ltb-true n 10 f in omega arith
     by e false f = rw (number_more 0 (in_places k (n / 10)) (n % 10 + 48), e) (omega arith)
 
@@ -40,11 +40,11 @@ decimal_more [] d a h = (h, tt)
 decimal_more (c ∷ s) d a h = (a.0, decimal_more s d a.1 h)
 
 places_decimal : (k n : ℕ) → AllDecimal (in_places k n)
-unfolding in_places if◌then◌else◌
+unfolding in_places when◌then◌else◌
 places_decimal zero n = tt
 places_decimal (suc k) n = by (places_decimal k (n / 10)) (ltb n 10)
   where
-    by : AllDecimal (in_places k (n / 10)) → (t : Bool) → AllDecimal ((if t then [] else in_places k (n / 10)) ++ ((n % 10 + 48) ∷ []))
+    by : AllDecimal (in_places k (n / 10)) → (t : Bool) → AllDecimal ((when t then [] else in_places k (n / 10)) ++ ((n % 10 + 48) ∷ []))
     by a true = ((omega arith, omega arith), tt)
     by a false = decimal_more (in_places k (n / 10)) (n % 10 + 48) a (omega arith, omega arith)
 
@@ -63,12 +63,12 @@ places_some k n = rw (length-append _ ((n % 10 + 48) ∷ [])) (omega arith)
 
 -- the first is no 0
 places_first : (k n : ℕ) → 0 < n → Fits k n → get_or (in_places k n) 0 0 ≡ 48 → ⊥
-unfolding in_places if◌then◌else◌
+unfolding in_places when◌then◌else◌
 places_first zero n some h = λ e. absurd (omega arith)
 places_first (suc k) n some h = by (λ l. places_first k (n / 10) l h) (ltb n 10) refl
   where
     by : (0 < n / 10 → get_or (in_places k (n / 10)) 0 0 ≡ 48 → ⊥) → (t : Bool) → ltb n 10 ≡ t
-        → get_or ((if t then [] else in_places k (n / 10)) ++ ((n % 10 + 48) ∷ [])) 0 0 ≡ 48 → ⊥
+        → get_or ((when t then [] else in_places k (n / 10)) ++ ((n % 10 + 48) ∷ [])) 0 0 ≡ 48 → ⊥
     by first true f e = let l = ltb-true n 10 f in absurd (omega arith)
     by first false f e =
         let l = ltb-false n 10 f in

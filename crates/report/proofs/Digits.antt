@@ -9,7 +9,7 @@ use native.Mathlib.Omega.{arith}
 use lib.ListN.{length, length-append}
 use lib.Dec.{ltb}
 use borrow.Author.Tests.{lt-ltb, le-ltb}
-use Rattle.protocol.specs.Pick.{if◌then◌else◌}
+use Rattle.protocol.specs.Pick.{when◌then◌else◌}
 use Rattle.io.specs.Digits.{hex_digit_ascii, last_digits, IsDigitCount}
 use Rattle.report.specs.Decimal.{in_places, decimal_of}
 
@@ -32,7 +32,7 @@ ten_least k n h =
 
 -- the fewest digits, where there are places for them
 in_places_lem : (j k n : ℕ) → n < 10 ^ suc k → (0 < k → 10 ^ k ≤ n) → n < 10 ^ suc j → last_digits 10 (suc k) n ≡ in_places (suc j) n
-unfolding in_places if◌then◌else◌
+unfolding in_places when◌then◌else◌
 in_places_lem zero zero n fits fewest room = rw (lt-ltb n 10 (omega arith), glyph_small (n % 10) (omega arith))
 in_places_lem zero (suc k) n fits fewest room = absurd (omega (arith, ten_least k n (fewest (omega arith))))
 in_places_lem (suc j) zero n fits fewest room = rw (lt-ltb n 10 (omega arith), glyph_small (n % 10) (omega arith))
@@ -42,11 +42,11 @@ in_places_lem (suc j) (suc k) n fits fewest room =
 
 -- no more digits than places
 length_in_places : (k n : ℕ) → length (in_places k n) ≤ k
-unfolding in_places if◌then◌else◌
+unfolding in_places when◌then◌else◌
 length_in_places zero n = omega arith
 length_in_places (suc k) n = by (length_in_places k (n / 10)) (ltb n 10)
   where
-    by : length (in_places k (n / 10)) ≤ k → (t : Bool) → length ((if t then [] else in_places k (n / 10)) ++ ((n % 10 + 48) ∷ [])) ≤ suc k
+    by : length (in_places k (n / 10)) ≤ k → (t : Bool) → length ((when t then [] else in_places k (n / 10)) ++ ((n % 10 + 48) ∷ [])) ≤ suc k
     by rest true = omega arith
     by rest false = rw length-append (omega arith)
 

@@ -9,7 +9,7 @@ use native.Mathlib.Omega.{arith}
 use lib.ListN.{length, take, drop, get_or, length-append, length-drop}
 use lib.Seq.{take-length}
 use borrow.Author.Tests.{le-leb}
-use Rattle.protocol.specs.Pick.{if◌then◌else◌}
+use Rattle.protocol.specs.Pick.{when◌then◌else◌}
 use Rattle.protocol.specs.Bytes.{over, block_in, stored_at}
 use Rattle.protocol.proofs.Cases.{cases, yes_le}
 use Rattle.protocol.proofs.Laws.{laid_more, length_over}
@@ -26,7 +26,7 @@ pub record Puts (f : Page → Page) (text : List ℕ) (most : ℕ) : Type 0 wher
 
 -- a text that has room
 put_laid : (text s out : List ℕ) → length s + length text ≤ length out → put text (laid s out) ≡ laid (s ++ text) out
-unfolding put page if◌then◌else◌
+unfolding put page when◌then◌else◌
 put_laid text s out h =
     let short : length s ≤ length out = omega arith in
     let room : length s + length text ≤ length (over s out) = rw (length_over s out short) h in
@@ -53,8 +53,8 @@ pub puts_within : {f : Page → Page} {text : List ℕ} {m n : ℕ} → m ≤ n 
 puts_within h p = record { short = omega (arith, p.short); after = λ s out room. p.after s out (omega arith) }
 
 -- one of two texts, by a test
-pub puts_either : {f g : Page → Page} {s t : List ℕ} {m : ℕ} (b : Bool) → Puts f s m → Puts g t m → Puts (λ p. if b then f p else g p) (if b then s else t) m
-unfolding if◌then◌else◌
+pub puts_either : {f g : Page → Page} {s t : List ℕ} {m : ℕ} (b : Bool) → Puts f s m → Puts g t m → Puts (λ p. when b then f p else g p) (when b then s else t) m
+unfolding when◌then◌else◌
 puts_either true p q = p
 puts_either false p q = q
 
@@ -74,7 +74,7 @@ put_none text out at h = search cases
 
 -- storing all of a text lays it over what follows
 stored : (text out : List ℕ) (at : ℕ) → at + length text ≤ length out → stored_at at (length text) text out ≡ take at out ++ over text (drop at out)
-unfolding stored_at block_in if◌then◌else◌
+unfolding stored_at block_in when◌then◌else◌
 stored text out at h =
     let here : at ≤ length out = omega arith in
     let whole : min (length text) (min (length text) (length (drop at out))) ≡ length text = rw length-drop (omega arith) in

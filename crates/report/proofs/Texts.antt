@@ -8,7 +8,7 @@ use mathlib.Core.Option.{none, some}
 use native.Mathlib.Omega.{arith}
 use lib.ListN.{length, get_or}
 use lib.Dec.{eqb}
-use Rattle.protocol.specs.Pick.{if◌then◌else◌}
+use Rattle.protocol.specs.Pick.{when◌then◌else◌}
 use Rattle.protocol.specs.Bytes.{over}
 use Rattle.protocol.proofs.Cases.{cases}
 use Rattle.hexadecimal.specs.Text.{ascii}
@@ -36,7 +36,7 @@ puts_line : (name : List ℕ) (most n : ℕ) → length name ≤ most → Puts (
 unfolding put_line line
 puts_line name most n h = puts_both (puts_text name most h) (puts_figure n)
 
-puts_unread : (k n : ℕ) → Puts (put_unread k n) (if eqb n 0 then [] else line (ascii "unread " ++ decimal_of k) n) 29
+puts_unread : (k n : ℕ) → Puts (put_unread k n) (when eqb n 0 then [] else line (ascii "unread " ++ decimal_of k) n) 29
 unfolding put_unread line ascii
 puts_unread k n =
     puts_either (eqb n 0) (puts_none 29) (puts_both (puts_both (puts_text (ascii "unread ") 7 (omega arith)) (puts_number k)) (puts_figure n))
@@ -47,7 +47,7 @@ puts_by_number numbers zero k = puts_none 0
 puts_by_number numbers (suc n) k = puts_within (omega arith) (puts_both (puts_unread k (get_or numbers k 0)) (puts_by_number numbers n (suc k)))
 
 puts_of_read : (count : Count) → Puts (put_of_read count) (of_read (figures_in count)) 74
-unfolding put_of_read put_range put_mean of_read figures_in if◌then◌else◌ ascii
+unfolding put_of_read put_range put_mean of_read figures_in when◌then◌else◌ ascii
 puts_of_read count = by (eqb count.read 0)
   where
     lines : Puts (λ p. put_mean (count.sum / count.read) (count.sum % count.read) (put_range count.lowest count.highest p))
@@ -59,8 +59,8 @@ puts_of_read count = by (eqb count.read 0)
         (puts_both (puts_line (ascii "highest") 7 count.highest (omega arith))
         (puts_both (puts_line (ascii "mean") 4 (count.sum / count.read) (omega arith)) (puts_line (ascii "remainder") 9 (count.sum % count.read) (omega arith))))
 
-    by : (t : Bool) → Puts (λ p. if t then p else put_mean (count.sum / count.read) (count.sum % count.read) (put_range count.lowest count.highest p))
-        (of_read (if t then none else
+    by : (t : Bool) → Puts (λ p. when t then p else put_mean (count.sum / count.read) (count.sum % count.read) (put_range count.lowest count.highest p))
+        (of_read (when t then none else
         some record { lowest = count.lowest; highest = count.highest; mean = count.sum / count.read; remainder = count.sum % count.read })) 74
     by true = puts_none 74
     by false = lines

@@ -1,12 +1,12 @@
 -- A number in decimal, in ASCII. (02, W-212)
 -- Assumes nothing.
 use Rattle.std.specs.Prelude.{ℕ, zero, suc, ◌+◌, ◌-◌, ◌*◌, ◌/◌, ◌%◌, ◌≤◌, ◌<◌, ◌≡◌, List, [], ◌∷◌, ◌++◌, length, get_or, ltb}
-use Rattle.protocol.specs.Pick.{if◌then◌else◌}
+use Rattle.protocol.specs.Pick.{when◌then◌else◌}
 
 -- the digits of a number, in so many places at most: those of a tenth of it, where it is 10 or more, and the last one
 unfoldable pub in_places : ℕ → ℕ → List ℕ
 in_places zero n = []
-in_places (suc k) n = (if ltb n 10 then [] else in_places k (n / 10)) ++ ((n % 10 + 48) ∷ [])
+in_places (suc k) n = (when ltb n 10 then [] else in_places k (n / 10)) ++ ((n % 10 + 48) ∷ [])
 
 -- ten places have room for a number of 32 bits
 unfoldable pub decimal_of : ℕ → List ℕ

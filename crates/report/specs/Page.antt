@@ -1,7 +1,7 @@
 -- A page that is filled from the front, and what is put on it line by line: what the functions below `lay` do.
 -- Assumes nothing.
 use Rattle.std.specs.Prelude.{ℕ, zero, suc, ◌+◌, ◌/◌, ◌%◌, List, [], ◌∷◌, ◌++◌, length, take, drop, get_or, leb, eqb}
-use Rattle.protocol.specs.Pick.{if◌then◌else◌}
+use Rattle.protocol.specs.Pick.{when◌then◌else◌}
 use Rattle.protocol.specs.Bytes.{over}
 use Rattle.hexadecimal.specs.Text.{ascii}
 use Rattle.packs.specs.Count.{seen_of}
@@ -20,7 +20,7 @@ page at out = record { at = at; out = out }
 -- a text after what is laid, or nothing where it has no room
 unfoldable pub put : List ℕ → Page → Page
 put text p =
-    if leb (p.at + length text) (length p.out) then page (p.at + length text) (take p.at p.out ++ over text (drop p.at p.out)) else
+    when leb (p.at + length text) (length p.out) then page (p.at + length text) (take p.at p.out ++ over text (drop p.at p.out)) else
     p
 
 -- a number in decimal
@@ -37,7 +37,7 @@ put_line name n p = put_figure n (put name p)
 
 -- the line of one answer number, if it occurred
 unfoldable pub put_unread : ℕ → ℕ → Page → Page
-put_unread number n p = if eqb n 0 then p else put_figure n (put_number number (put (ascii "unread ") p))
+put_unread number n p = when eqb n 0 then p else put_figure n (put_number number (put (ascii "unread ") p))
 
 -- the lines of the answer numbers from k on, n of them
 unfoldable pub put_by_number : List ℕ → ℕ → ℕ → Page → Page
@@ -55,7 +55,7 @@ put_mean mean remainder p = put_line (ascii "remainder") remainder (put_line (as
 -- the lines over packs that were read, if any was
 unfoldable pub put_of_read : Count → Page → Page
 put_of_read count p =
-    if eqb count.read 0 then p else
+    when eqb count.read 0 then p else
     put_mean (count.sum / count.read) (count.sum % count.read) (put_range count.lowest count.highest p)
 
 -- how many packs were seen, read and not read

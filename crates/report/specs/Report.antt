@@ -2,7 +2,7 @@
 -- Assumes nothing.
 use Rattle.std.specs.Prelude.{ℕ, zero, suc, List, [], ◌∷◌, ◌++◌, eqb}
 use Rattle.std.proofs.Math.Option.{Option, none, some}
-use Rattle.protocol.specs.Pick.{if◌then◌else◌}
+use Rattle.protocol.specs.Pick.{when◌then◌else◌}
 use Rattle.hexadecimal.specs.Text.{ascii}
 use Rattle.report.specs.Decimal.{decimal_of}
 
@@ -34,7 +34,7 @@ line name n = name ++ (9 ∷ (decimal_of n ++ (10 ∷ [])))
 -- the answer numbers from k on, n of them, ascending; one that did not occur has no line
 unfoldable pub by_number : (ℕ → ℕ) → ℕ → ℕ → List ℕ
 by_number by zero k = []
-by_number by (suc n) k = (if eqb (by k) 0 then [] else line (ascii "unread " ++ decimal_of k) (by k)) ++ by_number by n (suc k)
+by_number by (suc n) k = (when eqb (by k) 0 then [] else line (ascii "unread " ++ decimal_of k) (by k)) ++ by_number by n (suc k)
 
 unfoldable pub of_read : Option Figures → List ℕ
 of_read none = []

@@ -2,7 +2,7 @@
 -- Assumes nothing.
 use Rattle.std.specs.Prelude.{ℕ, suc, ◌/◌, ◌%◌, List, get_or, eqb}
 use Rattle.std.proofs.Math.Option.{Option, none, some}
-use Rattle.protocol.specs.Pick.{if◌then◌else◌}
+use Rattle.protocol.specs.Pick.{when◌then◌else◌}
 use Rattle.packs.specs.Count.{seen_of}
 use Rattle.packs.specs.Sheet.{Sheet}
 use Rattle.packs.specs.declared.Count.{Count}
@@ -11,7 +11,7 @@ use Rattle.report.specs.Report.{Figures, Report, Outcome, report, refused}
 -- with none read there is no lowest, highest, mean or remainder
 unfoldable pub figures_in : Count → Option Figures
 figures_in count =
-    if eqb count.read 0 then none else
+    when eqb count.read 0 then none else
     some record { lowest = count.lowest; highest = count.highest; mean = count.sum / count.read; remainder = count.sum % count.read }
 
 unfoldable pub report_in : Count → List ℕ → Report
@@ -27,5 +27,5 @@ report_in count numbers = record {
 -- a line that is not whole, or refused, is the first that is refused
 unfoldable pub outcome_in : Sheet → Outcome
 outcome_in d =
-    if eqb d.reader.line 1 then report (report_in d.reader.count d.numbers) else
+    when eqb d.reader.line 1 then report (report_in d.reader.count d.numbers) else
     refused (suc (seen_of d.reader.count))

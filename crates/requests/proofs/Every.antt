@@ -5,7 +5,7 @@ use mathlib.Core.Bool.{Bool, true, false}
 use mathlib.Core.List.{List}
 use native.Mathlib.Omega.{arith}
 use lib.ListN.{length, drop, get_or}
-use Rattle.protocol.specs.Pick.{if◌then◌else◌}
+use Rattle.protocol.specs.Pick.{when◌then◌else◌}
 use Rattle.calls.specs.declared.kind.Kind.{Kind}
 use Rattle.requests.specs.Request.{header_of, bad, called_of, exact_of, asked_of, request_line}
 use Rattle.requests.specs.declared.request.Header.{Header}
@@ -13,8 +13,8 @@ use Rattle.requests.specs.declared.request.Request.{Request}
 
 module _ (P : Request → Type 0) (none : P bad) where
   -- whatever the test says
-  either : (t : Bool) (x y : Request) → P x → P y → P (if t then x else y)
-  unfolding if◌then◌else◌
+  either : (t : Bool) (x y : Request) → P x → P y → P (when t then x else y)
+  unfolding when◌then◌else◌
   either true x y p q = p
   either false x y p q = q
 

@@ -7,7 +7,7 @@ use mathlib.Core.List.{List, []}
 use native.Mathlib.Omega.{arith}
 use lib.ListN.{length, drop, get_or, length-drop}
 use lib.Dec.{ltb}
-use Rattle.protocol.specs.Pick.{if◌then◌else◌}
+use Rattle.protocol.specs.Pick.{when◌then◌else◌}
 use Rattle.protocol.proofs.Cases.{cases}
 use Rattle.calls.specs.declared.kind.Kind.{Kind}
 use Rattle.requests.specs.Outcome.{acknowledged_line, error_line, timeout_line, outcome_line}
@@ -17,18 +17,18 @@ use Rattle.requests.specs.declared.request.Request.TheVariants as request
 use Rattle.requests.proofs.Every.{every_request}
 
 -- whatever the test says
-either : {A : Type 0} (t : Bool) (x y z : A) → x ≡ z → y ≡ z → (if t then x else y) ≡ z
-unfolding if◌then◌else◌
+either : {A : Type 0} (t : Bool) (x y z : A) → x ≡ z → y ≡ z → (when t then x else y) ≡ z
+unfolding when◌then◌else◌
 either true x y z p q = p
 either false x y z p q = q
 
 pub empty_request : request_line [] ≡ bad
-unfolding request_line unknown_flags header_of header_bytes two_budgets if◌then◌else◌
+unfolding request_line unknown_flags header_of header_bytes two_budgets when◌then◌else◌
 empty_request = refl
 
 -- a header has at most six bytes
-four_or_six : (t : Bool) → (if t then longest_header else 4) ≤ longest_header
-unfolding if◌then◌else◌
+four_or_six : (t : Bool) → (when t then longest_header else 4) ≤ longest_header
+unfolding when◌then◌else◌
 four_or_six true = omega arith
 four_or_six false = omega arith
 
@@ -50,7 +50,7 @@ long_request line h = every_request (λ r. r ≡ bad) refl line (λ k at size fe
     long k at size few =
         let short : (header_of line).bytes ≤ longest_header = header_most line in
         let p : 8192 < length arguments - at = omega (arith, n) in
-        let q : (if ltb 8192 (length arguments - at) then bad else request.Call k (header_of line).config ((header_of line).bytes + at) size) ≡ bad = sym (search cases) in
+        let q : (when ltb 8192 (length arguments - at) then bad else request.Call k (header_of line).config ((header_of line).bytes + at) size) ≡ bad = sym (search cases) in
         either (ltb 8192 size) _ _ _ refl (either (ltb (length arguments) at) _ _ _ refl q)
 
 long_acknowledged : (n : ℕ) → 8193 < n → acknowledged_line n ≡ told.Bad

@@ -8,7 +8,7 @@ use native.Mathlib.Omega.{arith}
 use lib.ListN.{length, drop, length-drop}
 use lib.Dec.{ltb}
 use borrow.Author.Tests.{ltb-false}
-use Rattle.protocol.specs.Pick.{if◌then◌else◌}
+use Rattle.protocol.specs.Pick.{when◌then◌else◌}
 use Rattle.calls.specs.declared.kind.Kind.{Kind}
 use Rattle.requests.specs.Request.{header_of, bad, called_of, request_line}
 use Rattle.requests.specs.declared.request.Request.{Request}
@@ -21,8 +21,8 @@ Small n (request.Call k c at size) = (n - at ≤ 8192) × (size ≤ 8192)
 Small n (request.Refused a) = Unit {0}
 
 -- where the test is false, the other one
-otherwise : (n : ℕ) (t : Bool) (y : Request) → (t ≡ false → Small n y) → Small n (if t then bad else y)
-unfolding if◌then◌else◌
+otherwise : (n : ℕ) (t : Bool) (y : Request) → (t ≡ false → Small n y) → Small n (when t then bad else y)
+unfolding when◌then◌else◌
 otherwise n true y q = tt
 otherwise n false y q = q refl
 

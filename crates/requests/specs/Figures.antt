@@ -1,7 +1,7 @@
 -- The kinds of docs/BENCH.md, and lines on each side of a limit, as one table under one statement.
 -- Assumes nothing.
 use Rattle.std.specs.Prelude.{ℕ, ◌≡◌, refl, Bool, true, false, List, [], ◌∷◌, replicate}
-use Rattle.protocol.specs.Pick.{if◌then◌else◌}
+use Rattle.protocol.specs.Pick.{when◌then◌else◌}
 use Rattle.protocol.specs.declared.common.Config.{Config}
 use Rattle.engine.specs.declared.bus.Outcome.TheVariants as outcome
 use Rattle.calls.specs.declared.kind.Kind.TheVariants as kind
@@ -152,5 +152,5 @@ Hold (says s t ∷ more) = (outcome_line s ≡ t) × Hold more
 Hold (begins s t ∷ more) = (retired_kind s ≡ t) × Hold more
 
 pub figures_hold : Hold figures
-unfolding pair_at quad_at two_budgets header_bytes read_retries config_of header_of unknown_flags called_of exact_of asked_of request_line retired_kind acknowledged_line error_line timeout_line outcome_line if◌then◌else◌
+unfolding pair_at quad_at two_budgets header_bytes read_retries config_of header_of unknown_flags called_of exact_of asked_of request_line retired_kind acknowledged_line error_line timeout_line outcome_line when◌then◌else◌
 figures_hold = (refl, (refl, (refl, (refl, (refl, (refl, (refl, (refl, (refl, (refl, (refl, (refl, (refl, (refl, (refl, (refl, (refl, (refl, (refl, (refl, (refl, (refl, (refl, (refl, (refl, (refl, (refl, (refl, (refl, (refl, (refl, (refl, (refl, (refl, (refl, (refl, (refl, (refl, (refl, (refl, (refl, (refl, (refl, (refl, (refl, (refl, (refl, (refl, (refl, (refl, (refl, (refl, (refl, (refl, (refl, (refl, (refl, (refl, (refl, (refl, (refl, (refl, (refl, (refl, (refl, (refl, (refl, (refl, (refl, (refl, (refl, (refl, (refl, (refl, (refl, (refl, (refl, (refl, (refl, (refl, (refl, (refl, (refl, (refl, (refl, (refl, (refl, (refl, (refl, (refl, (refl, (refl, (refl, (refl, (refl, (refl, (refl, (refl, tt))))))))))))))))))))))))))))))))))))))))))))))))))))))))))))))))))))))))))))))))))))))))))))))))))

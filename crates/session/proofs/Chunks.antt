@@ -5,7 +5,7 @@ use mathlib.Core.Path.{◌≡◌}
 use mathlib.Core.List.{List, [], ◌∷◌, ◌++◌}
 use lib.ListN.{length}
 use lib.Dec.{ltb}
-use Rattle.protocol.specs.Pick.{if◌then◌else◌}
+use Rattle.protocol.specs.Pick.{when◌then◌else◌}
 use Rattle.session.specs.Desk.{Desk, desk, Sized}
 use Rattle.session.specs.Session.{start_of, at_byte, take_of, end_of}
 use Rattle.session.specs.Output.{printed, printed_so_far}
@@ -15,13 +15,13 @@ use Rattle.session.specs.Loop.{laid_bytes}
 unfoldable pub chunk_out : ℕ → List ℕ → Desk → (Desk → List ℕ) → List ℕ
 chunk_out zero chunk d more = more d
 chunk_out (suc takes) chunk d more =
-    if d.session.on then
-    (if ltb d.session.at (length chunk) then laid_bytes (take_of chunk d) ++ chunk_out takes chunk (take_of chunk d) more else more d)
+    when d.session.on then
+    (when ltb d.session.at (length chunk) then laid_bytes (take_of chunk d) ++ chunk_out takes chunk (take_of chunk d) more else more d)
     else []
 
 -- chunk after chunk, and `final` once there is none
 unfoldable pub chunks_out : (Desk → List ℕ) → List (List ℕ) → Desk → List ℕ
-chunks_out final [] d = if d.session.on then final d else []
+chunks_out final [] d = when d.session.on then final d else []
 chunks_out final (chunk ∷ chunks) d =
     chunk_out (length chunk) chunk (desk (at_byte d.session 0) d.held d.request d.outcome d.buffer d.out) (chunks_out final chunks)
 

@@ -11,7 +11,7 @@ use lib.Seq.{length-take-le, take_all, take-append-add, drop-length, drop-drop}
 use lib.Dec.{ltb, leb, eqb}
 use borrow.Author.Tests.{lt-ltb, le-leb, ltb-true, ltb-false, leb-true, leb-false, eqb-true}
 use Rattle.hexadecimal.specs.Line.{feed_bytes}
-use Rattle.protocol.specs.Pick.{if◌then◌else◌}
+use Rattle.protocol.specs.Pick.{when◌then◌else◌}
 use Rattle.protocol.specs.Bytes.{stored_at}
 use Rattle.printing.specs.Printing.{printed_of, out_printed}
 use Rattle.lines.specs.Input.{lines_from, rest_from}
@@ -221,7 +221,7 @@ module _ (view : List (List ℕ) → List (List ℕ) → List ℕ) (Ends : List 
 
       -- one turn
       turn : Lays (λ v. G (turn_of chunk v)) w (drop w.session.at chunk ++ t)
-      unfolding turn_of turn_by held_after kept_of took_of took_by if◌then◌else◌
+      unfolding turn_of turn_by held_after kept_of took_of took_by when◌then◌else◌
       turn lines rest p q a z =
           by (ltb (length w.held) (w.session.have + k)) refl (leb (length chunk - w.session.at) k) refl (eqb w.session.have 0) refl
         where
@@ -239,8 +239,8 @@ module _ (view : List (List ℕ) → List (List ℕ) → List ℕ) (Ends : List 
 
           brought : Bool → Bool → Bool → Took
           brought f g i =
-              if f then took.Long else if g then took.More (w.session.have + k) else
-              if i then took.Here k (w.session.at + k + 1) else took.Held (w.session.have + k) (w.session.at + k + 1)
+              when f then took.Long else when g then took.More (w.session.have + k) else
+              when i then took.Here k (w.session.at + k + 1) else took.Held (w.session.have + k) (w.session.at + k + 1)
 
           by : (f : Bool) → ltb (length w.held) (w.session.have + k) ≡ f → (g : Bool) → leb (length chunk - w.session.at) k ≡ g → (i : Bool) → eqb w.session.have 0 ≡ i
               → G (turn_by (brought f g i) chunk (kept_of (brought f g i) (before_feed s) w.held w.session.have) w) ≡ laid_bytes w ++ view lines (shown w lines rest)
@@ -273,7 +273,7 @@ module _ (view : List (List ℕ) → List (List ℕ) → List ℕ) (Ends : List 
     both v = laid_bytes v ++ M v
 
     off_turns : (turns : ℕ) (v : Desk) → v.session.on ≡ false → both (turns_of turns chunk v) ≡ laid_bytes v
-    unfolding turns_of goes_on if◌then◌else◌
+    unfolding turns_of goes_on when◌then◌else◌
     off_turns zero v o = rw (off v o) (append-nil (laid_bytes v))
     off_turns (suc turns) v o =
         let e : goes_on v.session.on v.session.at (length chunk) v.session.laid (length v.out) ≡ false =
@@ -283,14 +283,14 @@ module _ (view : List (List ℕ) → List (List ℕ) → List ℕ) (Ends : List 
     -- turn after turn
     turns_lay : (turns : ℕ) (w : Desk) → Good w → m < w.session.at → w.session.at ≤ length chunk
         → Lays (λ v. both (turns_of turns chunk v)) w (drop w.session.at chunk ++ t)
-    unfolding turns_of if◌then◌else◌
+    unfolding turns_of when◌then◌else◌
     turns_lay zero w good lt le lines rest p q a z = ap (λ (l : List ℕ). laid_bytes w ++ l) (go w good lt le lines rest p q a z)
     turns_lay (suc turns) w good lt le lines rest p q a z =
         by (λ v g l k. turns_lay turns v g l k) (goes_on w.session.on w.session.at (length chunk) w.session.laid (length w.out)) refl
       where
         by : ((v : Desk) → Good v → m < v.session.at → v.session.at ≤ length chunk → Lays (λ u. both (turns_of turns chunk u)) v (drop v.session.at chunk ++ t))
             → (f : Bool) → goes_on w.session.on w.session.at (length chunk) w.session.laid (length w.out) ≡ f
-            → both (if f then turns_of turns chunk (turn_of chunk w) else w) ≡ laid_bytes w ++ view lines (shown w lines rest)
+            → both (when f then turns_of turns chunk (turn_of chunk w) else w) ≡ laid_bytes w ++ view lines (shown w lines rest)
         by next true e =
             let g = goes_on_inside w.session.on w.session.at (length chunk) w.session.laid (length w.out) e in
             turn (λ v. both (turns_of turns chunk v)) (off_turns turns) chunk t w good g.1 g.2 (λ v k l n. next v k (omega arith) n) lines rest p q a z
@@ -298,7 +298,7 @@ module _ (view : List (List ℕ) → List (List ℕ) → List ℕ) (Ends : List 
 
     -- one `take`: it makes a turn at least
     pub take_gives : (w : Desk) → Good w → m ≡ w.session.at → w.session.at < length chunk → Gives (λ v. both (take_of chunk v)) w (drop w.session.at chunk ++ t)
-    unfolding take_of turns_of at_byte laid_bytes goes_on if◌then◌else◌
+    unfolding take_of turns_of at_byte laid_bytes goes_on when◌then◌else◌
     take_gives w good start inside lines rest p q a z = by (length chunk) refl
       where
         fresh : Desk

@@ -11,7 +11,7 @@ use lib.Dec.{leb}
 use borrow.Author.Tests.{leb-true}
 use Rattle.hexadecimal.specs.Hex.{out_decoded}
 use Rattle.hexadecimal.specs.Line.{feed_bytes}
-use Rattle.protocol.specs.Pick.{if◌then◌else◌}
+use Rattle.protocol.specs.Pick.{when◌then◌else◌}
 use Rattle.protocol.specs.Bytes.{over}
 use Rattle.protocol.proofs.Laws.{length_over}
 use Rattle.requests.specs.Request.{request_line}
@@ -26,10 +26,10 @@ use Rattle.dialogue.specs.declared.Run.TheVariants as run
 use Rattle.dialogue.proofs.Kept.{length_decoded, length_heard, length_filled}
 
 pub length_request : (r : Run) (line R : List ℕ) → length (dialogue.request_after r line R) ≡ length R
-unfolding dialogue.request_after dialogue.first_request if◌then◌else◌
+unfolding dialogue.request_after dialogue.first_request when◌then◌else◌
 length_request run.Fresh line R = by (retired_kind line)
   where
-    by : (t : Bool) → length (if t then R else out_decoded line R) ≡ length R
+    by : (t : Bool) → length (when t then R else out_decoded line R) ≡ length R
     by true = refl
     by false = length_decoded line R
 length_request (run.Call call place) line R = refl
@@ -45,19 +45,19 @@ length_begin (request.Call kind config at n) B = length_filled n B
 length_begin (request.Refused a) B = refl
 
 pub length_buffer : (r : Run) (line R Y B : List ℕ) → length (dialogue.buffer_after r line R Y B) ≡ length B
-unfolding dialogue.buffer_after dialogue.first_buffer dialogue.begin_buffer dialogue.go_buffer if◌then◌else◌
+unfolding dialogue.buffer_after dialogue.first_buffer dialogue.begin_buffer dialogue.go_buffer when◌then◌else◌
 length_buffer run.Fresh line R Y B = by (retired_kind line)
   where
-    by : (t : Bool) → length (if t then B else dialogue.fill_by (request_line (dialogue.bytes_in line R)) B) ≡ length B
+    by : (t : Bool) → length (when t then B else dialogue.fill_by (request_line (dialogue.bytes_in line R)) B) ≡ length B
     by true = refl
     by false = length_begin (request_line (dialogue.bytes_in line R)) B
 length_buffer (run.Call call place) line R Y B = rw (length-append, length_heard, length-take, length-drop) (omega arith)
 
 length_printed : (s out : List ℕ) → length (out_printed s out) ≡ length out
-unfolding out_printed if◌then◌else◌
+unfolding out_printed when◌then◌else◌
 length_printed s out = by (leb (length s * 2 + 1) (length out)) refl
   where
-    by : (t : Bool) → leb (length s * 2 + 1) (length out) ≡ t → length (if t then over (feed_bytes s) out else out) ≡ length out
+    by : (t : Bool) → leb (length s * 2 + 1) (length out) ≡ t → length (when t then over (feed_bytes s) out else out) ≡ length out
     by true e = length_over (feed_bytes s) out (omega (arith, leb-true (length s * 2 + 1) (length out) e, length_feed s))
     by false e = refl
 

@@ -10,7 +10,7 @@ use lib.Seq.{take_all}
 use lib.Dec.{ltb, leb, eqb}
 use borrow.Author.Tests.{ltb-true, leb-true, leb-false, le-leb, lt-leb}
 use Rattle.hexadecimal.specs.Line.{feed_bytes}
-use Rattle.protocol.specs.Pick.{if◌then◌else◌}
+use Rattle.protocol.specs.Pick.{when◌then◌else◌}
 use Rattle.printing.specs.Printing.{printed_of}
 use Rattle.printing.proofs.Laws.{length_feed}
 use Rattle.lines.specs.Lines.{before_feed, took_by, took_of, held_after}
@@ -42,10 +42,10 @@ part_printed s n out laid e = e ∙ rw (part_room out laid)
 
 -- no more is printed than there is room for
 pub printed_room : (s : List ℕ) (room : ℕ) → printed_of s room ≤ room
-unfolding printed_of if◌then◌else◌
+unfolding printed_of when◌then◌else◌
 printed_room s room = by (leb (length s * 2 + 1) room) refl
   where
-    by : (t : Bool) → leb (length s * 2 + 1) room ≡ t → (if t then length (feed_bytes s) else 0) ≤ room
+    by : (t : Bool) → leb (length s * 2 + 1) room ≡ t → (when t then length (feed_bytes s) else 0) ≤ room
     by true e = omega (arith, leb-true (length s * 2 + 1) room e, length_feed s)
     by false e = omega arith
 
@@ -108,7 +108,7 @@ at_said (last s) room r at laid = refl
 
 -- a turn goes past a line feed, or to the end of the chunk
 pub turn_uses : (chunk : List ℕ) (w : Desk) → w.session.at < length chunk → w.session.at < (turn_of chunk w).session.at
-unfolding turn_of turn_by line_of laid_desk spoken_session used_up took_of took_by if◌then◌else◌
+unfolding turn_of turn_by line_of laid_desk spoken_session used_up took_of took_by when◌then◌else◌
 turn_uses chunk w h =
     by (ltb (length w.held) (w.session.have + length (before_feed (drop w.session.at chunk))))
     (leb (length chunk - w.session.at) (length (before_feed (drop w.session.at chunk)))) (eqb w.session.have 0)
@@ -119,8 +119,8 @@ turn_uses chunk w h =
     by : (f g i : Bool)
         → w.session.at
         < (turn_by
-        (if f then took.Long else if g then took.More (w.session.have + k) else
-        if i then took.Here k (w.session.at + k + 1) else took.Held (w.session.have + k) (w.session.at + k + 1))
+        (when f then took.Long else when g then took.More (w.session.have + k) else
+        when i then took.Here k (w.session.at + k + 1) else took.Held (w.session.have + k) (w.session.at + k + 1))
         chunk (held_after chunk w.session.at w.held w.session.have) w).session.at
     by true g i = rw at_said h
     by false true i = h
@@ -129,14 +129,14 @@ turn_uses chunk w h =
 
 -- what `goes_on` says
 pub goes_on_inside : (on : Bool) (at end laid room : ℕ) → goes_on on at end laid room ≡ true → (on ≡ true) × (at < end) × (laid + longest_line ≤ room)
-unfolding goes_on if◌then◌else◌
+unfolding goes_on when◌then◌else◌
 goes_on_inside on at end laid room = by₁ on
   where
-    by₂ : (t : Bool) → ltb at end ≡ t → (if t then leb (laid + longest_line) room else false) ≡ true → (at < end) × (laid + longest_line ≤ room)
+    by₂ : (t : Bool) → ltb at end ≡ t → (when t then leb (laid + longest_line) room else false) ≡ true → (at < end) × (laid + longest_line ≤ room)
     by₂ true e q = (ltb-true at end e, leb-true (laid + longest_line) room q)
     by₂ false e q = absurd (let z : ◌≡◌ {A = ℕ} 0 1 = cc in omega arith)
 
-    by₁ : (o : Bool) → (if o then (if ltb at end then leb (laid + longest_line) room else false) else false) ≡ true → (o ≡ true) × (at < end) × (laid + longest_line ≤ room)
+    by₁ : (o : Bool) → (when o then (when ltb at end then leb (laid + longest_line) room else false) else false) ≡ true → (o ≡ true) × (at < end) × (laid + longest_line ≤ room)
     by₁ true q = let h = by₂ (ltb at end) refl q in (refl, h.0, h.1)
     by₁ false q = absurd (let z : ◌≡◌ {A = ℕ} 0 1 = cc in omega arith)
 
@@ -151,7 +151,7 @@ on_in chunk w = goes_on w.session.on w.session.at (length chunk) w.session.laid 
 
 -- one of them is made
 pub leads_on : (chunk : List ℕ) (w u v : Desk) → on_in chunk w ≡ true → u ≡ turn_of chunk w → Leads chunk w v → Leads chunk u v
-unfolding turns_of if◌then◌else◌
+unfolding turns_of when◌then◌else◌
 leads_on chunk w u v e q l = subst (λ (x : Desk). Leads chunk x v) (sym q) (by l.turns l.enough l.same)
   where
     inside : w.session.at < length chunk
@@ -163,7 +163,7 @@ leads_on chunk w u v e q l = subst (λ (x : Desk). Leads chunk x v) (sym q) (by 
 
 -- none can be made
 pub leads_end : (chunk : List ℕ) (w v : Desk) → on_in chunk w ≡ false → Leads chunk w v → w ≡ v
-unfolding turns_of if◌then◌else◌
+unfolding turns_of when◌then◌else◌
 leads_end chunk w v e l = by l.turns l.same
   where
     by : (turns : ℕ) → turns_of turns chunk w ≡ v → w ≡ v

@@ -12,7 +12,7 @@ use lib.Dec.{ltb, eqb}
 use borrow.Author.Tests.{lt-ltb, ne_eqb, eqb-false, ltb-true, ltb-false}
 use Rattle.hexadecimal.specs.Hex.{decoded_of, bytes_of, out_decoded}
 use Rattle.hexadecimal.specs.declared.Decoded.TheVariants as decoded
-use Rattle.protocol.specs.Pick.{if◌then◌else◌}
+use Rattle.protocol.specs.Pick.{when◌then◌else◌}
 use Rattle.requests.specs.Outcome.{outcome_line}
 use Rattle.requests.specs.Retired.{retired_kind}
 use Rattle.requests.proofs.Front.{retired_front}
@@ -27,15 +27,15 @@ use Rattle.dialogue.specs.declared.Run.TheVariants as run
 
 -- a line with more digits than there is room for has no bytes
 no_bytes : (line out : List ℕ) → length out * 2 < length line → dialogue.bytes_in line out ≡ []
-unfolding dialogue.bytes_in dialogue.byte_count dialogue.count_in decoded_of if◌then◌else◌
+unfolding dialogue.bytes_in dialogue.byte_count dialogue.count_in decoded_of when◌then◌else◌
 no_bytes line out h = by (eqb (length line % 2) 1) refl
   where
     by : (t : Bool) → eqb (length line % 2) 1 ≡ t
         → take
         (dialogue.count_in
-        (if t then decoded.Bad else
-        if ltb (length out) (length line / 2) then decoded.TooLong else
-        if ltb (length (bytes_of line)) (length line / 2) then decoded.Bad else decoded.Bytes (length line / 2)))
+        (when t then decoded.Bad else
+        when ltb (length out) (length line / 2) then decoded.TooLong else
+        when ltb (length (bytes_of line)) (length line / 2) then decoded.Bad else decoded.Bytes (length line / 2)))
         (out_decoded line out) ≡ []
     by true e = refl
     by false e =
@@ -46,7 +46,7 @@ no_bytes line out h = by (eqb (length line % 2) 1) refl
 pub long_says : (r : Run) (line R Y B : List ℕ) → length R * 2 < length line → length Y * 2 < length line
     → (dialogue.answer_of r line R Y B).saying ≡ dialogue.last (dialogue.close_of r line B)
 unfolding dialogue.answer_of dialogue.first_of dialogue.refused_of dialogue.unfinished_of dialogue.close_of dialogue.last_of dialogue.begin_of dialogue.begin_by
-    dialogue.go_on dialogue.hear_of dialogue.hear_by dialogue.hear_buffer dialogue.hear_buffer_by dialogue.say_of outcome_line if◌then◌else◌
+    dialogue.go_on dialogue.hear_of dialogue.hear_by dialogue.hear_buffer dialogue.hear_buffer_by dialogue.say_of outcome_line when◌then◌else◌
 long_says run.Fresh line R Y B x y = by (retired_kind line) refl
   where
     by : (t : Bool) → retired_kind line ≡ t → (dialogue.first_of line R B).saying ≡ dialogue.last (dialogue.close_of run.Fresh line B)
@@ -58,7 +58,7 @@ long_says (run.Call call place) line R Y B x y =
 
 -- the first bytes of an unfinished line, two at least, will do for it
 pub close_front : (r : Run) (line B : List ℕ) (n : ℕ) → 2 ≤ n → n ≤ length line → dialogue.close_of r (take n line) B ≡ dialogue.close_of r line B
-unfolding dialogue.close_of dialogue.unfinished_of dialogue.last_of if◌then◌else◌
+unfolding dialogue.close_of dialogue.unfinished_of dialogue.last_of when◌then◌else◌
 close_front run.Fresh line B n two h = rw (retired_front line n two)
 close_front (run.Call call place) line B n two h =
     let k : length (take n line) ≡ n = length-take-le n line h in
@@ -66,12 +66,12 @@ close_front (run.Call call place) line B n two h =
 
 -- more input lengthens what comes before the first line feed, or leaves it as it is
 before_append : (s t : List ℕ) → (u : List ℕ) × (before_feed (s ++ t) ≡ before_feed s ++ u)
-unfolding before_feed if◌then◌else◌
+unfolding before_feed when◌then◌else◌
 before_append [] t = (before_feed t, refl)
 before_append (b ∷ s) t = by (before_append s t) (eqb b 10)
   where
     by : ((u : List ℕ) × (before_feed (s ++ t) ≡ before_feed s ++ u)) → (f : Bool)
-        → (u : List ℕ) × ((if f then [] else b ∷ before_feed (s ++ t)) ≡ (if f then [] else b ∷ before_feed s) ++ u)
+        → (u : List ℕ) × ((when f then [] else b ∷ before_feed (s ++ t)) ≡ (when f then [] else b ∷ before_feed s) ++ u)
     by (u, e) true = ([], refl)
     by (u, e) false = (u, ap (λ (l : List ℕ). b ∷ l) e)
 

@@ -8,7 +8,7 @@ use native.Mathlib.Omega.{arith}
 use lib.ListN.{length, take, replicate, length-append, length-replicate}
 use lib.Dec.{ltb}
 use borrow.Author.Tests.{lt-ltb, le-ltb}
-use Rattle.protocol.specs.Pick.{if◌then◌else◌}
+use Rattle.protocol.specs.Pick.{when◌then◌else◌}
 use Rattle.lines.specs.declared.Took.{Took}
 use Rattle.lines.specs.declared.Took.TheVariants as took
 use Rattle.hexadecimal.specs.Line.{feed_bytes}
@@ -40,13 +40,13 @@ keeps_turn (took.More have) chunk held w h = (refl, refl)
 keeps_turn took.Long chunk held w h = (length_laid w.session.laid _ w.out h, refl)
 
 keeps_turns : (turns : ℕ) (chunk : List ℕ) (w : Desk) → Keeps w (turns_of turns chunk w)
-unfolding turns_of turn_of if◌then◌else◌
+unfolding turns_of turn_of when◌then◌else◌
 keeps_turns zero chunk w = (refl, refl)
 keeps_turns (suc turns) chunk w = by (keeps_turns turns chunk (turn_of chunk w)) (goes_on w.session.on w.session.at (length chunk) w.session.laid (length w.out)) refl
   where
     by : Keeps (turn_of chunk w) (turns_of turns chunk (turn_of chunk w))
         → (f : Bool) → goes_on w.session.on w.session.at (length chunk) w.session.laid (length w.out) ≡ f
-        → Keeps w (if f then turns_of turns chunk (turn_of chunk w) else w)
+        → Keeps w (when f then turns_of turns chunk (turn_of chunk w) else w)
     by next true e =
         let g = goes_on_inside w.session.on w.session.at (length chunk) w.session.laid (length w.out) e in
         let k = keeps_turn _ chunk _ w (omega arith) in
@@ -59,14 +59,14 @@ keeps_take chunk w = keeps_turns (length chunk) chunk _
 
 -- the chunk at hand is used up
 chunk_used : (takes : ℕ) (chunk : List ℕ) (d : Desk) (more : Desk → List ℕ) → d.session.on ≡ true → length chunk ≤ d.session.at → chunk_out takes chunk d more ≡ more d
-unfolding chunk_out if◌then◌else◌
+unfolding chunk_out when◌then◌else◌
 chunk_used zero chunk d more o h = refl
 chunk_used (suc takes) chunk d more o h = rw (o, le-ltb d.session.at (length chunk) h)
 
 -- it lasts
 chunk_lasts : (takes : ℕ) (chunk : List ℕ) (d : Desk) (more : Desk → List ℕ) → d.session.on ≡ true → d.session.at < length chunk
     → chunk_out (suc takes) chunk d more ≡ laid_bytes (take_of chunk d) ++ chunk_out takes chunk (take_of chunk d) more
-unfolding chunk_out if◌then◌else◌
+unfolding chunk_out when◌then◌else◌
 chunk_lasts takes chunk d more o h = rw (o, lt-ltb d.session.at (length chunk) h)
 
 -- what is laid does not matter for what comes after it
@@ -98,7 +98,7 @@ none_laid d e = rw e
 
 -- the end of the input gives a line
 end_some : (d : Desk) → d.session.on ≡ true → longest_line ≤ length d.out → length d.buffer ≤ 8192 → 0 < length (laid_bytes (end_of d))
-unfolding end_of end_session end_out spoken_session laid_out closing bytes_said if◌then◌else◌
+unfolding end_of end_session end_out spoken_session laid_out closing bytes_said when◌then◌else◌
 end_some d o room small =
     let x : List ℕ = close_of d.session.run (take d.session.have d.held) d.buffer in
     let short = short_close d.session.run (take d.session.have d.held) d.buffer small in
@@ -176,7 +176,7 @@ module _ (first : Desk) where
     }
 
     at_ends : Ready d → length chunk ≤ d.session.at → After first (read ++ []) wrote (end_of d)
-    unfolding bytes_out chunks_out if◌then◌else◌
+    unfolding bytes_out chunks_out when◌then◌else◌
     at_ends ready used = record {
       chunks = s.chunks;
       all = s.all ∙ sym (append-nil read);
@@ -229,7 +229,7 @@ module _ (first : Desk) where
     all_after d s more e = sym s.same ∙ whole_bench.whole s.chunks first fresh.sized fresh.start ∙ ap printed (s.all ∙ rw e (sym (append-nil read)))
 
     reads_all : (d : Desk) → Before first read wrote chunk d → Ready d → length chunk ≤ d.session.at → wrote ≡ printed_so_far read
-    unfolding bytes_so_far chunks_out if◌then◌else◌
+    unfolding bytes_so_far chunks_out when◌then◌else◌
     reads_all d s ready used =
         let e = s.same (λ v. []) [] (λ v. refl) in
         let n : wrote ++ (laid_bytes d ++ chunk_out s.takes chunk d (chunks_out (λ v. []) [])) ≡ wrote =
@@ -239,7 +239,7 @@ module _ (first : Desk) where
 
     -- the last line that the end of the input would give
     waits_all : (d : Desk) → Before first read wrote chunk d → Ready d → length chunk ≤ d.session.at → length wrote < length (printed read)
-    unfolding bytes_out chunks_out if◌then◌else◌
+    unfolding bytes_out chunks_out when◌then◌else◌
     waits_all d s ready used =
         let e : bytes_out s.chunks first ≡ wrote ++ laid_bytes (end_of d) =
         ap (λ (l : List (List ℕ)). chunks_out (λ v. laid_bytes (end_of v)) l first) (sym (append-nil s.chunks)) ∙ s.same (λ v. laid_bytes (end_of v)) [] blind_end
@@ -261,14 +261,14 @@ module _ (first : Desk) where
 
 -- what a chunk gives, whatever follows it
 chunk_begins : (takes : ℕ) (chunk : List ℕ) (d : Desk) (none more : Desk → List ℕ) → ((v : Desk) → none v ≡ []) → Begins (chunk_out takes chunk d none) (chunk_out takes chunk d more)
-unfolding chunk_out if◌then◌else◌
+unfolding chunk_out when◌then◌else◌
 chunk_begins zero chunk d none more n = record { rest = more d; same = rw (n d) }
 chunk_begins (suc takes) chunk d none more n = by d.session.on (ltb d.session.at (length chunk)) (chunk_begins takes chunk (take_of chunk d) none more n)
   where
     by : (f g : Bool) → Begins (chunk_out takes chunk (take_of chunk d) none) (chunk_out takes chunk (take_of chunk d) more)
         → Begins
-        (if f then (if g then laid_bytes (take_of chunk d) ++ chunk_out takes chunk (take_of chunk d) none else none d) else [])
-        (if f then (if g then laid_bytes (take_of chunk d) ++ chunk_out takes chunk (take_of chunk d) more else more d) else [])
+        (when f then (when g then laid_bytes (take_of chunk d) ++ chunk_out takes chunk (take_of chunk d) none else none d) else [])
+        (when f then (when g then laid_bytes (take_of chunk d) ++ chunk_out takes chunk (take_of chunk d) more else more d) else [])
     by true true b = record { rest = b.rest; same = append_assoc (laid_bytes (take_of chunk d)) _ b.rest ∙ ap (λ (l : List ℕ). laid_bytes (take_of chunk d) ++ l) b.same }
     by true false b = record { rest = more d; same = rw (n d) }
     by false g b = record { rest = []; same = refl }
@@ -292,10 +292,10 @@ unfolding zeros
 zeros_start = refl
 
 one_begins : (final : Desk → List ℕ) (input : List ℕ) (chunks : List (List ℕ)) → Begins (bytes_so_far (input ∷ []) zeros) (chunks_out final (input ∷ chunks) zeros)
-unfolding bytes_so_far chunks_out if◌then◌else◌
+unfolding bytes_so_far chunks_out when◌then◌else◌
 one_begins final input chunks = chunk_begins (length input) input _ (chunks_out (λ v. []) []) (chunks_out final chunks) (λ v. by v.session.on)
   where
-    by : (f : Bool) → if◌then◌else◌ {A = List ℕ} f [] [] ≡ []
+    by : (f : Bool) → when◌then◌else◌ {A = List ℕ} f [] [] ≡ []
     by true = refl
     by false = refl
 
@@ -322,7 +322,7 @@ so_far_begins input more =
     )
 
 end_off : (d : Desk) → d.session.on ≡ true → (end_of d).session.on ≡ false
-unfolding end_of end_session spoken_session closing said_session said_of if◌then◌else◌
+unfolding end_of end_session spoken_session closing said_session said_of when◌then◌else◌
 end_off d o = rw o
 
 -- a run that goes on has not come to the end of the input

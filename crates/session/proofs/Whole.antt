@@ -10,7 +10,7 @@ use lib.Seq.{length-take-le, take-nil}
 use lib.Dec.{ltb}
 use borrow.Author.Tests.{lt-ltb, le-ltb, le-leb, ltb-true, ltb-false}
 use Rattle.hexadecimal.specs.Line.{feed_bytes, feeds}
-use Rattle.protocol.specs.Pick.{if◌then◌else◌}
+use Rattle.protocol.specs.Pick.{when◌then◌else◌}
 use Rattle.protocol.proofs.Cases.{is_true}
 use Rattle.lines.specs.Input.{lines_from, rest_from}
 use Rattle.dialogue.specs.Dialogue as dialogue
@@ -32,12 +32,12 @@ use Rattle.session.proofs.EachTurn.{Good, shown, before, written_said, Gives, ta
 -- a run that is over writes nothing more
 pub off_chunk : (takes : ℕ) (chunk : List ℕ) (w : Desk) (more : Desk → List ℕ) → ((v : Desk) → v.session.on ≡ false → more v ≡ []) → w.session.on ≡ false
     → chunk_out takes chunk w more ≡ []
-unfolding chunk_out if◌then◌else◌
+unfolding chunk_out when◌then◌else◌
 off_chunk zero chunk w more off o = off w o
 off_chunk (suc takes) chunk w more off o = rw o
 
 pub off_chunks : (final : Desk → List ℕ) (chunks : List (List ℕ)) (w : Desk) → w.session.on ≡ false → chunks_out final chunks w ≡ []
-unfolding chunks_out at_byte if◌then◌else◌
+unfolding chunks_out at_byte when◌then◌else◌
 off_chunks final [] w o = rw o
 off_chunks final (chunk ∷ chunks) w o = off_chunk (length chunk) chunk _ (chunks_out final chunks) (off_chunks final chunks) o
 
@@ -57,7 +57,7 @@ module _ (view : List (List ℕ) → List (List ℕ) → List ℕ) (Ends : List 
   takes_give : (takes : ℕ) (chunk t : List ℕ) (more : Desk → List ℕ) → ((v : Desk) → v.session.on ≡ false → more v ≡ [])
       → ((v : Desk) → Good v → Gives view Ends step none early more v t) → (w : Desk) → Good w → w.session.at ≤ length chunk → length chunk ≤ takes + w.session.at
       → Gives view Ends step none early (λ v. chunk_out takes chunk v more) w (drop w.session.at chunk ++ t)
-  unfolding chunk_out if◌then◌else◌
+  unfolding chunk_out when◌then◌else◌
   takes_give zero chunk t more off gives w good le h lines rest p q a z = used_up chunk t more gives w good (omega arith) lines rest p q a z
   takes_give (suc takes) chunk t more off gives w good le h lines rest p q a z =
       sym (is_true w.session.on _ _ _ good.on (sym (by (λ v g at k. takes_give takes chunk t more off gives v g at k) (ltb w.session.at (length chunk)) refl)))
@@ -65,14 +65,14 @@ module _ (view : List (List ℕ) → List (List ℕ) → List ℕ) (Ends : List 
       by : ((v : Desk) → Good v → v.session.at ≤ length chunk → length chunk ≤ takes + v.session.at
           → Gives view Ends step none early (λ u. chunk_out takes chunk u more) v (drop v.session.at chunk ++ t))
           → (f : Bool) → ltb w.session.at (length chunk) ≡ f
-          → (if f then laid_bytes (take_of chunk w) ++ chunk_out takes chunk (take_of chunk w) more else more w) ≡ view lines (shown w lines rest)
+          → (when f then laid_bytes (take_of chunk w) ++ chunk_out takes chunk (take_of chunk w) more else more w) ≡ view lines (shown w lines rest)
       by next true e =
           take_gives view Ends step none early (λ v. chunk_out takes chunk v more) (λ v o. off_chunk takes chunk v more off o) chunk t w.session.at
           (λ v g lt at. next v g at (omega arith)) w good refl (ltb-true w.session.at (length chunk) e) lines rest p q a z
       by next false e = used_up chunk t more gives w good (ltb-false w.session.at (length chunk) e) lines rest p q a z
 
   chunks_give : (chunks : List (List ℕ)) (w : Desk) → Good w → Gives view Ends step none early (chunks_out final chunks) w (concat chunks)
-  unfolding chunks_out at_byte concat lines_from rest_from if◌then◌else◌
+  unfolding chunks_out at_byte concat lines_from rest_from when◌then◌else◌
   chunks_give [] w good lines rest p q a z =
       let e = subst (λ (ls : List (List ℕ)). AllShort (shown w ls rest) → final w ≡ view ls (shown w ls rest)) (sym p) (λ b. close w rest good z q b) a in
       sym (is_true w.session.on _ _ _ good.on (sym e))
@@ -102,7 +102,7 @@ module _ (view : List (List ℕ) → List (List ℕ) → List ℕ) (Ends : List 
 
 -- the last line, where the input has ended
 close_end : (w : Desk) (rest : List ℕ) → Good w → Unit {0} → rest ≡ before w → AllShort (shown w [] rest) → laid_bytes (end_of w) ≡ feeds (shown w [] rest)
-unfolding end_of end_session end_out spoken_session laid_out closing machine_of feeds dialogue.bytes_said if◌then◌else◌
+unfolding end_of end_session end_out spoken_session laid_out closing machine_of feeds dialogue.bytes_said when◌then◌else◌
 close_end w rest good z e a =
     let x = dialogue.close_of w.session.run (before w) w.buffer in
     let short : Short x = rw e at a.0 in
@@ -121,11 +121,11 @@ none_so_far lines n = rw (take-nil {A = List ℕ} (length lines + n))
 
 -- nothing more is laid_bytes where the line that is begun has room
 early_none : (rest : List ℕ) → length rest ≤ held_bytes → early rest ≡ 0
-unfolding early if◌then◌else◌
+unfolding early when◌then◌else◌
 early_none rest h = rw (le-ltb held_bytes (length rest) h)
 
 early_one : (rest : List ℕ) → held_bytes < length rest → early rest ≡ 1
-unfolding early if◌then◌else◌
+unfolding early when◌then◌else◌
 early_one rest h = rw (lt-ltb held_bytes (length rest) h)
 
 one_so_far : (whole rest x : List ℕ) → rest ≡ whole → held_bytes < length rest → feeds (take (length {A = List ℕ} [] + early whole) (x ∷ [])) ≡ feed_bytes x
@@ -143,13 +143,13 @@ close_so_far w whole rest good z e =
 
 -- the first turn of a `take` uses a byte at least, and no turn after it goes back
 turns_stay : (turns : ℕ) (chunk : List ℕ) (w : Desk) → w.session.at ≤ (turns_of turns chunk w).session.at
-unfolding turns_of if◌then◌else◌
+unfolding turns_of when◌then◌else◌
 turns_stay zero chunk w = omega arith
 turns_stay (suc turns) chunk w = by (turns_stay turns chunk (turn_of chunk w)) (goes_on w.session.on w.session.at (length chunk) w.session.laid (length w.out)) refl
   where
     by : (turn_of chunk w).session.at ≤ (turns_of turns chunk (turn_of chunk w)).session.at
         → (f : Bool) → goes_on w.session.on w.session.at (length chunk) w.session.laid (length w.out) ≡ f
-        → w.session.at ≤ (if f then turns_of turns chunk (turn_of chunk w) else w).session.at
+        → w.session.at ≤ (when f then turns_of turns chunk (turn_of chunk w) else w).session.at
     by next true e =
         let g = goes_on_inside w.session.on w.session.at (length chunk) w.session.laid (length w.out) e in
         omega (arith, turn_uses chunk w g.1, next)
@@ -157,7 +157,7 @@ turns_stay (suc turns) chunk w = by (turns_stay turns chunk (turn_of chunk w)) (
 
 pub take_uses : (chunk : List ℕ) (w : Desk) → longest_line ≤ length w.out → w.session.on ≡ true → w.session.at < length chunk
     → w.session.at < (take_of chunk w).session.at
-unfolding take_of turns_of at_byte goes_on if◌then◌else◌
+unfolding take_of turns_of at_byte goes_on when◌then◌else◌
 take_uses chunk w room o inside = by (length chunk) refl
   where
     fresh : Desk

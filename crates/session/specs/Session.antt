@@ -1,7 +1,7 @@
 -- The bench program without its reads and writes, turn by turn. (01, The bench program)
 -- Assumes nothing.
 use Rattle.std.specs.Prelude.{ℕ, zero, suc, ◌+◌, ◌-◌, Bool, true, false, List, ◌++◌, length, take, drop, ltb, leb}
-use Rattle.protocol.specs.Pick.{if◌then◌else◌}
+use Rattle.protocol.specs.Pick.{when◌then◌else◌}
 use Rattle.lines.specs.Lines.{took_of, held_after}
 use Rattle.lines.specs.declared.Took.{Took}
 use Rattle.lines.specs.declared.Took.TheVariants as took
@@ -71,13 +71,13 @@ turn_of chunk d =
 
 -- whether another turn can be made: the run goes on, the chunk lasts, and the longest line has room after what is laid
 unfoldable pub goes_on : Bool → ℕ → ℕ → ℕ → ℕ → Bool
-goes_on on at end laid room = if on then (if ltb at end then leb (laid + longest_line) room else false) else false
+goes_on on at end laid room = when on then (when ltb at end then leb (laid + longest_line) room else false) else false
 
 -- turn after turn
 unfoldable pub turns_of : ℕ → List ℕ → Desk → Desk
 turns_of zero chunk d = d
 turns_of (suc turns) chunk d =
-    if goes_on d.session.on d.session.at (length chunk) d.session.laid (length d.out) then turns_of turns chunk (turn_of chunk d) else d
+    when goes_on d.session.on d.session.at (length chunk) d.session.laid (length d.out) then turns_of turns chunk (turn_of chunk d) else d
 
 -- the lines of a chunk, once what was laid before is written; a turn for each byte is enough
 unfoldable pub take_of : List ℕ → Desk → Desk
@@ -86,10 +86,10 @@ take_of chunk d =
 
 -- the input has ended: a last line, unless the run is over
 unfoldable pub end_session : Session → List ℕ → List ℕ → ℕ → Session
-end_session s held buffer n = if s.on then spoken_session (closing s.run (take s.have held) buffer) s.at 0 n else at_byte s s.at
+end_session s held buffer n = when s.on then spoken_session (closing s.run (take s.have held) buffer) s.at 0 n else at_byte s s.at
 
 unfoldable pub end_out : Session → List ℕ → List ℕ → List ℕ → List ℕ
-end_out s held buffer out = if s.on then laid_out (closing s.run (take s.have held) buffer) 0 out else out
+end_out s held buffer out = when s.on then laid_out (closing s.run (take s.have held) buffer) 0 out else out
 
 unfoldable pub end_of : Desk → Desk
 end_of d =

@@ -5,7 +5,7 @@ use Prim.Native.String.{String}
 use Rattle.hexadecimal.specs.Line.{feeds}
 use Rattle.hexadecimal.specs.Text.{ascii}
 use Rattle.smbus_pec.specs.Pec.{bit_step, bit_steps, byte_step, pec_of}
-use Rattle.protocol.specs.Pick.{if◌then◌else◌}
+use Rattle.protocol.specs.Pick.{when◌then◌else◌}
 use Rattle.protocol.specs.Bytes as bytes
 use Rattle.protocol.specs.Frame as frame
 use Rattle.protocol.specs.Reply as reply
@@ -217,7 +217,7 @@ Hold (text input output ∷ more) = (printed (ascii input) ≡ ascii output) × 
 Hold (run lines rest out ∷ more) = (printed (feeds lines ++ rest) ≡ feeds out) × Hold more
 
 pub runs_hold : Hold runs
-unfolding ascii bit_step bit_steps byte_step pec_of if◌then◌else◌ bytes.over bytes.block_in bytes.stored_at bytes.send_of frame.sealed frame.pair_of frame.mac_bytes frame.command_bytes frame.register_bytes frame.info_bytes frame.laid_of frame.work_laid
+unfolding ascii bit_step bit_steps byte_step pec_of when◌then◌else◌ bytes.over bytes.block_in bytes.stored_at bytes.send_of frame.sealed frame.pair_of frame.mac_bytes frame.command_bytes frame.register_bytes frame.info_bytes frame.laid_of frame.work_laid
     reply.plain_ask reply.mac_ask reply.lead_of reply.around_of reply.bytes_asked reply.checked_of reply.heard_of reply.data_of in_window case◌waiting◌ended◌ case◌acknowledged◌error◌timeout◌ case◌retry◌spent◌ budget.wait_of budget.failed budget.nothing budget.waited budget.tallied
     bus.write_of bus.phase_after bus.fits_of limit.windowed limit.commanded limit.measured limit.admitted frames.is_plain frames.is_flash frames.first_address frames.frame_count frames.half_bytes frames.block_bytes frames.info_cbytes frames.bytes_at
     writing.plan_of writing.start_of writing.own_bytes writing.due_bytes writing.shown_of writing.work_shown writing.next_of writing.work_after writing.part_of writing.advance_of writing.gave_up writing.retry_of writing.end_of writing.fail_of writing.settle_of writing.replied_of writing.counted_of writing.report_of

@@ -6,7 +6,7 @@ use mathlib.Core.Bool.{Bool, true, false}
 use mathlib.Core.List.{List, [], ◌∷◌}
 use lib.Dec.{eqb}
 use lib.ListN.{length}
-use Rattle.protocol.specs.Pick.{if◌then◌else◌}
+use Rattle.protocol.specs.Pick.{when◌then◌else◌}
 use Rattle.protocol.specs.declared.common.Config.{Config}
 use Rattle.protocol.specs.declared.error.Answer.{Answer}
 use Rattle.protocol.specs.declared.error.Answer.TheVariants as answer
@@ -25,8 +25,6 @@ use Rattle.writing.specs.declared.call.WriteReported.TheVariants as wrote
 use Rattle.reading.specs.Pick.{case◌refused◌fault◌headed◌block◌}
 use Rattle.reading.specs.Reading as reading
 use Rattle.reading.specs.declared.call.ReadCall.{ReadCall}
-use Rattle.reading.specs.declared.call.ReadReported.{ReadReported}
-use Rattle.reading.specs.declared.call.ReadReported.TheVariants as got
 use Rattle.reading.specs.declared.call.Verdict.{Verdict}
 use Rattle.reading.specs.declared.call.Verdict.TheVariants as verdict
 use Rattle.calls.specs.Kind.{plan_of}
@@ -78,7 +76,7 @@ untimed_in (reported.Taken c) = reported.Taken (untimed_call c)
 
 module _ (c : WriteCall) where
   fails_w : (why : Answer) → untimed_w (writing.fail_of (writing.counted_of c) why) ≡ untimed_w (writing.fail_of (writing.counted_of (untimed_w c)) why)
-  unfolding writing.fail_of writing.counted_of writing.retry_of writing.end_of failed waited tallied case◌retry◌spent◌ if◌then◌else◌
+  unfolding writing.fail_of writing.counted_of writing.retry_of writing.end_of failed waited tallied case◌retry◌spent◌ when◌then◌else◌
   fails_w why = by (eqb c.budget.left 0) refl
     where
       by : (t : Bool) → eqb c.budget.left 0 ≡ t → untimed_w (writing.fail_of (writing.counted_of c) why) ≡ untimed_w (writing.fail_of (writing.counted_of (untimed_w c)) why)
@@ -92,7 +90,7 @@ module _ (c : WriteCall) where
   settles_w outcome.Timeout = fails_w answer.Timeout
 
   same_w : (o : Outcome) (r n w : ℕ) → untimed_in (wrote_of (writing.report_of c o r n w)) ≡ untimed_in (wrote_of (writing.report_of (untimed_w c) o r n w))
-  unfolding writing.report_of wrote_of case◌waiting◌ended◌ if◌then◌else◌
+  unfolding writing.report_of wrote_of case◌waiting◌ended◌ when◌then◌else◌
   same_w o r n w = by c.phase refl (bus.fits_of c.task.lent n w) refl (writing.replied_of o r) refl
     where
       by : (p : Phase) → c.phase ≡ p → (t : Bool) → bus.fits_of c.task.lent n w ≡ t → (s : Bool) → writing.replied_of o r ≡ s
@@ -111,7 +109,7 @@ module _ (c : WriteCall) where
 
 module _ (c : ReadCall) where
   fails_r : (why : Answer) → untimed_r (reading.fail_of (reading.counted_of c) why) ≡ untimed_r (reading.fail_of (reading.counted_of (untimed_r c)) why)
-  unfolding reading.fail_of reading.counted_of reading.retry_of reading.end_of failed waited tallied case◌retry◌spent◌ if◌then◌else◌
+  unfolding reading.fail_of reading.counted_of reading.retry_of reading.end_of failed waited tallied case◌retry◌spent◌ when◌then◌else◌
   fails_r why = by (eqb c.budget.left 0) refl
     where
       by : (t : Bool) → eqb c.budget.left 0 ≡ t → untimed_r (reading.fail_of (reading.counted_of c) why) ≡ untimed_r (reading.fail_of (reading.counted_of (untimed_r c)) why)

@@ -4,7 +4,7 @@ use Prim.Native.Nat.{ℕ}
 use mathlib.Core.Path.{◌≡◌, refl}
 use mathlib.Core.Bool.{Bool, true, false}
 use lib.Dec.{eqb}
-use Rattle.protocol.specs.Pick.{if◌then◌else◌}
+use Rattle.protocol.specs.Pick.{when◌then◌else◌}
 use Rattle.protocol.specs.declared.common.Config.{Config}
 use Rattle.writing.specs.Writing as writing
 use Rattle.writing.specs.declared.call.WritePlan.{WritePlan}
@@ -43,7 +43,7 @@ module _ (config : Config) (p n : ℕ) where
 
   -- a command is a write or a read, with waits that grow or do not
   command_paced : (address : ℕ) (growing : Bool) → plan_of (kind.DispatchCommand address) (with_growing growing config) p n ≡ paced growing (plan_of (kind.DispatchCommand address) config p n)
-  unfolding plan_of command_reads dispatch_command if◌then◌else◌
+  unfolding plan_of command_reads dispatch_command when◌then◌else◌
   command_paced address growing = by (eqb n 0) refl
     where
       by : (t : Bool) → eqb n 0 ≡ t → plan_of (kind.DispatchCommand address) (with_growing growing config) p n ≡ paced growing (plan_of (kind.DispatchCommand address) config p n)

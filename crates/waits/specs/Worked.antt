@@ -1,7 +1,7 @@
 -- Waits that grow, and the budget that they are of, in figures: runs computed from the calls' own definitions. (02, W-203, W-211)
 -- Assumes nothing.
 use Rattle.std.specs.Prelude.{ℕ, ◌≡◌, refl, Bool, true, false, List, [], ◌∷◌, ◌++◌, map, replicate}
-use Rattle.protocol.specs.Pick.{if◌then◌else◌}
+use Rattle.protocol.specs.Pick.{when◌then◌else◌}
 use Rattle.protocol.specs.Window.{in_window}
 use Rattle.protocol.specs.Reply as reply
 use Rattle.protocol.specs.declared.common.Config.{Config}
@@ -90,7 +90,7 @@ runs =
 pub runs_count : map counted runs ≡ map expected runs
 unfolding feed
     start_with start_of plan_of wrote_of got_of report_of tally_of
-    if◌then◌else◌ in_window case◌waiting◌ended◌ case◌acknowledged◌error◌timeout◌ case◌retry◌spent◌ wait_of failed nothing waited tallied phase_after fits_of windowed commanded measured admitted
+    when◌then◌else◌ in_window case◌waiting◌ended◌ case◌acknowledged◌error◌timeout◌ case◌retry◌spent◌ wait_of failed nothing waited tallied phase_after fits_of windowed commanded measured admitted
     frames.first_address frames.frame_count writing.plan_of writing.start_of writing.advance_of writing.retry_of writing.end_of writing.fail_of writing.settle_of writing.replied_of writing.counted_of writing.report_of
     case◌refused◌fault◌headed◌block◌ parts.has_head parts.first_address parts.read_count parts.ask_of parts.block_ask reading.plain_plan reading.mac_plan reading.start_of reading.due_ask reading.headed_of reading.advance_of reading.retry_of reading.end_of reading.fail_of reading.heard_head reading.verdict_of reading.heard_block reading.acknowledged_of reading.weigh_of reading.judge_of reading.counted_of reading.report_of
     reply.plain_ask reply.mac_ask reply.lead_of reply.around_of reply.bytes_asked reply.heard_of

@@ -1,7 +1,7 @@
 -- Which frames a writing call sends. (01, Frames and retries)
 -- Assumes nothing.
 use Rattle.std.specs.Prelude.{ℕ, ◌+◌, Bool, true, false, List, [], take, drop, ltb, eqb}
-use Rattle.protocol.specs.Pick.{if◌then◌else◌}
+use Rattle.protocol.specs.Pick.{when◌then◌else◌}
 use Rattle.protocol.specs.Bytes.{blocks_of, block_start}
 use Rattle.protocol.specs.Frame.{pair_of, fixed_pair, mac_bytes, register_bytes, info_bytes}
 use Rattle.protocol.specs.declared.frame.MacCommand.TheVariants as mac
@@ -50,7 +50,7 @@ frame_count (frames.DataFlash start) n = blocks_of n
 
 -- half i of an access key: the lower half's frame, then the upper half's, each low byte first
 unfoldable pub half_bytes : ℕ → ℕ → ℕ → List ℕ
-half_bytes lower upper i = if eqb i 0 then mac_bytes (pair_of lower) [] else mac_bytes (pair_of upper) []
+half_bytes lower upper i = when eqb i 0 then mac_bytes (pair_of lower) [] else mac_bytes (pair_of upper) []
 
 -- data-flash block i, at its own address
 unfoldable pub block_bytes : ℕ → ℕ → List ℕ → List ℕ
@@ -58,7 +58,7 @@ block_bytes start i payload = mac_bytes (pair_of (start + block_start i)) (take 
 
 -- manufacturer info C: both halves of the access key, then its own frame
 unfoldable pub info_cbytes : ℕ → ℕ → ℕ → List ℕ → List ℕ
-info_cbytes lower upper i payload = if ltb i 2 then half_bytes lower upper i else mac_bytes (fixed_pair mac.MfgInfoC) payload
+info_cbytes lower upper i payload = when ltb i 2 then half_bytes lower upper i else mac_bytes (fixed_pair mac.MfgInfoC) payload
 
 -- frame i, before its PEC
 unfoldable pub bytes_at : Frames → ℕ → List ℕ → List ℕ

@@ -1,7 +1,7 @@
 -- A writing call, step by step. (01, The step machine; Frames and retries)
 -- Assumes nothing.
 use Rattle.std.specs.Prelude.{ℕ, Bool, true, false, List, length, eqb}
-use Rattle.protocol.specs.Pick.{if◌then◌else◌}
+use Rattle.protocol.specs.Pick.{when◌then◌else◌}
 use Rattle.protocol.specs.Bytes.{send_of, block_start}
 use Rattle.protocol.specs.Frame.{laid_of, work_laid}
 use Rattle.protocol.specs.declared.common.Config.{Config}
@@ -46,7 +46,7 @@ start_of plan n w = record {
 
 -- a plain write with no PEC sends the caller's own bytes
 unfoldable pub own_bytes : WriteCall → Bool
-own_bytes call = if is_plain call.task.plan.frames then (if call.task.plan.pec then false else true) else false
+own_bytes call = when is_plain call.task.plan.frames then (when call.task.plan.pec then false else true) else false
 
 -- the frame that is due, before its PEC
 unfoldable pub due_bytes : WriteCall → List ℕ → List ℕ
@@ -62,8 +62,8 @@ work_shown call payload work = work_laid call.task.plan.pec (due_bytes call payl
 unfoldable pub next_of : WriteCall → List ℕ → ℕ → Transfer
 next_of call payload w =
     case call.phase
-    waiting (if fits_of call.task.lent (length payload) w then
-    (if own_bytes call then transfer.Write (length payload) else shown_of call payload w)
+    waiting (when fits_of call.task.lent (length payload) w then
+    (when own_bytes call then transfer.Write (length payload) else shown_of call payload w)
     else transfer.Refused answer.WrongBuffer)
     ended transfer.Ended
 
@@ -71,14 +71,14 @@ next_of call payload w =
 unfoldable pub work_after : WriteCall → List ℕ → List ℕ → List ℕ
 work_after call payload work =
     case call.phase
-    waiting (if fits_of call.task.lent (length payload) (length work) then
-    (if own_bytes call then work else work_shown call payload work)
+    waiting (when fits_of call.task.lent (length payload) (length work) then
+    (when own_bytes call then work else work_shown call payload work)
     else work)
     ended (λ a. work)
 
 -- the part to send, from whichever holds it
 unfoldable pub part_of : WriteCall → List ℕ → List ℕ → ℕ → List ℕ
-part_of call payload work n = if own_bytes call then send_of payload work false n else send_of payload work true n
+part_of call payload work n = when own_bytes call then send_of payload work false n else send_of payload work true n
 
 -- the next frame, with a budget of its own
 unfoldable pub advance_of : WriteCall → WriteCall
@@ -92,7 +92,7 @@ advance_of call = record {
 
 -- a data-flash write that failed after at least one block says how much was acknowledged, in place of 1 or 2
 unfoldable pub gave_up : Frames → ℕ → Answer → Answer
-gave_up fs sent why = if is_flash fs then (if eqb sent 0 then why else answer.PartialDataFlashWrite (block_start sent)) else why
+gave_up fs sent why = when is_flash fs then (when eqb sent 0 then why else answer.PartialDataFlashWrite (block_start sent)) else why
 
 -- the same frame again, after a wait of so many milliseconds
 unfoldable pub retry_of : WriteCall → Budget → ℕ → WriteCall
@@ -131,7 +131,7 @@ settle_of call o =
 unfoldable pub replied_of : Outcome → ℕ → Bool
 replied_of o r =
     case o
-    acknowledged (if eqb r 0 then false else true)
+    acknowledged (when eqb r 0 then false else true)
     error (λ code. false)
     timeout false
 
@@ -149,7 +149,7 @@ counted_of call = record {
 unfoldable pub report_of : WriteCall → Outcome → ℕ → ℕ → ℕ → WriteReported
 report_of call o r n w =
     case call.phase
-    waiting (if fits_of call.task.lent n w then
-    (if replied_of o r then reported.Refused answer.WrongReply call else reported.Taken (settle_of (counted_of call) o))
+    waiting (when fits_of call.task.lent n w then
+    (when replied_of o r then reported.Refused answer.WrongReply call else reported.Taken (settle_of (counted_of call) o))
     else reported.Refused answer.WrongBuffer call)
     ended (λ a. reported.Refused answer.NothingOutstanding call)

@@ -2,14 +2,14 @@
 -- Assumes nothing.
 use mathlib.Core.Path.{◌≡◌, refl, sym, ◌∙◌}
 use mathlib.Core.Bool.{true, false}
-use Rattle.protocol.specs.Pick.{if◌then◌else◌}
+use Rattle.protocol.specs.Pick.{when◌then◌else◌}
 use Rattle.requests.specs.Retired.{retired_kind}
 use Rattle.dialogue.specs.Dialogue.{first_of, first_request, first_buffer}
 use Rattle.dialogue.proofs.Laws.{bytes_in_lem}
 use Rattle.dialogue.proofs.first.Goals as goal
 
 pub returns-then-retired_kind : goal.returns-then-retired_kind
-unfolding first_of first_request first_buffer if◌then◌else◌
+unfolding first_of first_request first_buffer when◌then◌else◌
 returns-then-retired_kind c =
     let line = c.args.line.now in
     let retired : retired_kind line ≡ true = sym c.retired_kind.ensures ∙ c.if-retired_kind.true in
@@ -17,7 +17,7 @@ returns-then-retired_kind c =
     rw retired (e.0, refl, refl, e.1)
 
 pub returns : goal.returns
-unfolding first_of first_request first_buffer if◌then◌else◌
+unfolding first_of first_request first_buffer when◌then◌else◌
 returns c =
     let line = c.args.line.now in
     let kept : retired_kind line ≡ false = sym c.retired_kind.ensures ∙ c.if-retired_kind.false in

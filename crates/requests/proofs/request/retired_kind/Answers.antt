@@ -2,7 +2,7 @@
 -- Assumes nothing.
 use mathlib.Core.Path.{◌≡◌, sym, ◌∙◌}
 use lib.ListN.{get_or}
-use Rattle.protocol.specs.Pick.{if◌then◌else◌}
+use Rattle.protocol.specs.Pick.{when◌then◌else◌}
 use Rattle.protocol.proofs.Cases.{cases}
 use Rattle.requests.specs.Retired.{retired_kind}
 use Rattle.requests.proofs.request.retired_kind.Goals as goal
@@ -16,7 +16,7 @@ unfolding retired_kind
 returns-in-67 c = search cases
 
 pub returns-in-68 : goal.returns-in-68
-unfolding retired_kind if◌then◌else◌
+unfolding retired_kind when◌then◌else◌
 returns-in-68 c =
     let line = c.args.line.now in
     let first : get_or line 0 0 ≡ 0x30 = sym c.byte.ensures ∙ c.if-byte-ne48.false in
