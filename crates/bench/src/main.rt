@@ -7,7 +7,6 @@ ghost use Rattle.session.specs.Session.{start_of, at_byte, take_of};
 ghost use Rattle.bench.specs.Ending.{Makes, Stopped};
 
 use chunks::Brought;
-use libc::STDOUT_FILENO;
 use protocol::bytes;
 use session::{BUFFER_BYTES, HELD_BYTES, OUT_BYTES, OUTCOME_BYTES, REQUEST_BYTES, Session};
 
@@ -19,19 +18,21 @@ struct Written {
 }
 
 // Writes the bytes that are laid. Where that fails, it tells why on standard error.
-fn write(session: Session, out: &[u8; OUT_BYTES]) -> Written
+fn write<R: Print + Eprint + Alloc>(rt: &R, session: Session, out: &[u8; OUT_BYTES]) -> Written
     ensures { result.all ≡ true → result.session ≡ at_byte session session.at }
 {
-    if io::write_all(STDOUT_FILENO, bytes::front(out, session.laid)) {
-        return Written {
+    match rt.write_all(bytes::front(out, session.laid)) {
+        Ok(()) => Written {
             all: true,
             session: session::written(session),
-        };
-    }
-    os::fail(b"bench: standard output");
-    Written {
-        all: false,
-        session,
+        },
+        Err(error) => {
+            chunks::tell(rt, "bench: standard output", error);
+            Written {
+                all: false,
+                session,
+            }
+        }
     }
 }
 
@@ -68,7 +69,8 @@ struct After {
 }
 
 // One round: lines of the chunk, while it lasts; after that the next chunk, or the end of the input. A read that fails makes none.
-fn round(
+fn round<R: Input + Eprint + Alloc>(
+    rt: &R,
     session: Session,
     n: usize,
     chunk: &mut [u8; 65536],
@@ -89,7 +91,7 @@ fn round(
             n,
         };
     }
-    match chunks::read(chunk, b"bench: standard input") {
+    match chunks::read(rt, chunk, "bench: standard input") {
         Brought::Bytes(k) => After {
             made: true,
             session: session::next_chunk(session),
@@ -130,7 +132,8 @@ struct Stop {
 }
 
 // The whole run, round by round. Its rounds are counted down, since every loop has to be proved to end.
-fn run(
+fn run<R: Input + Print + Eprint + Alloc>(
+    rt: &R,
     chunk: &mut [u8; 65536],
     held: &mut [u8; HELD_BYTES],
     request: &mut [u8; REQUEST_BYTES],
@@ -152,7 +155,7 @@ fn run(
                 left,
             };
         }
-        let round = round(session, n, chunk, held, request, outcome, buffer, out);
+        let round = round(rt, session, n, chunk, held, request, outcome, buffer, out);
         let after = round.session;
         if !round.made {
             return Stop {
@@ -163,7 +166,7 @@ fn run(
         }
         n = round.n;
         left -= 1;
-        let wrote = write(after, out);
+        let wrote = write(rt, after, out);
         if !wrote.all {
             return Stop {
                 ending: Ending::Unwritten,
@@ -180,7 +183,7 @@ fn run(
     }
 }
 
-fn main() {
+fn main(rt: HostRuntime) {
     let mut chunk = io::large_buffer();
     let mut held = [0u8; HELD_BYTES];
     let mut request = [0u8; REQUEST_BYTES];
@@ -188,6 +191,7 @@ fn main() {
     let mut buffer = [0u8; BUFFER_BYTES];
     let mut out = [0u8; OUT_BYTES];
     run(
+        &rt,
         &mut chunk,
         &mut held,
         &mut request,

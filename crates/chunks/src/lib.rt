@@ -1,9 +1,10 @@
-// Standard input, chunk by chunk.
+// Standard input, chunk by chunk, and what is told on standard error.
 #![tactic(auto)]
 
 ghost use Rattle.chunks.specs.Brings.{Brings};
 
-use libc::STDIN_FILENO;
+use std::io;
+use std::io::Read;
 
 // What a read brought.
 #[derive(Clone, Copy)]
@@ -17,18 +18,31 @@ pub enum Brought {
 }
 
 // Reads the next chunk. An error is told after the name that the caller has for its input.
-pub fn read(chunk: &mut [u8], name: &[u8]) -> Brought
+pub fn read<R: Input + Eprint + Alloc>(rt: &R, chunk: &mut [u8], name: &str) -> Brought
     ensures { Brings result chunk.new }
 {
-    let got = libc::read(STDIN_FILENO, chunk);
-    if got < 0 {
-        os::fail(name);
-        return Brought::Failed;
+    match rt.reader().read(chunk) {
+        Ok(0) => Brought::End,
+        Ok(n) => Brought::Bytes(n),
+        Err(error) => {
+            tell(rt, name, error);
+            Brought::Failed
+        }
     }
-    let n = io::count(got, chunk);
-    if n == 0 {
-        Brought::End
-    } else {
-        Brought::Bytes(n)
+}
+
+// Tells on standard error what failed, as the caller names it, and why. Where that cannot be told either, nothing is.
+pub fn tell<R: Eprint + Alloc>(rt: &R, name: &str, error: io::Error) {
+    let _ = match error.to_string(rt.alloc()) {
+        Ok(text) => rt.eprintln(format_args!("{name}: {}", reason(text.as_str()))),
+        Err(_) => rt.eprintln(format_args!("{name}: {error}")),
+    };
+}
+
+// An error's text without the number that the system has for it.
+fn reason(text: &str) -> &str {
+    match text.split_once(" (os error ") {
+        Some((front, _)) => front,
+        None => text,
     }
 }

@@ -9,7 +9,6 @@ ghost use Rattle.packs.specs.Count.{feed_of};
 ghost use Rattle.count.specs.Ending.{led_by, numbers_by, Stopped, text_at};
 
 use chunks::Brought;
-use libc::STDOUT_FILENO;
 use packs::Reader;
 use protocol::bytes;
 use report::REPORT_BYTES;
@@ -71,7 +70,11 @@ fn after(
 }
 
 // Reads the input, chunk by chunk. The chunks are counted down, since every loop has to be proved to end.
-fn run(chunk: &mut [u8; CHUNK_BYTES], numbers: &mut [u16; 256]) -> Stop
+fn run<R: Input + Eprint + Alloc>(
+    rt: &R,
+    chunk: &mut [u8; CHUNK_BYTES],
+    numbers: &mut [u16; 256],
+) -> Stop
     requires { numbers.old ≡ replicate 256 0 }
     ensures { Stopped result numbers.new }
 {
@@ -85,7 +88,7 @@ fn run(chunk: &mut [u8; CHUNK_BYTES], numbers: &mut [u16; 256]) -> Stop
                 left,
             };
         }
-        let brought = chunks::read(chunk, b"count: standard input");
+        let brought = chunks::read(rt, chunk, "count: standard input");
         match after(reader, brought, chunk, numbers) {
             Led::On(next) => {
                 reader = next;
@@ -121,17 +124,17 @@ fn lay(stop: Stop, numbers: &[u16; 256], out: &mut [u8; REPORT_BYTES]) -> usize
 }
 
 // Writes the first n bytes. Where that fails, it tells why on standard error.
-fn write(out: &[u8; REPORT_BYTES], n: usize) {
-    if !io::write_all(STDOUT_FILENO, bytes::front(out, n)) {
-        os::fail(b"count: standard output");
+fn write<R: Print + Eprint + Alloc>(rt: &R, out: &[u8; REPORT_BYTES], n: usize) {
+    if let Err(error) = rt.write_all(bytes::front(out, n)) {
+        chunks::tell(rt, "count: standard output", error);
     }
 }
 
-fn main() {
+fn main(rt: HostRuntime) {
     let mut chunk = [0u8; CHUNK_BYTES];
     let mut numbers = [0u16; 256];
     let mut out = [0u8; REPORT_BYTES];
-    let stop = run(&mut chunk, &mut numbers);
+    let stop = run(&rt, &mut chunk, &mut numbers);
     let n = lay(stop, &numbers, &mut out);
-    write(&out, n);
+    write(&rt, &out, n);
 }

@@ -7,10 +7,12 @@ mod reader;
 
 use crate::reader::{HELD_BYTES, Reader};
 use dialogue::{Run, Said, Turned};
-use libc::STDOUT_FILENO;
 use protocol::bytes;
 use requests::fields;
 use session::{BUFFER_BYTES, LINE_BYTES, OUTCOME_BYTES, REQUEST_BYTES};
+use std::io::Read;
+use std::rt::{Env, Files};
+use std::{env, fs, io};
 
 // A case that runs: the call, whether it is over, and whether all that was printed is what the list has.
 #[derive(Drop)]
@@ -145,11 +147,13 @@ fn judged(run: Run, last: bool, same: bool) -> Case {
 }
 
 // Runs a case whose words were read.
-fn run_case(
+fn run_case<F: Read>(
     input: Reader,
     expected: Reader,
+    put_file: &mut F,
     put_chunk: &mut [u8; 65536],
     put: &mut [u8; HELD_BYTES],
+    wanted_file: &mut F,
     wanted_chunk: &mut [u8; 65536],
     wanted: &mut [u8; HELD_BYTES],
     request: &mut [u8; REQUEST_BYTES],
@@ -166,8 +170,8 @@ fn run_case(
     };
     let mut turns = u64::MAX;
     while turns > 0 && !case.over {
-        a = reader::seek(a, b'I', put_chunk, put);
-        b = reader::seek(b, b'O', wanted_chunk, wanted);
+        a = reader::seek(a, b'I', put_file, put_chunk, put);
+        b = reader::seek(b, b'O', wanted_file, wanted_chunk, wanted);
         case = step(case, a, put, b, wanted, request, outcome, buffer, out);
         turns -= 1;
     }
@@ -179,10 +183,15 @@ fn run_case(
 }
 
 // A case that was run, and nothing more was to come out.
-fn ended(ran: Ran, wanted_chunk: &mut [u8; 65536], wanted: &mut [u8; HELD_BYTES]) -> Ran {
+fn ended<F: Read>(
+    ran: Ran,
+    wanted_file: &mut F,
+    wanted_chunk: &mut [u8; 65536],
+    wanted: &mut [u8; HELD_BYTES],
+) -> Ran {
     if ran.same {
         let input = ran.input;
-        let expected = reader::seek(ran.expected, b'O', wanted_chunk, wanted);
+        let expected = reader::seek(ran.expected, b'O', wanted_file, wanted_chunk, wanted);
         Ran {
             input,
             expected,
@@ -226,10 +235,12 @@ fn counted(score: Score, same: bool, words: usize) -> Score {
 }
 
 // The next case, or the end of the list. The words of each case are kept until one differs.
-fn next_case(
+fn next_case<F: Read>(
     here: Replay,
+    put_file: &mut F,
     put_chunk: &mut [u8; 65536],
     put: &mut [u8; HELD_BYTES],
+    wanted_file: &mut F,
     wanted_chunk: &mut [u8; 65536],
     wanted: &mut [u8; HELD_BYTES],
     request: &mut [u8; REQUEST_BYTES],
@@ -239,8 +250,8 @@ fn next_case(
     words: &mut [u8; 4096],
 ) -> Replay {
     let score = here.score;
-    let input = reader::seek(here.input, b'#', put_chunk, put);
-    let expected = reader::seek(here.expected, b'#', wanted_chunk, wanted);
+    let input = reader::seek(here.input, b'#', put_file, put_chunk, put);
+    let expected = reader::seek(here.expected, b'#', wanted_file, wanted_chunk, wanted);
     let len = input.len;
     if input.tag == reader::END {
         return Replay {
@@ -257,8 +268,10 @@ fn next_case(
         run_case(
             input,
             expected,
+            put_file,
             put_chunk,
             put,
+            wanted_file,
             wanted_chunk,
             wanted,
             request,
@@ -266,6 +279,7 @@ fn next_case(
             buffer,
             out,
         ),
+        wanted_file,
         wanted_chunk,
         wanted,
     );
@@ -280,43 +294,37 @@ fn next_case(
 }
 
 // Prints the counts, and the first case that differs.
-fn print(score: Score, words: &[u8; 4096]) {
-    io::print_decimal(STDOUT_FILENO, score.cases);
-    io::write_all(STDOUT_FILENO, b" cases, ");
-    io::print_decimal(STDOUT_FILENO, score.differ);
-    io::write_all(STDOUT_FILENO, b" differ\n");
+fn print<R: Print>(rt: &R, score: Score, words: &[u8; 4096]) -> io::Result<()> {
+    println!(rt; "{} cases, {} differ", score.cases, score.differ)?;
     if 0 < score.differ {
-        io::write_all(STDOUT_FILENO, b"the first is case ");
-        io::print_decimal(STDOUT_FILENO, score.first);
-        io::write_all(STDOUT_FILENO, b": ");
-        io::write_all(STDOUT_FILENO, bytes::front(words, score.words));
-        io::write_all(STDOUT_FILENO, b"\n");
+        print!(rt; "the first is case {}: ", score.first)?;
+        rt.write_all(bytes::front(words, score.words))?;
+        rt.write_all(b"\n")?;
+    }
+    Ok(())
+}
+
+// The score of a list, unless a read of one of its files has failed.
+fn scored(input: Reader, expected: Reader, score: Score) -> io::Result<Score> {
+    match input.failed.or(expected.failed) {
+        Some(error) => Err(error),
+        None => Ok(score),
     }
 }
 
-// Prints the score of a list, unless a read of one of its descriptors has failed; whether it did.
-fn told(first: i32, second: i32, score: Score, words: &[u8; 4096]) -> bool {
-    if first == reader::FAILED || second == reader::FAILED {
-        return false;
-    }
-    print(score, words);
-    true
-}
-
-// Replays the list that two descriptors are open on; whether it could be read. If not, `errno` says why, and nothing is printed.
-fn run_list(first: i32, second: i32) -> bool {
-    let mut put_chunk = io::large_buffer();
+// Replays the list that two files are open on, unless it cannot be read. The words of the first case that differs stay in `words`.
+fn run_list<F: Read>(first: &mut F, second: &mut F, words: &mut [u8; 4096]) -> io::Result<Score> {
+    let mut put_chunk = [0u8; 65536];
     let mut put = [0u8; HELD_BYTES];
-    let mut wanted_chunk = io::large_buffer();
+    let mut wanted_chunk = [0u8; 65536];
     let mut wanted = [0u8; HELD_BYTES];
     let mut request = [0u8; REQUEST_BYTES];
     let mut outcome = [0u8; OUTCOME_BYTES];
     let mut buffer = [0u8; BUFFER_BYTES];
     let mut out = [0u8; LINE_BYTES];
-    let mut words = io::buffer();
     let mut here = Replay {
-        input: reader::open(first),
-        expected: reader::open(second),
+        input: reader::open(),
+        expected: reader::open(),
         score: Score {
             cases: 0,
             differ: 0,
@@ -329,39 +337,54 @@ fn run_list(first: i32, second: i32) -> bool {
     while turns > 0 && here.on {
         here = next_case(
             here,
+            first,
             &mut put_chunk,
             &mut put,
+            second,
             &mut wanted_chunk,
             &mut wanted,
             &mut request,
             &mut outcome,
             &mut buffer,
             &mut out,
-            &mut words,
+            words,
         );
         turns -= 1;
     }
-    let input = here.input;
-    let expected = here.expected;
-    told(input.fd, expected.fd, here.score, &words)
+    scored(here.input, here.expected, here.score)
 }
 
-fn main() {
-    let mut path = io::buffer();
-    let length = os::arg(1, &mut path);
-    if os::errno() != 0 {
-        os::fail(b"list");
-        return;
+// Replays the list at a path.
+fn run_file<R: Files>(rt: &R, path: &str, words: &mut [u8; 4096]) -> io::Result<Score> {
+    let mut first = fs::open(rt, path)?;
+    let mut second = fs::open(rt, path)?;
+    run_list(&mut first, &mut second, words)
+}
+
+// Prints the score of the list at a path. Where it cannot be read, or nothing printed, it tells why on standard error.
+fn report<R: Files + Print + Eprint + Alloc>(rt: &R, path: &str) {
+    let mut words = [0u8; 4096];
+    match run_file(rt, path, &mut words) {
+        Ok(score) => {
+            if let Err(error) = print(rt, score, &words) {
+                chunks::tell(rt, "replay: standard output", error);
+            }
+        }
+        Err(error) => chunks::tell(rt, path, error),
     }
-    let first = os::open_read(&path[..length]);
-    let second = os::open_read(&path[..length]);
-    if first < 0 || second < 0 {
-        os::fail(&path[..length]);
-        return;
+}
+
+// The path that the first argument names.
+fn path<R: Env + Alloc>(rt: &R) -> io::Result<String<R::A>> {
+    match env::args(rt)?.nth(1) {
+        Some(path) => Ok(path),
+        None => Err(io::Error::new(io::ErrorKind::InvalidInput, "Invalid argument")),
     }
-    if !run_list(first, second) {
-        os::fail(&path[..length]);
+}
+
+fn main(rt: HostRuntime) {
+    match path(&rt) {
+        Ok(path) => report(&rt, path.as_str()),
+        Err(error) => chunks::tell(&rt, "list", error),
     }
-    libc::close(first);
-    libc::close(second);
 }

@@ -2,6 +2,8 @@
 use lines::Took;
 use protocol::bytes;
 use requests::fields;
+use std::io;
+use std::io::Read;
 
 // The tags of what is no tagged line: a line that is not whole yet, the end of the file, an empty line.
 pub const PART: u8 = 0;
@@ -16,13 +18,11 @@ const KEPT: usize = 5;
 // A line is held in so many bytes: a whole chunk has room after what stays.
 pub const HELD_BYTES: usize = 65536 + KEPT;
 
-// The descriptor of a reader once a read has failed.
-pub const FAILED: i32 = -1;
-
 // What is left of the chunk that was read, how much of a line is held, and the length and the tag of the last line.
-#[derive(Drop)]
+#[derive(Clone, Copy)]
 pub struct Reader {
-    pub fd: i32,
+    // Why a read has failed, if one has.
+    pub failed: Option<io::Error>,
     pub at: usize,
     pub end: usize,
     pub have: usize,
@@ -33,14 +33,14 @@ pub struct Reader {
 }
 
 // A reader between lines.
-pub(crate) fn open(fd: i32) -> Reader {
-    part(fd, 0, 0, 0, 0)
+pub(crate) fn open() -> Reader {
+    part(None, 0, 0, 0, 0)
 }
 
 // A reader inside a line.
-fn part(fd: i32, at: usize, end: usize, have: usize, long: u8) -> Reader {
+fn part(failed: Option<io::Error>, at: usize, end: usize, have: usize, long: u8) -> Reader {
     Reader {
-        fd,
+        failed,
         at,
         end,
         have,
@@ -53,7 +53,7 @@ fn part(fd: i32, at: usize, end: usize, have: usize, long: u8) -> Reader {
 // A reader with a line of so many bytes.
 fn line(r: Reader, next: usize, len: usize, tag: u8) -> Reader {
     Reader {
-        fd: r.fd,
+        failed: r.failed,
         at: next,
         end: r.end,
         have: 0,
@@ -79,20 +79,20 @@ fn whole(r: Reader, next: usize, len: usize, first: u8) -> Reader {
 // A line has no room: its front is kept, and what else is held is forgotten.
 fn forget(r: Reader, first: u8) -> Reader {
     if 0 < r.long {
-        part(r.fd, r.at, r.end, KEPT, r.long)
+        part(r.failed, r.at, r.end, KEPT, r.long)
     } else if first < 3 {
-        part(r.fd, r.at, r.end, KEPT, b'?')
+        part(r.failed, r.at, r.end, KEPT, b'?')
     } else {
-        part(r.fd, r.at, r.end, KEPT, first)
+        part(r.failed, r.at, r.end, KEPT, first)
     }
 }
 
 // The chunk is used up, with so many bytes of a line held.
 fn more(r: Reader, have: usize) -> Reader {
     if 0 < r.long {
-        part(r.fd, r.end, r.end, KEPT, r.long)
+        part(r.failed, r.end, r.end, KEPT, r.long)
     } else {
-        part(r.fd, r.end, r.end, have, 0)
+        part(r.failed, r.end, r.end, have, 0)
     }
 }
 
@@ -109,10 +109,10 @@ fn take(r: Reader, chunk: &[u8], held: &mut [u8]) -> Reader {
     }
 }
 
-// The end that a failed read brings, at a place of a chunk. It stays the end, so that `errno` stays that of this read.
-fn failed(at: usize, end: usize) -> Reader {
+// The end that a failed read brings, at a place of a chunk. It stays the end.
+fn failed(error: io::Error, at: usize, end: usize) -> Reader {
     Reader {
-        fd: FAILED,
+        failed: Some(error),
         at,
         end,
         have: 0,
@@ -123,40 +123,50 @@ fn failed(at: usize, end: usize) -> Reader {
 }
 
 // The next chunk; at the end of the file, what is held is the last line.
-fn refill(r: Reader, chunk: &mut [u8], held: &[u8]) -> Reader {
-    if r.fd == FAILED {
-        return failed(r.at, r.end);
+fn refill<F: Read>(r: Reader, file: &mut F, chunk: &mut [u8], held: &[u8]) -> Reader {
+    if let Some(error) = r.failed {
+        return failed(error, r.at, r.end);
     }
-    let got = libc::read(r.fd, chunk);
-    if got < 0 {
-        return failed(r.at, r.end);
-    }
-    let n = io::count(got, chunk);
-    if 0 < n {
-        part(r.fd, 0, n, r.have, r.long)
-    } else if 0 < r.have {
-        whole(r, r.at, r.have, fields::byte(held, 0))
-    } else {
-        line(r, r.at, 0, END)
+    match file.read(chunk) {
+        Err(error) => failed(error, r.at, r.end),
+        Ok(n) => {
+            if 0 < n {
+                part(None, 0, n, r.have, r.long)
+            } else if 0 < r.have {
+                whole(r, r.at, r.have, fields::byte(held, 0))
+            } else {
+                line(r, r.at, 0, END)
+            }
+        }
     }
 }
 
 // One turn: a line of the chunk, or a new chunk.
-fn turn(r: Reader, chunk: &mut [u8; 65536], held: &mut [u8; HELD_BYTES]) -> Reader {
+fn turn<F: Read>(
+    r: Reader,
+    file: &mut F,
+    chunk: &mut [u8; 65536],
+    held: &mut [u8; HELD_BYTES],
+) -> Reader {
     if r.at < r.end {
         let end = r.end;
         take(r, bytes::front(chunk, end), held)
     } else {
-        refill(r, chunk, held)
+        refill(r, file, chunk, held)
     }
 }
 
 // The next line.
-fn next(r: Reader, chunk: &mut [u8; 65536], held: &mut [u8; HELD_BYTES]) -> Reader {
-    let mut now = part(r.fd, r.at, r.end, 0, 0);
+fn next<F: Read>(
+    r: Reader,
+    file: &mut F,
+    chunk: &mut [u8; 65536],
+    held: &mut [u8; HELD_BYTES],
+) -> Reader {
+    let mut now = part(r.failed, r.at, r.end, 0, 0);
     let mut turns = u64::MAX;
     while turns > 0 && now.tag == PART {
-        now = turn(now, chunk, held);
+        now = turn(now, file, chunk, held);
         turns -= 1;
     }
     now
@@ -178,16 +188,17 @@ fn stops(tag: u8, wanted: u8) -> bool {
 }
 
 // The next line with a tag, or what ends the search for it.
-pub(crate) fn seek(
+pub(crate) fn seek<F: Read>(
     r: Reader,
     wanted: u8,
+    file: &mut F,
     chunk: &mut [u8; 65536],
     held: &mut [u8; HELD_BYTES],
 ) -> Reader {
-    let mut now = next(r, chunk, held);
+    let mut now = next(r, file, chunk, held);
     let mut turns = u64::MAX;
     while turns > 0 && !stops(now.tag, wanted) {
-        now = next(now, chunk, held);
+        now = next(now, file, chunk, held);
         turns -= 1;
     }
     now
