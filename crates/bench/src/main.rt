@@ -91,7 +91,7 @@ fn round<R: Input + Eprint + Alloc>(
             n,
         };
     }
-    match chunks::read(rt, chunk, "bench: standard input") {
+    match chunks::read(rt, chunk, b"bench: standard input") {
         Brought::Bytes(k) => After {
             made: true,
             session: session::next_chunk(session),

@@ -3,8 +3,8 @@
 
 ghost use Rattle.chunks.specs.Brings.{Brings};
 
-use std::io;
 use std::io::Read;
+use std::{io, str};
 
 // What a read brought.
 #[derive(Clone, Copy)]
@@ -17,15 +17,15 @@ pub enum Brought {
     Failed,
 }
 
-// Reads the next chunk. An error is told after the name that the caller has for its input.
-pub fn read<R: Input + Eprint + Alloc>(rt: &R, chunk: &mut [u8], name: &str) -> Brought
+// Reads the next chunk. An error is told after the name that the caller has for its input, where that is text.
+pub fn read<R: Input + Eprint + Alloc>(rt: &R, chunk: &mut [u8], name: &[u8]) -> Brought
     ensures { Brings result chunk.new }
 {
     match rt.reader().read(chunk) {
         Ok(0) => Brought::End,
         Ok(n) => Brought::Bytes(n),
         Err(error) => {
-            tell(rt, name, error);
+            tell(rt, str::from_utf8(name).unwrap_or("standard input"), error);
             Brought::Failed
         }
     }

@@ -88,7 +88,7 @@ fn run<R: Input + Eprint + Alloc>(
                 left,
             };
         }
-        let brought = chunks::read(rt, chunk, "count: standard input");
+        let brought = chunks::read(rt, chunk, b"count: standard input");
         match after(reader, brought, chunk, numbers) {
             Led::On(next) => {
                 reader = next;
