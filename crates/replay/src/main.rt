@@ -10,9 +10,10 @@ use dialogue::{Run, Said, Turned};
 use protocol::bytes;
 use requests::fields;
 use session::{BUFFER_BYTES, LINE_BYTES, OUTCOME_BYTES, REQUEST_BYTES};
+use std::env::{Env, FillError};
 use std::io::Read;
-use std::rt::{Env, Files};
-use std::{env, fs, io};
+use std::rt::Files;
+use std::{fs, io, str};
 
 // A case that runs: the call, whether it is over, and whether all that was printed is what the list has.
 #[derive(Drop)]
@@ -374,17 +375,28 @@ fn report<R: Files + Print + Eprint + Alloc>(rt: &R, path: &str) {
     }
 }
 
-// The path that the first argument names.
-fn path<R: Env + Alloc>(rt: &R) -> io::Result<String<R::A>> {
-    match env::args(rt)?.nth(1) {
-        Some(path) => Ok(path),
-        None => Err(io::Error::new(io::ErrorKind::InvalidInput, "Invalid argument")),
+// The path that the first argument names, as it is laid in `bytes`.
+fn path<'a, R: Env>(rt: &R, bytes: &'a mut [u8; 4096]) -> io::Result<&'a str> {
+    match rt.arg(1, bytes) {
+        Ok(n) => match str::from_utf8(&bytes[..n]) {
+            Ok(path) => Ok(path),
+            Err(_) => Err(io::Error::from(io::ErrorKind::InvalidData)),
+        },
+        Err(FillError::NotPresent) => Err(io::Error::new(
+            io::ErrorKind::InvalidInput,
+            "Invalid argument",
+        )),
+        Err(FillError::TooLong) => Err(io::Error::new(
+            io::ErrorKind::InvalidInput,
+            "File name too long",
+        )),
     }
 }
 
 fn main(rt: HostRuntime) {
-    match path(&rt) {
-        Ok(path) => report(&rt, path.as_str()),
+    let mut bytes = [0u8; 4096];
+    match path(&rt, &mut bytes) {
+        Ok(path) => report(&rt, path),
         Err(error) => chunks::tell(&rt, "list", error),
     }
 }
