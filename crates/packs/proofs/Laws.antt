@@ -4,6 +4,7 @@ use Prim.Native.Nat.{ℕ, ◌+◌, ◌*◌, ◌/◌, ◌%◌, ◌≤◌, ◌<◌
 use mathlib.Core.Path.{◌≡◌, refl, sym, ap, ◌∙◌}
 use mathlib.Core.Bool.{Bool, true, false, not}
 use mathlib.Core.List.{List}
+use mathlib.Core.Logic.{◌⊎◌, inl, inr}
 use native.Mathlib.Omega.{arith}
 use lib.Dec.{ltb, leb, eqb}
 use borrow.Author.Tests.{lt-ltb, le-ltb, le-leb, lt-leb, ltb-true, ltb-false, leb-true}
@@ -74,33 +75,15 @@ up_none o m n x a b e f q = yes_lt m n x a b (up_is_none o m n e f) q
 pub up_some : {A : Type 0} (o : Option ℕ) (v m n : ℕ) (x a b : A) → o ≡ up_to m n → o ≡ Some v → x ≡ b → x ≡ when◌then◌else◌ (ltb m n) a b
 up_some o v m n x a b e f q = not_lt m n x a b (up_is_some o v m n e f).0 q
 
--- an entry of the table
-pub up_entry : (v n : ℕ) → v ≡ n → then_some (ltb v 16) v ≡ up_to 15 n
-unfolding up_to when◌then◌else◌
-up_entry v n e = rw e (by (ltb 15 n) refl)
-  where
-    by : (t : Bool) → ltb 15 n ≡ t → then_some (ltb n 16) n ≡ when◌then◌else◌ t None (Some n)
-    by true h = let l = ltb-true 15 n h in rw (le-ltb n 16 (omega arith))
-    by false h = let l = ltb-false 15 n h in rw (lt-ltb n 16 (omega arith))
-
--- two digits
-pub no_high : (o : Option ℕ) (high low : ℕ) → o ≡ up_to 15 (value_of high) → o ≡ None → None ≡ up_to 255 (byte_of high low)
+-- two digits, of which one is none, and two that are
+pub no_pair : (u v high low : ℕ) → u ≡ value_of high → v ≡ value_of low → (15 < u) ⊎ ((u ≤ 15) × (15 < v)) → None ≡ up_to 255 (byte_of high low)
 unfolding up_to byte_of when◌then◌else◌
-no_high o high low e f = rw (lt-ltb 15 (value_of high) (up_is_none o 15 (value_of high) e f))
+no_pair u v high low e f (inl h) = rw (← e, lt-ltb 15 u h)
+no_pair u v high low e f (inr h) = rw (← e, ← f, le-ltb 15 u h.0, lt-ltb 15 v h.1)
 
-pub no_low : (o p : Option ℕ) (v high low : ℕ) → o ≡ up_to 15 (value_of high) → o ≡ Some v → p ≡ up_to 15 (value_of low) → p ≡ None
-    → None ≡ up_to 255 (byte_of high low)
+pub a_pair : (u v high low : ℕ) → u ≡ value_of high → v ≡ value_of low → u ≤ 15 → v ≤ 15 → Some (u * 16 + v) ≡ up_to 255 (byte_of high low)
 unfolding up_to byte_of when◌then◌else◌
-no_low o p v high low e f g h =
-    rw (le-ltb 15 (value_of high) (up_is_some o v 15 (value_of high) e f).0, lt-ltb 15 (value_of low) (up_is_none p 15 (value_of low) g h))
-
-pub both_digits : (o p : Option ℕ) (v w high low : ℕ) → o ≡ up_to 15 (value_of high) → o ≡ Some v → p ≡ up_to 15 (value_of low) → p ≡ Some w
-    → Some (v * 16 + w) ≡ up_to 255 (byte_of high low)
-unfolding up_to byte_of when◌then◌else◌
-both_digits o p v w high low e f g h =
-    let a = up_is_some o v 15 (value_of high) e f in
-    let b = up_is_some p w 15 (value_of low) g h in
-    rw (le-ltb 15 (value_of high) a.0, le-ltb 15 (value_of low) b.0, le-ltb 255 (value_of high * 16 + value_of low) (omega arith), a.1, b.1)
+a_pair u v high low e f h k = rw (← e, ← f, le-ltb 15 u h, le-ltb 15 v k, le-ltb 255 (u * 16 + v) (omega arith))
 
 -- what two bytes say, and one
 pub same_cycles : (o p : Option ℕ) (r v w m n : ℕ) → o ≡ up_to 255 m → o ≡ Some v → p ≡ up_to 255 n → p ≡ Some w → r ≡ v + w * 256

@@ -41,12 +41,12 @@ impl Digits {
         Digits { values: VALUES }
     }
 
-    // The value of a digit.
-    pub(crate) fn value(&self, digit: u8) -> Option<u8>
-        ensures { result ≡ up_to 15 (value_of digit) }
+    // The value of a digit, and 16 of a byte that is none.
+    // Stays: tried, and with an `Option` here a line of a pack that was read takes one instruction more than it did (benches/count).
+    pub(crate) fn value(&self, digit: u8) -> u8
+        ensures { result ≡ value_of digit }
     {
-        let value = self.values[digit as usize];
-        (value < 16).then_some(value)
+        self.values[digit as usize]
     }
 
     // The byte of the two digits at a place of a chunk, the high one first.
@@ -54,8 +54,11 @@ impl Digits {
         requires { at + 1 < length chunk.now }
         ensures { result ≡ up_to 255 (pair_at chunk.now at) }
     {
-        let high = self.value(chunk[at])?;
-        let low = self.value(chunk[at + 1])?;
+        let high = self.value(chunk[at]);
+        let low = self.value(chunk[at + 1]);
+        if 15 < high || 15 < low {
+            return None;
+        }
         Some(high * 16 + low)
     }
 

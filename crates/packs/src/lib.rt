@@ -214,11 +214,8 @@ impl Sheet {
             self.count(said_by(self.reader.line));
             return;
         }
-        let Some(value) = digits.value(byte) else {
-            self.reader = self.reader.refuse();
-            return;
-        };
-        if SIX_DIGITS <= self.reader.line {
+        let value = digits.value(byte);
+        if 15 < value || SIX_DIGITS <= self.reader.line {
             self.reader = self.reader.refuse();
             return;
         }
