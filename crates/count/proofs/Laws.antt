@@ -1,18 +1,16 @@
 -- Chunk by chunk, the program stands where these pieces lead.
 -- Assumes nothing.
-use Prim.Native.Nat.{ℕ, ◌+◌, ◌-◌, ◌<◌}
+use Prim.Native.Nat.{ℕ, ◌+◌, ◌<◌}
 use mathlib.Core.Path.{◌≡◌, refl, sym, ap, ◌∙◌, subst}
 use mathlib.Core.List.{List, [], ◌∷◌, ◌++◌}
 use native.Mathlib.Omega.{arith}
-use lib.ListN.{length, take, replicate, length-append, length-take}
+use lib.ListN.{length, take, length-append, length-take}
 use Rattle.std.specs.Prelude.{Result, Ok, Err}
 use Rattle.chunks.specs.Brings.{Brings}
 use Rattle.chunks.specs.declared.Brought.{Brought}
 use Rattle.chunks.specs.declared.Brought.TheVariants as brought
-use Rattle.packs.specs.declared.Reader.{Reader}
 use Rattle.packs.specs.declared.Sheet.{Sheet}
-use Rattle.packs.specs.Sheet.{sheet}
-use Rattle.packs.specs.Count.{start_of, start_sheet, feed_of}
+use Rattle.packs.specs.Count.{start_sheet, feed_of}
 use Rattle.count_promises.specs.Pieces.{taken_all}
 use Rattle.count.specs.declared.Ending.{Ending}
 use Rattle.count.specs.declared.Ending.TheVariants as ending

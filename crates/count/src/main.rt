@@ -50,11 +50,7 @@ fn after(sheet: &mut Sheet, brought: Brought, chunk: &[u8; CHUNK_BYTES]) -> Resu
 }
 
 // Reads the input, chunk by chunk. The chunks are counted, since every loop has to be proved to end.
-fn run<R: Input + Eprint + Alloc>(
-    rt: &R,
-    chunk: &mut [u8; CHUNK_BYTES],
-    sheet: &mut Sheet,
-) -> Stop
+fn run<R: Input + Eprint + Alloc>(rt: &R, chunk: &mut [u8; CHUNK_BYTES], sheet: &mut Sheet) -> Stop
     requires { sheet.old ≡ start_sheet }
     ensures { Stopped result sheet.new }
 {

@@ -14,7 +14,6 @@ use Rattle.hexadecimal.specs.Line.{line_bytes}
 use Rattle.lines.specs.Input.{lines_from, rest_from}
 use Rattle.std.specs.Prelude.{None}
 use Rattle.packs.specs.Said.{Said}
-use Rattle.packs.specs.declared.Pack.TheVariants as pack
 use Rattle.packs.proofs.Lies.{pair_digits}
 use Rattle.count_promises.specs.Packs.{line_says, bytes_say}
 use Rattle.count_promises.proofs.Says.{AllDigits, nothing_says, says_long}

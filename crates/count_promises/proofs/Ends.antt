@@ -13,7 +13,6 @@ use Rattle.lines.specs.Input.{lines_from, rest_from}
 use Rattle.lines.proofs.Any.{lines_append, rest_append}
 use Rattle.std.specs.Prelude.{None}
 use Rattle.packs.specs.Said.{Said}
-use Rattle.packs.specs.declared.Pack.TheVariants as pack
 use Rattle.count_promises.specs.Packs.{line_says, said_in}
 use Rattle.count_promises.specs.Lines.{AllPacks}
 use Rattle.count_promises.proofs.Lists.{empty}

@@ -9,7 +9,6 @@ use borrow.Author.Tests.{lt-ltb, le-ltb}
 use Rattle.protocol.specs.Pick.{when◌then◌else◌}
 use Rattle.std.specs.Prelude.{None}
 use Rattle.packs.specs.Said.{Said}
-use Rattle.packs.specs.declared.Pack.TheVariants as pack
 use Rattle.report.specs.Report.{report, refused}
 use Rattle.count_promises.specs.Packs.{packs_before, counted, outcome_of, report_of}
 use Rattle.count_promises.specs.Lines.{AllFit}

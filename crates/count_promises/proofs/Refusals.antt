@@ -12,7 +12,6 @@ use borrow.Author.Tests.{ltb-true, ltb-false, lt-ltb, le-ltb}
 use Rattle.protocol.specs.Pick.{when◌then◌else◌}
 use Rattle.std.specs.Prelude.{None}
 use Rattle.packs.specs.Said.{Said}
-use Rattle.packs.specs.declared.Pack.TheVariants as pack
 use Rattle.report.specs.Report.{Report, Outcome, report, refused}
 use Rattle.count_promises.specs.Packs.{report_of, packs_before, counted, outcome_of}
 use Rattle.count_promises.specs.Lines.{IsPack, AllPacks, FirstBad, RefusedAt, Refusals}

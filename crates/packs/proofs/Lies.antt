@@ -16,9 +16,7 @@ use Rattle.std.specs.Prelude.{Some, None}
 use Rattle.packs.specs.Said.{Said}
 use Rattle.packs.specs.declared.Pack.TheVariants as pack
 use Rattle.packs.specs.declared.Count.{Count}
-use Rattle.packs.specs.declared.Reader.{Reader}
 use Rattle.packs.specs.declared.Sheet.{Sheet}
-use Rattle.packs.specs.Sheet.{sheet}
 use Rattle.packs.specs.Count.{counted_of, step_of, feed_of}
 use Rattle.packs.specs.Ahead.{pair_at, read_ahead, unread_ahead, ahead_of, line_at, used_by, turn_of}
 use Rattle.packs.proofs.Feed.{within, feed_read, feed_unread}

@@ -1,8 +1,8 @@
 -- A line that lies whole in a chunk, taken where it lies. (02, W-212)
 -- Assumes nothing.
-use Rattle.std.specs.Prelude.{ℕ, ◌+◌, ◌-◌, ◌*◌, ◌<◌, ◌≡◌, List, length, get_or, ltb, eqb, Some, None}
+use Rattle.std.specs.Prelude.{ℕ, ◌+◌, ◌-◌, ◌*◌, List, length, get_or, ltb, eqb, Some, None}
 use Rattle.protocol.specs.Pick.{when◌then◌else◌}
-use Rattle.hexadecimal.specs.Hex.{value_of, byte_of}
+use Rattle.hexadecimal.specs.Hex.{byte_of}
 use Rattle.packs.specs.Said.{Said}
 use Rattle.packs.specs.declared.Pack.TheVariants as pack
 use Rattle.packs.specs.declared.Sheet.{Sheet}

@@ -1,11 +1,7 @@
 -- `packs::said_by` meets its contract: the bytes are those of the line's number, and each arm is a case of `said_of`.
 -- Assumes nothing.
-use Prim.Native.Nat.{◌*◌, ◌/◌, ◌%◌, ◌≤◌, ◌<◌, ◌+◌}
-use mathlib.Core.Path.{◌≡◌}
 use native.Mathlib.Omega.{arith}
-use lib.ListN.{get_or}
 use Rattle.std.proofs.lemmas.Grind.{common_steps}
-use Rattle.packs.specs.Count.{said_of}
 use Rattle.packs.proofs.Laws.{says_cycles, says_answer, says_none}
 use Rattle.packs.proofs.said_by.Goals as goal
 

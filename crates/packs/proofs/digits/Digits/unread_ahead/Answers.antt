@@ -1,6 +1,6 @@
 -- `packs::digits::Digits::unread_ahead` meets its contract: each arm is a case of `unread_ahead`.
 -- Assumes nothing.
-use Prim.Native.Nat.{◌+◌, ◌<◌}
+use Prim.Native.Nat.{◌+◌}
 use mathlib.Core.Path.{◌≡◌}
 use native.Mathlib.Omega.{arith}
 use Rattle.packs.proofs.Cases.{cases}
