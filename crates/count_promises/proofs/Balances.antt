@@ -11,8 +11,9 @@ use lib.ListN.{length}
 use lib.Dec.{eqb}
 use borrow.Author.Tests.{eqb-true, eqb-false}
 use Rattle.lines.specs.Input.{lines_from}
-use Rattle.packs.specs.declared.Said.{Said}
-use Rattle.packs.specs.declared.Said.TheVariants as said
+use Rattle.std.specs.Prelude.{Some, None}
+use Rattle.packs.specs.Said.{Said}
+use Rattle.packs.specs.declared.Pack.TheVariants as pack
 use Rattle.report.specs.Report.{Figures, Report, report}
 use Rattle.count_promises.specs.Packs.{line_says, said_in, cycles_in, answers_in, occurs, figures_of, report_of, outcome_of}
 use Rattle.count_promises.specs.Lines.{IsPack, AllPacks, Lines, Fits, AllFit}
@@ -27,9 +28,9 @@ line_fits : Lines → (line : List ℕ) → IsPack (line_says line) → Fits (li
 line_fits lines line = by (line_says line) refl
   where
     by : (p : Said) → line_says line ≡ p → IsPack p → Fits p
-    by (said.Read cycles) e h = omega (arith, (lines.only_read line cycles e).0)
-    by (said.Unread answer) e h = let range = lines.only_unread line answer e in (range.0, omega (arith, range.1))
-    by said.Nothing e h = h
+    by (Some (pack.Read cycles)) e h = omega (arith, (lines.only_read line cycles e).0)
+    by (Some (pack.Unread answer)) e h = let range = lines.only_unread line answer e in (range.0, omega (arith, range.1))
+    by None e h = h
 
 lines_fit : Lines → (s : List (List ℕ)) → AllPacks (map line_says s) → AllFit (map line_says s)
 lines_fit lines [] h = tt
@@ -44,13 +45,13 @@ said_fit lines input h =
 cycles_most : (ps : List Said) → AllFit ps → (k : ℕ) → 0 < occurs k (cycles_in ps) → k ≤ 65535
 unfolding cycles_in occurs
 cycles_most [] h k l = absurd (omega arith)
-cycles_most (said.Read cycles ∷ ps) h k l = by (λ m. cycles_most ps h.1 k m) (occurs_cases k cycles (cycles_in ps) l)
+cycles_most (Some (pack.Read cycles) ∷ ps) h k l = by (λ m. cycles_most ps h.1 k m) (occurs_cases k cycles (cycles_in ps) l)
   where
     by : (0 < occurs k (cycles_in ps) → k ≤ 65535) → (cycles ≡ k) ⊎ (0 < occurs k (cycles_in ps)) → k ≤ 65535
     by rest (inl e) = omega (arith, h.0)
     by rest (inr m) = rest m
-cycles_most (said.Unread answer ∷ ps) h k l = cycles_most ps h.1 k l
-cycles_most (said.Nothing ∷ ps) h k l = absurd h.0
+cycles_most (Some (pack.Unread answer) ∷ ps) h k l = cycles_most ps h.1 k l
+cycles_most (None ∷ ps) h k l = absurd h.0
 
 -- one more answer is one more among the numbers that it is one of
 up_below : (n x : ℕ) (s : List ℕ) → n < x → up_to n (λ k. occurs k (x ∷ s)) ≡ up_to n (λ k. occurs k s)
@@ -86,11 +87,11 @@ up_none (suc n) = omega (arith, up_none n)
 by_number : (n : ℕ) → 255 ≤ n → (ps : List Said) → AllFit ps → length (answers_in ps) ≡ up_to n (λ k. occurs k (answers_in ps))
 unfolding answers_in
 by_number n m [] h = sym (up_none n)
-by_number n m (said.Read cycles ∷ ps) h = by_number n m ps h.1
-by_number n m (said.Unread answer ∷ ps) h =
+by_number n m (Some (pack.Read cycles) ∷ ps) h = by_number n m ps h.1
+by_number n m (Some (pack.Unread answer) ∷ ps) h =
     let range = h.0 in
     ap suc (by_number n m ps h.1) ∙ sym (up_within n answer (answers_in ps) range.0 (omega arith))
-by_number n m (said.Nothing ∷ ps) h = absurd h.0
+by_number n m (None ∷ ps) h = absurd h.0
 
 of_read_lem : (ps : List Said) → AllFit ps → (f : Figures) → figures_of (cycles_in ps) ≡ some f → OfRead (report_of ps) f
 unfolding report_of

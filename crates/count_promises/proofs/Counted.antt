@@ -10,8 +10,9 @@ use lib.Seq.{get_or-set_same, get_or-set_other}
 use lib.Dec.{eqb}
 use borrow.Author.Tests.{eq-eqb, ne_eqb, eqb-true, eqb-false}
 use Rattle.protocol.specs.Pick.{when◌then◌else◌}
-use Rattle.packs.specs.declared.Said.{Said}
-use Rattle.packs.specs.declared.Said.TheVariants as said
+use Rattle.std.specs.Prelude.{Some, None}
+use Rattle.packs.specs.Said.{Said}
+use Rattle.packs.specs.declared.Pack.TheVariants as pack
 use Rattle.packs.specs.declared.Count.{Count}
 use Rattle.packs.specs.Count.{no_packs, seen_of, add_read, add_unread, one_more}
 use Rattle.report.specs.Sheet.{figures_in, report_in}
@@ -45,9 +46,9 @@ Small (c ∷ s) = (c ≤ 65535) × Small s
 cycles_small : (ps : List Said) → AllFit ps → Small (cycles_in ps)
 unfolding cycles_in
 cycles_small [] h = tt
-cycles_small (said.Read c ∷ ps) h = (h.0, cycles_small ps h.1)
-cycles_small (said.Unread k ∷ ps) h = cycles_small ps h.1
-cycles_small (said.Nothing ∷ ps) h = absurd h.0
+cycles_small (Some (pack.Read c) ∷ ps) h = (h.0, cycles_small ps h.1)
+cycles_small (Some (pack.Unread k) ∷ ps) h = cycles_small ps h.1
+cycles_small (None ∷ ps) h = absurd h.0
 
 low_least : (c : ℕ) (s : List ℕ) → Small (c ∷ s) → low_all (c ∷ s) ≡ lowest_of c s
 unfolding lowest_of
@@ -94,18 +95,18 @@ counted_none = record {
     zeros (suc n) (suc k) = zeros n k
 
 module _ (ps : List Said) (count : Count) (numbers : List ℕ) (c : Counted ps count numbers) (room : length ps < 65535) where
-  pub counted_read : (cycles : ℕ) → cycles ≤ 65535 → Counted (ps ++ (said.Read cycles ∷ [])) (add_read count cycles) numbers
+  pub counted_read : (cycles : ℕ) → cycles ≤ 65535 → Counted (ps ++ (Some (pack.Read cycles) ∷ [])) (add_read count cycles) numbers
   unfolding add_read cycles_in answers_in total
   counted_read cycles h =
       let s : List ℕ = cycles_in ps in
-      let e : cycles_in (ps ++ (said.Read cycles ∷ [])) ≡ s ++ (cycles ∷ []) = cycles_append ps (said.Read cycles ∷ []) in
-      let a : answers_in (ps ++ (said.Read cycles ∷ [])) ≡ answers_in ps ++ [] = answers_append ps (said.Read cycles ∷ []) in
-      let b : answers_in (ps ++ (said.Read cycles ∷ [])) ≡ answers_in ps = a ∙ append-nil (answers_in ps) in
+      let e : cycles_in (ps ++ (Some (pack.Read cycles) ∷ [])) ≡ s ++ (cycles ∷ []) = cycles_append ps (Some (pack.Read cycles) ∷ []) in
+      let a : answers_in (ps ++ (Some (pack.Read cycles) ∷ [])) ≡ answers_in ps ++ [] = answers_append ps (Some (pack.Read cycles) ∷ []) in
+      let b : answers_in (ps ++ (Some (pack.Read cycles) ∷ [])) ≡ answers_in ps = a ∙ append-nil (answers_in ps) in
       let few = seen_all ps c.fits in
       let most = sum_most ps c.fits in
       record {
-        fits = fit_more ps (said.Read cycles) c.fits h;
-        most = rw (length-append ps (said.Read cycles ∷ [])) (omega arith);
+        fits = fit_more ps (Some (pack.Read cycles)) c.fits h;
+        most = rw (length-append ps (Some (pack.Read cycles) ∷ [])) (omega arith);
         read = rw (e, length-append s (cycles ∷ []), c.read) (omega arith);
         unread = rw b c.unread;
         sum = rw (e, total_append s (cycles ∷ []), c.sum) (omega arith);
@@ -115,17 +116,17 @@ module _ (ps : List Said) (count : Count) (numbers : List ℕ) (c : Counted ps c
         by = λ k. rw b (c.by k);
       }
 
-  pub counted_unread : (answer : ℕ) → 0 < answer → answer ≤ 255 → Counted (ps ++ (said.Unread answer ∷ [])) (add_unread count) (one_more answer numbers)
+  pub counted_unread : (answer : ℕ) → 0 < answer → answer ≤ 255 → Counted (ps ++ (Some (pack.Unread answer) ∷ [])) (add_unread count) (one_more answer numbers)
   unfolding add_unread one_more cycles_in answers_in
   counted_unread answer nonzero h =
       let s : List ℕ = answers_in ps in
-      let e : answers_in (ps ++ (said.Unread answer ∷ [])) ≡ s ++ (answer ∷ []) = answers_append ps (said.Unread answer ∷ []) in
-      let a : cycles_in (ps ++ (said.Unread answer ∷ [])) ≡ cycles_in ps ++ [] = cycles_append ps (said.Unread answer ∷ []) in
-      let b : cycles_in (ps ++ (said.Unread answer ∷ [])) ≡ cycles_in ps = a ∙ append-nil (cycles_in ps) in
+      let e : answers_in (ps ++ (Some (pack.Unread answer) ∷ [])) ≡ s ++ (answer ∷ []) = answers_append ps (Some (pack.Unread answer) ∷ []) in
+      let a : cycles_in (ps ++ (Some (pack.Unread answer) ∷ [])) ≡ cycles_in ps ++ [] = cycles_append ps (Some (pack.Unread answer) ∷ []) in
+      let b : cycles_in (ps ++ (Some (pack.Unread answer) ∷ [])) ≡ cycles_in ps = a ∙ append-nil (cycles_in ps) in
       let few = seen_all ps c.fits in
       record {
-        fits = fit_more ps (said.Unread answer) c.fits (nonzero, h);
-        most = rw (length-append ps (said.Unread answer ∷ [])) (omega arith);
+        fits = fit_more ps (Some (pack.Unread answer)) c.fits (nonzero, h);
+        most = rw (length-append ps (Some (pack.Unread answer) ∷ [])) (omega arith);
         read = rw b c.read;
         unread = rw (e, length-append s (answer ∷ []), c.unread) (omega arith);
         sum = rw b c.sum;

@@ -11,14 +11,14 @@ use borrow.Author.Tests.{eqb-true}
 use Rattle.protocol.specs.Pick.{when◌then◌else◌}
 use Rattle.lines.specs.Input.{lines_from, rest_from}
 use Rattle.lines.proofs.Any.{lines_append, rest_append}
-use Rattle.packs.specs.declared.Said.{Said}
-use Rattle.packs.specs.declared.Said.TheVariants as said
+use Rattle.std.specs.Prelude.{None}
+use Rattle.packs.specs.Said.{Said}
 use Rattle.count_promises.specs.Packs.{line_says, said_in}
 use Rattle.count_promises.specs.Lines.{AllPacks}
 use Rattle.count_promises.proofs.Lists.{empty}
 
 -- a last one that is no pack
-not_last : (ps : List Said) → AllPacks (ps ++ (said.Nothing ∷ [])) → ⊥
+not_last : (ps : List Said) → AllPacks (ps ++ (None ∷ [])) → ⊥
 not_last [] h = h zero (omega arith)
 not_last (p ∷ ps) h = not_last ps (λ k l. h (suc k) (omega arith))
 
@@ -27,7 +27,7 @@ unfolding said_in when◌then◌else◌
 ends_with_line input = by (eqb (length (rest_from [] input)) 0) refl
   where
     by : (t : Bool) → eqb (length (rest_from [] input)) 0 ≡ t
-        → AllPacks (map line_says (lines_from [] input) ++ (when t then [] else said.Nothing ∷ [])) → rest_from [] input ≡ []
+        → AllPacks (map line_says (lines_from [] input) ++ (when t then [] else None ∷ [])) → rest_from [] input ≡ []
     by true e h = empty (rest_from [] input) (eqb-true (length (rest_from [] input)) 0 e)
     by false e h = absurd (not_last (map line_says (lines_from [] input)) h)
 

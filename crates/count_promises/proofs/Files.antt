@@ -13,8 +13,9 @@ use borrow.Author.Tests.{leb-true, leb-false, ne_eqb}
 use Rattle.protocol.specs.Pick.{when◌then◌else◌}
 use Rattle.lines.specs.Input.{lines_from, rest_from}
 use Rattle.lines.specs.Lines.{before_feed}
-use Rattle.packs.specs.declared.Said.{Said}
-use Rattle.packs.specs.declared.Said.TheVariants as said
+use Rattle.std.specs.Prelude.{Some, None}
+use Rattle.packs.specs.Said.{Said}
+use Rattle.packs.specs.declared.Pack.TheVariants as pack
 use Rattle.report.specs.Report.{report, refused}
 use Rattle.count_promises.specs.Packs.{line_says, said_in, report_of, outcome_of}
 use Rattle.count_promises.specs.Lines.{file_of, NoFeed, NoFeeds, Fits, AllFit, line_of, Accepted, Refused, Files}
@@ -24,14 +25,14 @@ use Rattle.count_promises.proofs.Feeds.{before, digits_no_feed, said_line}
 
 -- the line of a pack says it, and has no line feed
 line_says_lem : (p : Said) → Fits p → line_says (line_of p) ≡ p
-line_says_lem (said.Read cycles) f = lines.read cycles (omega arith)
-line_says_lem (said.Unread answer) f = lines.unread answer f.0 (let h = f.1 in omega arith)
-line_says_lem said.Nothing f = absurd f
+line_says_lem (Some (pack.Read cycles)) f = lines.read cycles (omega arith)
+line_says_lem (Some (pack.Unread answer)) f = lines.unread answer f.0 (let h = f.1 in omega arith)
+line_says_lem None f = absurd f
 
 line_no_feed : (p : Said) → Fits p → NoFeed (line_of p)
-line_no_feed (said.Read cycles) f = digits_no_feed (0 ∷ cycles % 256 ∷ cycles / 256 ∷ []) (omega arith, (omega arith, (omega arith, tt)))
-line_no_feed (said.Unread answer) f = let h = f.1 in digits_no_feed (1 ∷ answer ∷ []) (omega arith, (omega arith, tt))
-line_no_feed said.Nothing f = absurd f
+line_no_feed (Some (pack.Read cycles)) f = digits_no_feed (0 ∷ cycles % 256 ∷ cycles / 256 ∷ []) (omega arith, (omega arith, (omega arith, tt)))
+line_no_feed (Some (pack.Unread answer)) f = let h = f.1 in digits_no_feed (1 ∷ answer ∷ []) (omega arith, (omega arith, tt))
+line_no_feed None f = absurd f
 
 -- so a file of packs says these packs
 pub said_file : (ps : List Said) (rest : List ℕ) → AllFit ps → said_in (file_of (map line_of ps) ++ rest) ≡ ps ++ said_in rest
@@ -53,10 +54,10 @@ accepted input a =
     ap outcome_of says ∙ all_outcome a.packs a.fit a.most
 
 -- a line that says a pack is its line
-pack_line : (line : List ℕ) (p : Said) → line_says line ≡ p → (p ≡ said.Nothing) ⊎ (Fits p × (line ≡ line_of p))
-pack_line line (said.Read cycles) e = let o = lines.only_read line cycles e in inr (let h = o.0 in omega arith, o.1)
-pack_line line (said.Unread answer) e = let o = lines.only_unread line answer e in inr ((o.0, let h = o.1 in omega arith), o.2)
-pack_line line said.Nothing e = inl refl
+pack_line : (line : List ℕ) (p : Said) → line_says line ≡ p → (p ≡ None) ⊎ (Fits p × (line ≡ line_of p))
+pack_line line (Some (pack.Read cycles)) e = let o = lines.only_read line cycles e in inr (let h = o.0 in omega arith, o.1)
+pack_line line (Some (pack.Unread answer)) e = let o = lines.only_unread line answer e in inr ((o.0, let h = o.1 in omega arith), o.2)
+pack_line line None e = inl refl
 
 -- the line of a pack comes first
 record Begins (rest : List ℕ) : Type 0 where
@@ -70,7 +71,7 @@ record First (rest : List ℕ) : Type 0 where
   pub says : Said
   pub more : List Said
   pub same : said_in rest ≡ says ∷ more
-  pub there : (says ≡ said.Nothing) ⊎ Begins rest
+  pub there : (says ≡ None) ⊎ Begins rest
 
 first : (rest : List ℕ) → 0 < length rest → First rest
 unfolding said_in file_of when◌then◌else◌
@@ -80,14 +81,14 @@ first rest some = by (lines_from [] rest) (rest_from [] rest) refl refl (whole.m
     by [] r e f w =
         let q : rest_from [] rest ≡ rest = sym (ap (λ (t : List (List ℕ)). file_of t ++ rest_from [] rest) e) ∙ w in
         let z : eqb (length (rest_from [] rest)) 0 ≡ false = ne_eqb (length (rest_from [] rest)) 0 (λ n. let m : length (rest_from [] rest) ≡ length rest = ap length q in absurd (omega arith)) in
-        record { says = said.Nothing; more = []; same = rw (e, z) refl; there = inl refl }
+        record { says = None; more = []; same = rw (e, z) refl; there = inl refl }
     by (l ∷ ls) r e f w =
         let text : rest ≡ l ++ (10 ∷ (file_of ls ++ rest_from [] rest)) =
         sym w ∙ ap (λ (t : List (List ℕ)). file_of t ++ rest_from [] rest) e ∙ append_assoc l (10 ∷ file_of ls) (rest_from [] rest) in
         record {
           says = line_says l;
-          more = map line_says ls ++ (when eqb (length (rest_from [] rest)) 0 then [] else said.Nothing ∷ []);
-          same = ap (λ (t : List (List ℕ)). map line_says t ++ (when eqb (length (rest_from [] rest)) 0 then [] else said.Nothing ∷ [])) e;
+          more = map line_says ls ++ (when eqb (length (rest_from [] rest)) 0 then [] else None ∷ []);
+          same = ap (λ (t : List (List ℕ)). map line_says t ++ (when eqb (length (rest_from [] rest)) 0 then [] else None ∷ [])) e;
           there = ⊎_elim (λ n. inl n)
               (λ o. inr record { p = line_says l; after = file_of ls ++ rest_from [] rest; fit = o.0; same = text ∙ ap (λ (k : List ℕ). k ++ (10 ∷ (file_of ls ++ rest_from [] rest))) o.1 })
               (pack_line l (line_says l) refl);
@@ -134,7 +135,7 @@ one_pack p line more f e q = record {
   end = q.end;
 }
 
-no_pack : (line more : List ℕ) → NoFeed line → line_says line ≡ said.Nothing → Parsed (line ++ (10 ∷ more))
+no_pack : (line more : List ℕ) → NoFeed line → line_says line ≡ None → Parsed (line ++ (10 ∷ more))
 unfolding file_of
 no_pack line more n e = record {
   packs = [];
@@ -154,7 +155,7 @@ unfolding file_of
 parsed [] r n m = cut_short r m
 parsed (line ∷ ls) r n m = subst Parsed (sym (append_assoc line (10 ∷ file_of ls) r)) (by (pack_line line (line_says line) refl) (parsed ls r n.1 m))
   where
-    by : (line_says line ≡ said.Nothing) ⊎ (Fits (line_says line) × (line ≡ line_of (line_says line))) → Parsed (file_of ls ++ r) → Parsed (line ++ (10 ∷ (file_of ls ++ r)))
+    by : (line_says line ≡ None) ⊎ (Fits (line_says line) × (line ≡ line_of (line_says line))) → Parsed (file_of ls ++ r) → Parsed (line ++ (10 ∷ (file_of ls ++ r)))
     by (inl none) q = no_pack line (file_of ls ++ r) n.0 none
     by (inr o) q = one_pack (line_says line) line (file_of ls ++ r) o.0 o.1 q
 

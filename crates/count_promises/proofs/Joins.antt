@@ -6,7 +6,7 @@ use mathlib.Core.List.{List, [], ◌∷◌, ◌++◌, append-nil}
 use mathlib.Core.Option.{some}
 use native.Mathlib.Omega.{arith}
 use lib.ListN.{length, length-append}
-use Rattle.packs.specs.declared.Said.{Said}
+use Rattle.packs.specs.Said.{Said}
 use Rattle.report.specs.Report.{Figures, Report, report}
 use Rattle.count_promises.specs.Packs.{said_in, cycles_in, answers_in, lowest_of, highest_of, figures_of, report_of, outcome_of}
 use Rattle.count_promises.specs.Lines.{AllPacks}

@@ -15,8 +15,9 @@ use Rattle.hexadecimal.specs.Digits.{in_digits}
 use Rattle.hexadecimal.specs.Line.{line_bytes}
 use Rattle.hexadecimal.proofs.Digits.{hexadecimal}
 use Rattle.lines.specs.Input.{lines_from, rest_from}
-use Rattle.packs.specs.declared.Said.{Said}
-use Rattle.packs.specs.declared.Said.TheVariants as said
+use Rattle.std.specs.Prelude.{Some, None}
+use Rattle.packs.specs.Said.{Said}
+use Rattle.packs.specs.declared.Pack.TheVariants as pack
 use Rattle.packs.proofs.Lies.{pick}
 use Rattle.count_promises.specs.Packs.{cycles_said, answer_said, bytes_say, line_says}
 use Rattle.count_promises.specs.Lines.{read_line, unread_line, Lines, file_of, NoFeed, NoFeeds, Whole}
@@ -32,13 +33,13 @@ two_bytes a b ha hb zero = ha
 two_bytes a b ha hb (suc zero) = hb
 two_bytes a b ha hb (suc (suc k)) = omega arith
 
-read_says : (cycles : ℕ) → cycles < 65536 → line_says (read_line cycles) ≡ said.Read cycles
+read_says : (cycles : ℕ) → cycles < 65536 → line_says (read_line cycles) ≡ Some (pack.Read cycles)
 unfolding line_says bytes_say cycles_said when◌then◌else◌
 read_says cycles h =
     rw (hexadecimal.reads (0 ∷ cycles % 256 ∷ cycles / 256 ∷ []) (three_bytes 0 (cycles % 256) (cycles / 256) (omega arith) (omega arith) (omega arith)))
-    (ap said.Read (omega arith))
+    (ap Some (ap pack.Read (omega arith)))
 
-unread_says : (answer : ℕ) → 0 < answer → answer < 256 → line_says (unread_line answer) ≡ said.Unread answer
+unread_says : (answer : ℕ) → 0 < answer → answer < 256 → line_says (unread_line answer) ≡ Some (pack.Unread answer)
 unfolding line_says bytes_say answer_said when◌then◌else◌
 unread_says answer some h =
     rw (hexadecimal.reads (1 ∷ answer ∷ []) (two_bytes 1 answer (omega arith) h), ne_eqb answer 0 (λ e. absurd (omega arith))) refl
@@ -52,14 +53,14 @@ SaysUnread s answer = AllBytes s → (0 < answer) × (answer < 256) × (s ≡ 1 
 
 -- what is read out of a statement about what is said
 abbrev IfRead : (ℕ → Type 0) → Said → Type 0
-IfRead P (said.Read cycles) = P cycles
-IfRead P (said.Unread answer) = Unit {0}
-IfRead P said.Nothing = Unit {0}
+IfRead P (Some (pack.Read cycles)) = P cycles
+IfRead P (Some (pack.Unread answer)) = Unit {0}
+IfRead P None = Unit {0}
 
 abbrev IfUnread : (ℕ → Type 0) → Said → Type 0
-IfUnread P (said.Read cycles) = Unit {0}
-IfUnread P (said.Unread answer) = P answer
-IfUnread P said.Nothing = Unit {0}
+IfUnread P (Some (pack.Read cycles)) = Unit {0}
+IfUnread P (Some (pack.Unread answer)) = P answer
+IfUnread P None = Unit {0}
 
 cycles_read : (kind : ℕ) (s : List ℕ) → kind ≡ 0 → IfRead (SaysRead (kind ∷ s)) (cycles_said s)
 unfolding cycles_said
@@ -76,7 +77,7 @@ cycles_read kind (low ∷ high ∷ b ∷ s) e = tt
 answers_read : (kind : ℕ) (s : List ℕ) → IfRead (SaysRead (kind ∷ s)) (answer_said s)
 unfolding answer_said
 answers_read kind [] = tt
-answers_read kind (answer ∷ []) = pick (IfRead (SaysRead (kind ∷ answer ∷ []))) (eqb answer 0) said.Nothing (said.Unread answer) (λ e. tt) (λ e. tt)
+answers_read kind (answer ∷ []) = pick (IfRead (SaysRead (kind ∷ answer ∷ []))) (eqb answer 0) None (Some (pack.Unread answer)) (λ e. tt) (λ e. tt)
 answers_read kind (answer ∷ b ∷ s) = tt
 
 bytes_read : (s : List ℕ) → IfRead (SaysRead s) (bytes_say s)
@@ -84,7 +85,7 @@ unfolding bytes_say
 bytes_read [] = tt
 bytes_read (kind ∷ s) =
     pick (IfRead (SaysRead (kind ∷ s))) (eqb kind 0) (cycles_said s) _ (λ e. cycles_read kind s (eqb-true kind 0 e))
-    (λ e. pick (IfRead (SaysRead (kind ∷ s))) (eqb kind 1) (answer_said s) said.Nothing (λ f. answers_read kind s) (λ f. tt))
+    (λ e. pick (IfRead (SaysRead (kind ∷ s))) (eqb kind 1) (answer_said s) None (λ f. answers_read kind s) (λ f. tt))
 
 cycles_unread : (kind : ℕ) (s : List ℕ) → IfUnread (SaysUnread (kind ∷ s)) (cycles_said s)
 unfolding cycles_said
@@ -97,7 +98,7 @@ answers_unread : (kind : ℕ) (s : List ℕ) → kind ≡ 1 → IfUnread (SaysUn
 unfolding answer_said
 answers_unread kind [] e = tt
 answers_unread kind (answer ∷ []) e =
-    pick (IfUnread (SaysUnread (kind ∷ answer ∷ []))) (eqb answer 0) said.Nothing (said.Unread answer) (λ f. tt)
+    pick (IfUnread (SaysUnread (kind ∷ answer ∷ []))) (eqb answer 0) None (Some (pack.Unread answer)) (λ f. tt)
     (λ f all. (pos_of_ne-zero (eqb-false answer 0 f), all 1, λ i. e i ∷ answer ∷ []))
 answers_unread kind (answer ∷ b ∷ s) e = tt
 
@@ -106,21 +107,21 @@ unfolding bytes_say
 bytes_unread [] = tt
 bytes_unread (kind ∷ s) =
     pick (IfUnread (SaysUnread (kind ∷ s))) (eqb kind 0) (cycles_said s) _ (λ e. cycles_unread kind s)
-    (λ e. pick (IfUnread (SaysUnread (kind ∷ s))) (eqb kind 1) (answer_said s) said.Nothing (λ f. answers_unread kind s (eqb-true kind 1 f)) (λ f. tt))
+    (λ e. pick (IfUnread (SaysUnread (kind ∷ s))) (eqb kind 1) (answer_said s) None (λ f. answers_unread kind s (eqb-true kind 1 f)) (λ f. tt))
 
 -- a line that says something has bytes, and is their digits
-nothing_by_none : bytes_say [] ≡ said.Nothing
+nothing_by_none : bytes_say [] ≡ None
 unfolding bytes_say
 nothing_by_none = refl
 
-only_by_read : (line : List ℕ) (cycles : ℕ) → line_says line ≡ said.Read cycles → (cycles < 65536) × (line ≡ read_line cycles)
+only_by_read : (line : List ℕ) (cycles : ℕ) → line_says line ≡ Some (pack.Read cycles) → (cycles < 65536) × (line ≡ read_line cycles)
 unfolding line_says
 only_by_read line cycles e =
     ⊎_elim (λ none. absurd (subst (IfRead (λ k. ⊥)) (sym (ap bytes_say none ∙ nothing_by_none) ∙ e) tt))
     (λ some. let p = subst (IfRead (SaysRead (line_bytes line))) e (bytes_read (line_bytes line)) some.1 in (p.0, sym some.0 ∙ ap in_digits p.1))
     (hexadecimal.only line)
 
-only_by_unread : (line : List ℕ) (answer : ℕ) → line_says line ≡ said.Unread answer → (0 < answer) × (answer < 256) × (line ≡ unread_line answer)
+only_by_unread : (line : List ℕ) (answer : ℕ) → line_says line ≡ Some (pack.Unread answer) → (0 < answer) × (answer < 256) × (line ≡ unread_line answer)
 unfolding line_says
 only_by_unread line answer e =
     ⊎_elim (λ none. absurd (subst (IfUnread (λ k. ⊥)) (sym (ap bytes_say none ∙ nothing_by_none) ∙ e) tt))

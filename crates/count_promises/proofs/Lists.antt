@@ -9,8 +9,9 @@ use lib.ListN.{length, get_or}
 use lib.Dec.{eqb}
 use borrow.Author.Tests.{eq-eqb, ne_eqb}
 use Rattle.protocol.specs.Pick.{when◌then◌else◌}
-use Rattle.packs.specs.declared.Said.{Said}
-use Rattle.packs.specs.declared.Said.TheVariants as said
+use Rattle.std.specs.Prelude.{Some, None}
+use Rattle.packs.specs.Said.{Said}
+use Rattle.packs.specs.declared.Pack.TheVariants as pack
 use Rattle.count_promises.specs.Packs.{cycles_in, answers_in, total, occurs, packs_before}
 use Rattle.count_promises.specs.Lines.{IsPack, AllPacks}
 
@@ -21,16 +22,16 @@ empty (b ∷ s) h = absurd (omega arith)
 pub cycles_append : (a b : List Said) → cycles_in (a ++ b) ≡ cycles_in a ++ cycles_in b
 unfolding cycles_in
 cycles_append [] b = refl
-cycles_append (said.Read cycles ∷ a) b = ap (λ (s : List ℕ). cycles ∷ s) (cycles_append a b)
-cycles_append (said.Unread answer ∷ a) b = cycles_append a b
-cycles_append (said.Nothing ∷ a) b = cycles_append a b
+cycles_append (Some (pack.Read cycles) ∷ a) b = ap (λ (s : List ℕ). cycles ∷ s) (cycles_append a b)
+cycles_append (Some (pack.Unread answer) ∷ a) b = cycles_append a b
+cycles_append (None ∷ a) b = cycles_append a b
 
 pub answers_append : (a b : List Said) → answers_in (a ++ b) ≡ answers_in a ++ answers_in b
 unfolding answers_in
 answers_append [] b = refl
-answers_append (said.Read cycles ∷ a) b = answers_append a b
-answers_append (said.Unread answer ∷ a) b = ap (λ (s : List ℕ). answer ∷ s) (answers_append a b)
-answers_append (said.Nothing ∷ a) b = answers_append a b
+answers_append (Some (pack.Read cycles) ∷ a) b = answers_append a b
+answers_append (Some (pack.Unread answer) ∷ a) b = ap (λ (s : List ℕ). answer ∷ s) (answers_append a b)
+answers_append (None ∷ a) b = answers_append a b
 
 pub total_append : (a b : List ℕ) → total (a ++ b) ≡ total a + total b
 unfolding total
@@ -73,40 +74,40 @@ occurs_length k (n ∷ s) = by (occurs_length k s) (eqb n k)
 pub packs_within : (ps : List Said) → packs_before ps ≤ length ps
 unfolding packs_before
 packs_within [] = omega arith
-packs_within (said.Read cycles ∷ ps) = let rest : packs_before ps ≤ length ps = packs_within ps in omega arith
-packs_within (said.Unread answer ∷ ps) = let rest : packs_before ps ≤ length ps = packs_within ps in omega arith
-packs_within (said.Nothing ∷ ps) = omega arith
+packs_within (Some (pack.Read cycles) ∷ ps) = let rest : packs_before ps ≤ length ps = packs_within ps in omega arith
+packs_within (Some (pack.Unread answer) ∷ ps) = let rest : packs_before ps ≤ length ps = packs_within ps in omega arith
+packs_within (None ∷ ps) = omega arith
 
 -- each line before it is a pack
-pub pack_before : (ps : List Said) (k : ℕ) → k < packs_before ps → IsPack (get_or ps k said.Nothing)
+pub pack_before : (ps : List Said) (k : ℕ) → k < packs_before ps → IsPack (get_or ps k None)
 unfolding packs_before
 pack_before [] k h = absurd (omega arith)
-pack_before (said.Read cycles ∷ ps) zero h = tt
-pack_before (said.Read cycles ∷ ps) (suc k) h = pack_before ps k (omega arith)
-pack_before (said.Unread answer ∷ ps) zero h = tt
-pack_before (said.Unread answer ∷ ps) (suc k) h = pack_before ps k (omega arith)
-pack_before (said.Nothing ∷ ps) k h = absurd (omega arith)
+pack_before (Some (pack.Read cycles) ∷ ps) zero h = tt
+pack_before (Some (pack.Read cycles) ∷ ps) (suc k) h = pack_before ps k (omega arith)
+pack_before (Some (pack.Unread answer) ∷ ps) zero h = tt
+pack_before (Some (pack.Unread answer) ∷ ps) (suc k) h = pack_before ps k (omega arith)
+pack_before (None ∷ ps) k h = absurd (omega arith)
 
 -- and it is none
-pub none_there : (ps : List Said) → packs_before ps < length ps → get_or ps (packs_before ps) said.Nothing ≡ said.Nothing
+pub none_there : (ps : List Said) → packs_before ps < length ps → get_or ps (packs_before ps) None ≡ None
 unfolding packs_before
 none_there [] h = refl
-none_there (said.Read cycles ∷ ps) h = none_there ps (omega arith)
-none_there (said.Unread answer ∷ ps) h = none_there ps (omega arith)
-none_there (said.Nothing ∷ ps) h = refl
+none_there (Some (pack.Read cycles) ∷ ps) h = none_there ps (omega arith)
+none_there (Some (pack.Unread answer) ∷ ps) h = none_there ps (omega arith)
+none_there (None ∷ ps) h = refl
 
 -- as many packs as there are before a place, where each line before it is one
-pub packs_least : (ps : List Said) (k : ℕ) → k ≤ length ps → ((i : ℕ) → i < k → IsPack (get_or ps i said.Nothing)) → k ≤ packs_before ps
+pub packs_least : (ps : List Said) (k : ℕ) → k ≤ length ps → ((i : ℕ) → i < k → IsPack (get_or ps i None)) → k ≤ packs_before ps
 unfolding packs_before
 packs_least ps zero le h = omega arith
 packs_least [] (suc k) le h = absurd (omega arith)
-packs_least (said.Read cycles ∷ ps) (suc k) le h =
+packs_least (Some (pack.Read cycles) ∷ ps) (suc k) le h =
     let rest : k ≤ packs_before ps = packs_least ps k (omega arith) (λ i l. h (suc i) (omega arith)) in
     omega arith
-packs_least (said.Unread answer ∷ ps) (suc k) le h =
+packs_least (Some (pack.Unread answer) ∷ ps) (suc k) le h =
     let rest : k ≤ packs_before ps = packs_least ps k (omega arith) (λ i l. h (suc i) (omega arith)) in
     omega arith
-packs_least (said.Nothing ∷ ps) (suc k) le h = absurd (h zero (omega arith))
+packs_least (None ∷ ps) (suc k) le h = absurd (h zero (omega arith))
 
 -- each line is a pack where none comes before the end, and the other way round
 pub all_before : (ps : List Said) → AllPacks ps → packs_before ps ≡ length ps
@@ -119,9 +120,9 @@ before_all ps e k h = pack_before ps k (omega arith)
 pub before_append : (a b : List Said) → packs_before a ≡ length a → packs_before (a ++ b) ≡ length a + packs_before b
 unfolding packs_before
 before_append [] b h = omega arith
-before_append (said.Read cycles ∷ a) b h = omega (arith, before_append a b (omega arith))
-before_append (said.Unread answer ∷ a) b h = omega (arith, before_append a b (omega arith))
-before_append (said.Nothing ∷ a) b h = absurd (omega arith)
+before_append (Some (pack.Read cycles) ∷ a) b h = omega (arith, before_append a b (omega arith))
+before_append (Some (pack.Unread answer) ∷ a) b h = omega (arith, before_append a b (omega arith))
+before_append (None ∷ a) b h = absurd (omega arith)
 
 pub packs_append : (a b : List Said) → AllPacks a → packs_before (a ++ b) ≡ length a + packs_before b
 packs_append a b h = before_append a b (all_before a h)

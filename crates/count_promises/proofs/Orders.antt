@@ -5,8 +5,9 @@ use mathlib.Core.Path.{◌≡◌, refl, sym, ap, ◌∙◌, fun_ext}
 use mathlib.Core.List.{List, [], ◌∷◌, ◌++◌, map}
 use native.Mathlib.Omega.{arith}
 use lib.ListN.{length}
-use Rattle.packs.specs.declared.Said.{Said}
-use Rattle.packs.specs.declared.Said.TheVariants as said
+use Rattle.std.specs.Prelude.{Some, None}
+use Rattle.packs.specs.Said.{Said}
+use Rattle.packs.specs.declared.Pack.TheVariants as pack
 use Rattle.report.specs.Report.{text_of}
 use Rattle.count_promises.specs.Packs.{said_in, cycles_in, answers_in, total, occurs, lowest_of, highest_of, figures_of, report_of, packs_before, counted, outcome_of, printed_of}
 use Rattle.count_promises.specs.Lines.{file_of, AllFit, line_of, IsPack, AllPacks}
@@ -30,21 +31,21 @@ append_reordered more (and_then r s) = and_then (append_reordered more r) (appen
 -- the cycles and the answers are in another order, too
 cycles_keep : (p : Said) (a b : List Said) → Reordered (cycles_in a) (cycles_in b) → Reordered (cycles_in (p ∷ a)) (cycles_in (p ∷ b))
 unfolding cycles_in
-cycles_keep (said.Read cycles) a b r = keep cycles r
-cycles_keep (said.Unread answer) a b r = r
-cycles_keep said.Nothing a b r = r
+cycles_keep (Some (pack.Read cycles)) a b r = keep cycles r
+cycles_keep (Some (pack.Unread answer)) a b r = r
+cycles_keep None a b r = r
 
 cycles_swap : (p q : Said) (a : List Said) → Reordered (cycles_in (p ∷ q ∷ a)) (cycles_in (q ∷ p ∷ a))
 unfolding cycles_in
-cycles_swap (said.Read cycles) (said.Read others) a = swap cycles others
-cycles_swap (said.Read cycles) (said.Unread answer) a = same
-cycles_swap (said.Read cycles) said.Nothing a = same
-cycles_swap (said.Unread answer) (said.Read cycles) a = same
-cycles_swap (said.Unread answer) (said.Unread other) a = same
-cycles_swap (said.Unread answer) said.Nothing a = same
-cycles_swap said.Nothing (said.Read cycles) a = same
-cycles_swap said.Nothing (said.Unread answer) a = same
-cycles_swap said.Nothing said.Nothing a = same
+cycles_swap (Some (pack.Read cycles)) (Some (pack.Read others)) a = swap cycles others
+cycles_swap (Some (pack.Read cycles)) (Some (pack.Unread answer)) a = same
+cycles_swap (Some (pack.Read cycles)) None a = same
+cycles_swap (Some (pack.Unread answer)) (Some (pack.Read cycles)) a = same
+cycles_swap (Some (pack.Unread answer)) (Some (pack.Unread other)) a = same
+cycles_swap (Some (pack.Unread answer)) None a = same
+cycles_swap None (Some (pack.Read cycles)) a = same
+cycles_swap None (Some (pack.Unread answer)) a = same
+cycles_swap None None a = same
 
 cycles_reordered : {a b : List Said} → Reordered a b → Reordered (cycles_in a) (cycles_in b)
 cycles_reordered same = same
@@ -54,21 +55,21 @@ cycles_reordered (and_then r s) = and_then (cycles_reordered r) (cycles_reordere
 
 answers_keep : (p : Said) (a b : List Said) → Reordered (answers_in a) (answers_in b) → Reordered (answers_in (p ∷ a)) (answers_in (p ∷ b))
 unfolding answers_in
-answers_keep (said.Read cycles) a b r = r
-answers_keep (said.Unread answer) a b r = keep answer r
-answers_keep said.Nothing a b r = r
+answers_keep (Some (pack.Read cycles)) a b r = r
+answers_keep (Some (pack.Unread answer)) a b r = keep answer r
+answers_keep None a b r = r
 
 answers_swap : (p q : Said) (a : List Said) → Reordered (answers_in (p ∷ q ∷ a)) (answers_in (q ∷ p ∷ a))
 unfolding answers_in
-answers_swap (said.Read cycles) (said.Read others) a = same
-answers_swap (said.Read cycles) (said.Unread answer) a = same
-answers_swap (said.Read cycles) said.Nothing a = same
-answers_swap (said.Unread answer) (said.Read cycles) a = same
-answers_swap (said.Unread answer) (said.Unread other) a = swap answer other
-answers_swap (said.Unread answer) said.Nothing a = same
-answers_swap said.Nothing (said.Read cycles) a = same
-answers_swap said.Nothing (said.Unread answer) a = same
-answers_swap said.Nothing said.Nothing a = same
+answers_swap (Some (pack.Read cycles)) (Some (pack.Read others)) a = same
+answers_swap (Some (pack.Read cycles)) (Some (pack.Unread answer)) a = same
+answers_swap (Some (pack.Read cycles)) None a = same
+answers_swap (Some (pack.Unread answer)) (Some (pack.Read cycles)) a = same
+answers_swap (Some (pack.Unread answer)) (Some (pack.Unread other)) a = swap answer other
+answers_swap (Some (pack.Unread answer)) None a = same
+answers_swap None (Some (pack.Read cycles)) a = same
+answers_swap None (Some (pack.Unread answer)) a = same
+answers_swap None None a = same
 
 answers_reordered : {a b : List Said} → Reordered a b → Reordered (answers_in a) (answers_in b)
 answers_reordered same = same

@@ -7,8 +7,8 @@ use native.Mathlib.Omega.{arith}
 use lib.ListN.{length, length-append}
 use borrow.Author.Tests.{lt-ltb, le-ltb}
 use Rattle.protocol.specs.Pick.{when◌then◌else◌}
-use Rattle.packs.specs.declared.Said.{Said}
-use Rattle.packs.specs.declared.Said.TheVariants as said
+use Rattle.std.specs.Prelude.{None}
+use Rattle.packs.specs.Said.{Said}
 use Rattle.report.specs.Report.{report, refused}
 use Rattle.count_promises.specs.Packs.{packs_before, counted, outcome_of, report_of}
 use Rattle.count_promises.specs.Lines.{AllFit}
@@ -23,13 +23,13 @@ module _ (ps : List Said) (fits : AllFit ps) where
       rw (le-ltb (min (packs_before ps) 65535) (length ps) (omega arith)) refl
 
   -- a line that is no pack
-  pub bad_outcome : (rest : List Said) → length ps ≤ 65535 → outcome_of (ps ++ said.Nothing ∷ rest) ≡ refused (suc (length ps))
+  pub bad_outcome : (rest : List Said) → length ps ≤ 65535 → outcome_of (ps ++ None ∷ rest) ≡ refused (suc (length ps))
   unfolding outcome_of counted packs_before when◌then◌else◌
   bad_outcome rest h =
-      let e : packs_before (ps ++ said.Nothing ∷ rest) ≡ length ps + 0 = before_append ps (said.Nothing ∷ rest) (fit_before ps fits) in
-      let n : length (ps ++ said.Nothing ∷ rest) ≡ length ps + suc (length rest) = length-append ps (said.Nothing ∷ rest) in
-      let k : min (packs_before (ps ++ said.Nothing ∷ rest)) 65535 ≡ length ps = omega arith in
-      rw (k, lt-ltb (length ps) (length (ps ++ said.Nothing ∷ rest)) (omega arith)) refl
+      let e : packs_before (ps ++ None ∷ rest) ≡ length ps + 0 = before_append ps (None ∷ rest) (fit_before ps fits) in
+      let n : length (ps ++ None ∷ rest) ≡ length ps + suc (length rest) = length-append ps (None ∷ rest) in
+      let k : min (packs_before (ps ++ None ∷ rest)) 65535 ≡ length ps = omega arith in
+      rw (k, lt-ltb (length ps) (length (ps ++ None ∷ rest)) (omega arith)) refl
 
   -- a line after 65,535
   pub full_outcome : (p : Said) (rest : List Said) → length ps ≡ 65535 → outcome_of (ps ++ p ∷ rest) ≡ refused (suc (length ps))

@@ -12,10 +12,12 @@ use borrow.Author.Tests.{lt-ltb, le-ltb, le-leb, eq-eqb, ne_eqb, ltb-true, ltb-f
 use Rattle.protocol.specs.Pick.{when◌then◌else◌}
 use Rattle.hexadecimal.specs.Hex.{value_of}
 use Rattle.lines.specs.Input.{lines_from, rest_from}
-use Rattle.packs.specs.declared.Said.{Said}
-use Rattle.packs.specs.declared.Said.TheVariants as said
+use Rattle.std.specs.Prelude.{Some, None}
+use Rattle.packs.specs.Said.{Said}
+use Rattle.packs.specs.declared.Pack.TheVariants as pack
 use Rattle.packs.specs.declared.Count.{Count}
-use Rattle.packs.specs.Sheet.{Sheet, sheet}
+use Rattle.packs.specs.declared.Sheet.{Sheet}
+use Rattle.packs.specs.Sheet.{sheet}
 use Rattle.packs.specs.Count.{no_packs, between_of, refused_of, start_of, start_sheet, seen_of, is_refused, add_read, add_unread, one_more, said_of, counted_by, counted_of, step_of, feed_of}
 use Rattle.packs.proofs.Feed.{within, feed_append, step_digit, step_line}
 use Rattle.packs.proofs.Lies.{pick}
@@ -106,9 +108,9 @@ held_none = record { digits = tt; number = refl; most = omega arith }
 
 -- what a line says has its range
 abbrev Range : Said → Type 0
-Range (said.Read cycles) = Fits (said.Read cycles)
-Range (said.Unread answer) = Fits (said.Unread answer)
-Range said.Nothing = Unit {0}
+Range (Some (pack.Read cycles)) = Fits (Some (pack.Read cycles))
+Range (Some (pack.Unread answer)) = Fits (Some (pack.Unread answer))
+Range None = Unit {0}
 
 said_range : (line : ℕ) → Range (said_of line)
 unfolding said_of
@@ -127,12 +129,12 @@ module _ (s : List ℕ) (ps : List Said) (count : Count) (numbers : List ℕ) (c
 
   taken_line : (p : Said) → Range p → length ps < 65535 → Follows → outcome_in (feed_of s (counted_by p count numbers)) ≡ outcome_of (ps ++ p ∷ said_from [] s)
   unfolding counted_by between_of
-  taken_line (said.Read k) r room follows =
-      follows (ps ++ (said.Read k ∷ [])) (add_read count k) numbers (counted_read ps count numbers c room k r) ∙ ap outcome_of (append_snoc ps (said.Read k) (said_from [] s))
-  taken_line (said.Unread k) r room follows =
-      follows (ps ++ (said.Unread k ∷ [])) (add_unread count) (one_more k numbers) (counted_unread ps count numbers c room k r.0 r.1)
-      ∙ ap outcome_of (append_snoc ps (said.Unread k) (said_from [] s))
-  taken_line said.Nothing r room follows =
+  taken_line (Some (pack.Read k)) r room follows =
+      follows (ps ++ (Some (pack.Read k) ∷ [])) (add_read count k) numbers (counted_read ps count numbers c room k r) ∙ ap outcome_of (append_snoc ps (Some (pack.Read k)) (said_from [] s))
+  taken_line (Some (pack.Unread k)) r room follows =
+      follows (ps ++ (Some (pack.Unread k) ∷ [])) (add_unread count) (one_more k numbers) (counted_unread ps count numbers c room k r.0 r.1)
+      ∙ ap outcome_of (append_snoc ps (Some (pack.Unread k)) (said_from [] s))
+  taken_line None r room follows =
       refused_out count numbers s ∙ ap (λ (n : ℕ). refused (suc n)) (counted_seen ps count numbers c) ∙ sym (bad_outcome ps c.fits (said_from [] s) c.most)
 
   counted_line : (p : Said) → Range p → Follows → outcome_in (feed_of s (counted_of p count numbers)) ≡ outcome_of (ps ++ p ∷ said_from [] s)
@@ -196,7 +198,7 @@ fed_byte b s held ps count line numbers c h follows goes_on = by (eqb b 10) refl
 
     by : (t : Bool) → eqb b 10 ≡ t
         → outcome_in (feed_of s (step_of b (within count line numbers)))
-        ≡ outcome_of (ps ++ (map line_says (when t then held ∷ lines_from [] s else lines_from (held ++ (b ∷ [])) s) ++ (when eqb (length (when t then rest_from [] s else rest_from (held ++ (b ∷ [])) s)) 0 then [] else said.Nothing ∷ [])))
+        ≡ outcome_of (ps ++ (map line_says (when t then held ∷ lines_from [] s else lines_from (held ++ (b ∷ [])) s) ++ (when eqb (length (when t then rest_from [] s else rest_from (held ++ (b ∷ [])) s)) 0 then [] else None ∷ [])))
     by true e =
         let q : b ≡ 10 = eqb-true b 10 e in
         let says = says_same held line h in

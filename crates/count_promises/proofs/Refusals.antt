@@ -10,8 +10,8 @@ use lib.ListN.{length, get_or}
 use lib.Dec.{ltb}
 use borrow.Author.Tests.{ltb-true, ltb-false, lt-ltb, le-ltb}
 use Rattle.protocol.specs.Pick.{when◌then◌else◌}
-use Rattle.packs.specs.declared.Said.{Said}
-use Rattle.packs.specs.declared.Said.TheVariants as said
+use Rattle.std.specs.Prelude.{None}
+use Rattle.packs.specs.Said.{Said}
 use Rattle.report.specs.Report.{Report, Outcome, report, refused}
 use Rattle.count_promises.specs.Packs.{report_of, packs_before, counted, outcome_of}
 use Rattle.count_promises.specs.Lines.{IsPack, AllPacks, FirstBad, RefusedAt, Refusals}
@@ -28,7 +28,7 @@ unfolding outcome_of when◌then◌else◌
 reported_there ps h = rw (le-ltb (counted ps) (length ps) h)
 
 -- the packs before a line that is none
-no_pack : (ps : List Said) (k : ℕ) → get_or ps k said.Nothing ≡ said.Nothing → packs_before ps ≤ k
+no_pack : (ps : List Said) (k : ℕ) → get_or ps k None ≡ None → packs_before ps ≤ k
 no_pack ps k e = by (ltb k (packs_before ps)) refl
   where
     by : (t : Bool) → ltb k (packs_before ps) ≡ t → packs_before ps ≤ k
@@ -42,7 +42,7 @@ refuses ps k f = refused_there ps k (by f.bad) f.there
     least : k ≤ packs_before ps
     least = packs_least ps k (omega (arith, f.there)) f.before
 
-    by : (get_or ps k said.Nothing ≡ said.Nothing) ⊎ (k ≡ 65535) → min (packs_before ps) 65535 ≡ k
+    by : (get_or ps k None ≡ None) ⊎ (k ≡ 65535) → min (packs_before ps) 65535 ≡ k
     by (inl e) = omega (arith, least, no_pack ps k e, f.within)
     by (inr e) = omega (arith, least, e)
 
@@ -51,7 +51,7 @@ first_bad : (ps : List Said) → counted ps < length ps → FirstBad ps (counted
 unfolding counted
 first_bad ps h = record { there = h; bad = bad (ltb (packs_before ps) 65535) refl; before = λ i l. pack_before ps i (omega arith); within = omega arith }
   where
-    bad : (t : Bool) → ltb (packs_before ps) 65535 ≡ t → (get_or ps (min (packs_before ps) 65535) said.Nothing ≡ said.Nothing) ⊎ (min (packs_before ps) 65535 ≡ 65535)
+    bad : (t : Bool) → ltb (packs_before ps) 65535 ≡ t → (get_or ps (min (packs_before ps) 65535) None ≡ None) ⊎ (min (packs_before ps) 65535 ≡ 65535)
     bad true l =
         let e : min (packs_before ps) 65535 ≡ packs_before ps = omega (arith, ltb-true (packs_before ps) 65535 l) in
         inl (rw e (none_there ps (rw e at h)))

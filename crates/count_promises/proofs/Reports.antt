@@ -3,7 +3,7 @@
 use mathlib.Core.Path.{◌≡◌}
 use mathlib.Core.List.{List}
 use mathlib.Core.Option.{some}
-use Rattle.packs.specs.declared.Said.{Said}
+use Rattle.packs.specs.Said.{Said}
 use Rattle.report.specs.Report.{Figures}
 use Rattle.count_promises.specs.Packs.{cycles_in, report_of}
 use Rattle.count_promises.specs.Reports.{Bounds, Reports}

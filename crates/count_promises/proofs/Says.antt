@@ -12,7 +12,9 @@ use borrow.Author.Tests.{lt-ltb, le-ltb, le-leb, lt-leb, eqb-true, eqb-false}
 use Rattle.protocol.specs.Pick.{when◌then◌else◌}
 use Rattle.hexadecimal.specs.Hex.{value_of, byte_of, bytes_of}
 use Rattle.hexadecimal.specs.Line.{line_bytes}
-use Rattle.packs.specs.declared.Said.TheVariants as said
+use Rattle.std.specs.Prelude.{Some, None}
+use Rattle.packs.specs.declared.Pack.TheVariants as pack
+use Rattle.packs.specs.Said.{Said}
 use Rattle.packs.specs.Count.{said_of}
 use Rattle.count_promises.specs.Packs.{cycles_said, answer_said, bytes_say, line_says}
 
@@ -57,28 +59,28 @@ unfolding bytes_of
 bytes_single c = refl
 
 -- a line of none, one or more than three bytes is no pack
-pub nothing_says : bytes_say [] ≡ said.Nothing
+pub nothing_says : bytes_say [] ≡ None
 unfolding bytes_say
 nothing_says = refl
 
-none_say : bytes_say (line_bytes []) ≡ said.Nothing
+none_say : bytes_say (line_bytes []) ≡ None
 unfolding bytes_say line_bytes bytes_of when◌then◌else◌
 none_say = refl
 
-single_say : (c : ℕ) → bytes_say (line_bytes (c ∷ [])) ≡ said.Nothing
+single_say : (c : ℕ) → bytes_say (line_bytes (c ∷ [])) ≡ None
 unfolding bytes_say line_bytes bytes_of when◌then◌else◌
 single_say c = refl
 
-says_one : (x : ℕ) → bytes_say (x ∷ []) ≡ said.Nothing
+says_one : (x : ℕ) → bytes_say (x ∷ []) ≡ None
 unfolding bytes_say cycles_said answer_said when◌then◌else◌
 says_one x = by (eqb x 0) (eqb x 1)
   where
-    by : (t u : Bool) → (when t then said.Nothing else (when u then said.Nothing else said.Nothing)) ≡ said.Nothing
+    by : (t u : Bool) → ◌≡◌ {A = Said} (when t then None else (when u then None else None)) None
     by true u = refl
     by false true = refl
     by false false = refl
 
-pub says_long : (s : List ℕ) → 4 ≤ length s → bytes_say s ≡ said.Nothing
+pub says_long : (s : List ℕ) → 4 ≤ length s → bytes_say s ≡ None
 unfolding bytes_say cycles_said answer_said when◌then◌else◌
 says_long [] h = absurd (omega arith)
 says_long (a ∷ []) h = absurd (omega arith)
@@ -86,7 +88,7 @@ says_long (a ∷ b ∷ []) h = absurd (omega arith)
 says_long (a ∷ b ∷ c ∷ []) h = absurd (omega arith)
 says_long (a ∷ b ∷ c ∷ d ∷ s) h = by (eqb a 0) (eqb a 1)
   where
-    by : (t u : Bool) → (when t then said.Nothing else (when u then said.Nothing else said.Nothing)) ≡ said.Nothing
+    by : (t u : Bool) → ◌≡◌ {A = Said} (when t then None else (when u then None else None)) None
     by true u = refl
     by false true = refl
     by false false = refl
@@ -103,13 +105,13 @@ two_say x y hx hy = by (eqb x 0) refl (eqb x 1) refl (eqb y 0) refl
     few = lt-leb 0x1000000 line (omega arith)
 
     by : (t : Bool) → eqb x 0 ≡ t → (u : Bool) → eqb x 1 ≡ u → (w : Bool) → eqb y 0 ≡ w
-        → said_of line ≡ (when t then said.Nothing else (when u then (when w then said.Nothing else said.Unread y) else said.Nothing))
+        → said_of line ≡ (when t then None else (when u then (when w then None else Some (pack.Unread y)) else None))
     by true e u f w g = let z = eqb-true x 0 e in rw (few, le-ltb 0x10100 line (omega arith)) refl
     by false e true f true g = let z = eqb-true x 1 f in let n = eqb-true y 0 g in rw (few, le-ltb 0x10100 line (omega arith)) refl
     by false e true f false g =
         let z = eqb-true x 1 f in
         let n : 0 < y = pos_of_ne-zero (eqb-false y 0 g) in
-        rw (few, lt-ltb 0x10100 line (omega arith), lt-ltb line 0x10200 (omega arith)) (ap said.Unread (omega arith))
+        rw (few, lt-ltb 0x10100 line (omega arith), lt-ltb line 0x10200 (omega arith)) (ap Some (ap pack.Unread (omega arith)))
     by false e false f w g =
         let n : 1 < x = more x (eqb-false x 0 e) (eqb-false x 1 f) in
         rw (few, lt-ltb 0x10100 line (omega arith), le-ltb line 0x10200 (omega arith)) refl
@@ -126,8 +128,8 @@ three_say x y z hx hy hz = by (eqb x 0) refl (eqb x 1) refl
     six = le-leb 0x1000000 line (omega arith)
 
     by : (t : Bool) → eqb x 0 ≡ t → (u : Bool) → eqb x 1 ≡ u
-        → said_of line ≡ (when t then said.Read (y + 256 * z) else (when u then said.Nothing else said.Nothing))
-    by true e u f = let n = eqb-true x 0 e in rw (six, lt-ltb line 0x1010000 (omega arith)) (ap said.Read (omega arith))
+        → said_of line ≡ (when t then Some (pack.Read (y + 256 * z)) else (when u then None else None))
+    by true e u f = let n = eqb-true x 0 e in rw (six, lt-ltb line 0x1010000 (omega arith)) (ap Some (ap pack.Read (omega arith)))
     by false e true f = let n : 0 < x = pos_of_ne-zero (eqb-false x 0 e) in rw (six, le-ltb line 0x1010000 (omega arith)) refl
     by false e false f = let n : 0 < x = pos_of_ne-zero (eqb-false x 0 e) in rw (six, le-ltb line 0x1010000 (omega arith)) refl
 
@@ -138,11 +140,11 @@ pub record Held (held : List ℕ) (line : ℕ) : Type 0 where
   pub most : length held ≤ 6
 
 -- numbers that say nothing
-small_says : (line : ℕ) → line ≤ 0x10100 → said_of line ≡ said.Nothing
+small_says : (line : ℕ) → line ≤ 0x10100 → said_of line ≡ None
 unfolding said_of when◌then◌else◌
 small_says line h = rw (lt-leb 0x1000000 line (omega arith), le-ltb 0x10100 line h) refl
 
-middle_says : (line : ℕ) → 0x10200 ≤ line → line < 0x1000000 → said_of line ≡ said.Nothing
+middle_says : (line : ℕ) → 0x10200 ≤ line → line < 0x1000000 → said_of line ≡ None
 unfolding said_of when◌then◌else◌
 middle_says line h k = rw (lt-leb 0x1000000 line k, lt-ltb 0x10100 line (omega arith), le-ltb line 0x10200 h) refl
 

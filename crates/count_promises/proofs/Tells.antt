@@ -14,8 +14,9 @@ use Rattle.protocol.specs.Pick.{when◌then◌else◌}
 use Rattle.protocol.specs.Answer.{number_of}
 use Rattle.protocol.specs.declared.error.Answer.TheVariants as answer
 use Rattle.hexadecimal.specs.Text.{ascii}
-use Rattle.packs.specs.declared.Said.{Said}
-use Rattle.packs.specs.declared.Said.TheVariants as said
+use Rattle.std.specs.Prelude.{Some, None}
+use Rattle.packs.specs.Said.{Said}
+use Rattle.packs.specs.declared.Pack.TheVariants as pack
 use Rattle.report.specs.Decimal.{in_places, decimal_of, number_in}
 use Rattle.report.specs.Report.{Figures, Report, report, refused, line, by_number, of_read, text_of}
 use Rattle.report.proofs.Decimals.{AllDecimal, all_decimal, decimals}
@@ -223,12 +224,12 @@ ten_digits ps h most =
 no_answer : (ps : List Said) (k : ℕ) → AllFit ps → (k ≡ 0) ⊎ (255 < k) → occurs k (answers_in ps) ≡ 0
 unfolding answers_in
 no_answer [] k h out = occurs_none k
-no_answer (said.Read cycles ∷ ps) k h out = no_answer ps k h.1 out
-no_answer (said.Unread answer ∷ ps) k h out =
+no_answer (Some (pack.Read cycles) ∷ ps) k h out = no_answer ps k h.1 out
+no_answer (Some (pack.Unread answer) ∷ ps) k h out =
     let least = h.0.0 in
     let most = h.0.1 in
     occurs_other k answer (answers_in ps) (λ e. ⊎_elim (λ z. absurd (omega arith)) (λ far. absurd (omega arith)) out) ∙ no_answer ps k h.1 out
-no_answer (said.Nothing ∷ ps) k h out = absurd h.0
+no_answer (None ∷ ps) k h out = absurd h.0
 
 same_answers : (ps qs : List Said) → AllFit ps → AllFit qs → ((k : ℕ) → 0 < k → k ≤ 255 → occurs k (answers_in ps) ≡ occurs k (answers_in qs))
     → (k : ℕ) → occurs k (answers_in ps) ≡ occurs k (answers_in qs)

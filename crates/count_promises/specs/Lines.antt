@@ -1,10 +1,10 @@
 -- Which lines are packs, and which files are refused. (02, W-212)
 -- Assumes nothing.
-use Rattle.std.specs.Prelude.{ℕ, suc, ◌/◌, ◌%◌, ◌≤◌, ◌<◌, ◌≡◌, List, [], ◌∷◌, ◌++◌, map, ◌⊎◌, length, get_or}
+use Rattle.std.specs.Prelude.{ℕ, suc, ◌/◌, ◌%◌, ◌≤◌, ◌<◌, ◌≡◌, List, [], ◌∷◌, ◌++◌, map, ◌⊎◌, length, get_or, Some, None}
 use Rattle.hexadecimal.specs.Digits.{in_digits}
 use Rattle.lines.specs.Input.{lines_from, rest_from}
-use Rattle.packs.specs.declared.Said.{Said}
-use Rattle.packs.specs.declared.Said.TheVariants as said
+use Rattle.packs.specs.Said.{Said}
+use Rattle.packs.specs.declared.Pack.TheVariants as pack
 use Rattle.report.specs.Report.{Report, report, refused}
 use Rattle.count_promises.specs.Packs.{line_says, said_in, report_of, outcome_of}
 
@@ -17,10 +17,10 @@ unread_line answer = in_digits (0x01 ∷ answer ∷ [])
 
 -- these lines are packs, and no other
 pub record Lines : Type 0 where
-  pub read : (cycles : ℕ) → cycles < 65536 → line_says (read_line cycles) ≡ said.Read cycles
-  pub unread : (answer : ℕ) → 0 < answer → answer < 256 → line_says (unread_line answer) ≡ said.Unread answer
-  pub only_read : (line : List ℕ) (cycles : ℕ) → line_says line ≡ said.Read cycles → (cycles < 65536) × (line ≡ read_line cycles)
-  pub only_unread : (line : List ℕ) (answer : ℕ) → line_says line ≡ said.Unread answer → (0 < answer) × (answer < 256) × (line ≡ unread_line answer)
+  pub read : (cycles : ℕ) → cycles < 65536 → line_says (read_line cycles) ≡ Some (pack.Read cycles)
+  pub unread : (answer : ℕ) → 0 < answer → answer < 256 → line_says (unread_line answer) ≡ Some (pack.Unread answer)
+  pub only_read : (line : List ℕ) (cycles : ℕ) → line_says line ≡ Some (pack.Read cycles) → (cycles < 65536) × (line ≡ read_line cycles)
+  pub only_unread : (line : List ℕ) (answer : ℕ) → line_says line ≡ Some (pack.Unread answer) → (0 < answer) × (answer < 256) × (line ≡ unread_line answer)
 
 -- lines, each with its line feed
 unfoldable pub file_of : List (List ℕ) → List ℕ
@@ -43,18 +43,18 @@ pub record Whole : Type 0 where
 
 -- a pack that has room on a line, and its line
 abbrev pub Fits : Said → Type 0
-Fits (said.Read cycles) = cycles ≤ 65535
-Fits (said.Unread answer) = (0 < answer) × (answer ≤ 255)
-Fits said.Nothing = ⊥
+Fits (Some (pack.Read cycles)) = cycles ≤ 65535
+Fits (Some (pack.Unread answer)) = (0 < answer) × (answer ≤ 255)
+Fits None = ⊥
 
 abbrev pub AllFit : List Said → Type 0
 AllFit [] = Unit {0}
 AllFit (p ∷ ps) = Fits p × AllFit ps
 
 abbrev pub line_of : Said → List ℕ
-line_of (said.Read cycles) = read_line cycles
-line_of (said.Unread answer) = unread_line answer
-line_of said.Nothing = []
+line_of (Some (pack.Read cycles)) = read_line cycles
+line_of (Some (pack.Unread answer)) = unread_line answer
+line_of None = []
 
 -- packs, one a line, and nothing else
 pub record Accepted (input : List ℕ) : Type 0 where
@@ -80,19 +80,19 @@ pub record Files : Type 0 where
   pub every : (input : List ℕ) → Accepted input ⊎ Refused input
 
 abbrev pub IsPack : Said → Type 0
-IsPack (said.Read cycles) = Unit {0}
-IsPack (said.Unread answer) = Unit {0}
-IsPack said.Nothing = ⊥
+IsPack (Some (pack.Read cycles)) = Unit {0}
+IsPack (Some (pack.Unread answer)) = Unit {0}
+IsPack None = ⊥
 
 -- each line is a pack
 abbrev pub AllPacks : List Said → Type 0
-AllPacks ps = (k : ℕ) → k < length ps → IsPack (get_or ps k said.Nothing)
+AllPacks ps = (k : ℕ) → k < length ps → IsPack (get_or ps k None)
 
 -- line k + 1 is the first that is no pack, or it is line 65,536 after 65,535 packs
 pub record FirstBad (ps : List Said) (k : ℕ) : Type 0 where
   pub there : k < length ps
-  pub bad : (get_or ps k said.Nothing ≡ said.Nothing) ⊎ (k ≡ 65535)
-  pub before : (i : ℕ) → i < k → IsPack (get_or ps i said.Nothing)
+  pub bad : (get_or ps k None ≡ None) ⊎ (k ≡ 65535)
+  pub before : (i : ℕ) → i < k → IsPack (get_or ps i None)
   pub within : k ≤ 65535
 
 pub record RefusedAt (ps : List Said) (n : ℕ) : Type 0 where

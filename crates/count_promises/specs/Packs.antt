@@ -1,31 +1,31 @@
 -- What stands on the lines of a file, and the report over it, in the words of the request. (02, W-212)
 -- Assumes nothing.
-use Rattle.std.specs.Prelude.{ℕ, suc, ◌+◌, ◌*◌, ◌/◌, ◌%◌, min, max, List, [], ◌∷◌, ◌++◌, map, length, ltb, eqb}
+use Rattle.std.specs.Prelude.{ℕ, suc, ◌+◌, ◌*◌, ◌/◌, ◌%◌, min, max, List, [], ◌∷◌, ◌++◌, map, length, ltb, eqb, Some, None}
 use Rattle.std.proofs.Math.Option.{Option, none, some}
 use Rattle.protocol.specs.Pick.{when◌then◌else◌}
 use Rattle.hexadecimal.specs.Line.{line_bytes}
 use Rattle.lines.specs.Input.{lines_from, rest_from}
-use Rattle.packs.specs.declared.Said.{Said}
-use Rattle.packs.specs.declared.Said.TheVariants as said
+use Rattle.packs.specs.Said.{Said}
+use Rattle.packs.specs.declared.Pack.TheVariants as pack
 use Rattle.report.specs.Report.{Figures, Report, Outcome, report, refused, text_of}
 
 -- after 00, two bytes: the cycles, low byte first
 unfoldable pub cycles_said : List ℕ → Said
-cycles_said [] = said.Nothing
-cycles_said (low ∷ []) = said.Nothing
-cycles_said (low ∷ high ∷ []) = said.Read (low + 256 * high)
-cycles_said (low ∷ high ∷ b ∷ s) = said.Nothing
+cycles_said [] = None
+cycles_said (low ∷ []) = None
+cycles_said (low ∷ high ∷ []) = Some (pack.Read (low + 256 * high))
+cycles_said (low ∷ high ∷ b ∷ s) = None
 
 -- after 01, one byte: the answer that stopped the read, which is not 0
 unfoldable pub answer_said : List ℕ → Said
-answer_said [] = said.Nothing
-answer_said (answer ∷ []) = when eqb answer 0 then said.Nothing else said.Unread answer
-answer_said (answer ∷ b ∷ s) = said.Nothing
+answer_said [] = None
+answer_said (answer ∷ []) = when eqb answer 0 then None else Some (pack.Unread answer)
+answer_said (answer ∷ b ∷ s) = None
 
 -- what the bytes of a line say
 unfoldable pub bytes_say : List ℕ → Said
-bytes_say [] = said.Nothing
-bytes_say (kind ∷ s) = when eqb kind 0 then cycles_said s else when eqb kind 1 then answer_said s else said.Nothing
+bytes_say [] = None
+bytes_say (kind ∷ s) = when eqb kind 0 then cycles_said s else when eqb kind 1 then answer_said s else None
 
 -- what a line says: upper-case hexadecimal, as on the bench
 unfoldable pub line_says : List ℕ → Said
@@ -33,21 +33,21 @@ line_says line = bytes_say (line_bytes line)
 
 -- what the lines of an input say; what follows its last line feed is no pack
 unfoldable pub said_in : List ℕ → List Said
-said_in input = map line_says (lines_from [] input) ++ (when eqb (length (rest_from [] input)) 0 then [] else said.Nothing ∷ [])
+said_in input = map line_says (lines_from [] input) ++ (when eqb (length (rest_from [] input)) 0 then [] else None ∷ [])
 
 -- the cycles of the packs that were read
 unfoldable pub cycles_in : List Said → List ℕ
 cycles_in [] = []
-cycles_in (said.Read cycles ∷ ps) = cycles ∷ cycles_in ps
-cycles_in (said.Unread answer ∷ ps) = cycles_in ps
-cycles_in (said.Nothing ∷ ps) = cycles_in ps
+cycles_in (Some (pack.Read cycles) ∷ ps) = cycles ∷ cycles_in ps
+cycles_in (Some (pack.Unread answer) ∷ ps) = cycles_in ps
+cycles_in (None ∷ ps) = cycles_in ps
 
 -- the answers that stopped the others
 unfoldable pub answers_in : List Said → List ℕ
 answers_in [] = []
-answers_in (said.Read cycles ∷ ps) = answers_in ps
-answers_in (said.Unread answer ∷ ps) = answer ∷ answers_in ps
-answers_in (said.Nothing ∷ ps) = answers_in ps
+answers_in (Some (pack.Read cycles) ∷ ps) = answers_in ps
+answers_in (Some (pack.Unread answer) ∷ ps) = answer ∷ answers_in ps
+answers_in (None ∷ ps) = answers_in ps
 
 unfoldable pub total : List ℕ → ℕ
 total [] = 0
@@ -87,9 +87,9 @@ report_of ps = record {
 -- how many packs there are before the first line that is none
 unfoldable pub packs_before : List Said → ℕ
 packs_before [] = 0
-packs_before (said.Read cycles ∷ ps) = suc (packs_before ps)
-packs_before (said.Unread answer ∷ ps) = suc (packs_before ps)
-packs_before (said.Nothing ∷ ps) = 0
+packs_before (Some (pack.Read cycles) ∷ ps) = suc (packs_before ps)
+packs_before (Some (pack.Unread answer) ∷ ps) = suc (packs_before ps)
+packs_before (None ∷ ps) = 0
 
 -- how many lines are counted: up to the first that is no pack, and 65,535 at most
 unfoldable pub counted : List Said → ℕ

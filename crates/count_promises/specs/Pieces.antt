@@ -1,7 +1,7 @@
 -- The count, piece by piece, comes to the outcome of the whole input. (02, W-212)
 -- Assumes nothing.
 use Rattle.std.specs.Prelude.{ℕ, ◌≡◌, true, List, [], ◌∷◌, ◌++◌}
-use Rattle.packs.specs.Sheet.{Sheet}
+use Rattle.packs.specs.declared.Sheet.{Sheet}
 use Rattle.packs.specs.Count.{start_sheet, is_refused, feed_of}
 use Rattle.report.specs.Sheet.{outcome_in}
 use Rattle.count_promises.specs.Packs.{said_in, outcome_of}

@@ -1,10 +1,10 @@
 -- What holds of every report: its figures belong together, the order of the lines does not matter, and two files can be joined. (02, W-212)
 -- Assumes nothing.
-use Rattle.std.specs.Prelude.{ℕ, zero, suc, ◌+◌, ◌*◌, ◌≤◌, ◌<◌, min, max, ◌≡◌, List, ◌∷◌, ◌++◌, map, replicate}
+use Rattle.std.specs.Prelude.{ℕ, zero, suc, ◌+◌, ◌*◌, ◌≤◌, ◌<◌, min, max, ◌≡◌, List, ◌∷◌, ◌++◌, map, replicate, Some}
 use Rattle.std.proofs.Math.Option.{Option, none, some}
 use Rattle.hexadecimal.specs.Text.{ascii}
-use Rattle.packs.specs.declared.Said.{Said}
-use Rattle.packs.specs.declared.Said.TheVariants as said
+use Rattle.packs.specs.Said.{Said}
+use Rattle.packs.specs.declared.Pack.TheVariants as pack
 use Rattle.report.specs.Report.{Figures, Report, report, refused, text_of}
 use Rattle.count_promises.specs.Packs.{said_in, cycles_in, occurs, report_of, outcome_of, printed_of}
 use Rattle.count_promises.specs.Lines.{file_of, Fits, AllFit, line_of, AllPacks}
@@ -76,12 +76,12 @@ pub record JoinedFiles (s t : List ℕ) (r q : Report) : Type 0 where
 -- the largest figures, and one pack too many
 pub record Largest : Type 0 where
   pub bits : 65535 * 65535 < 4294967296
-  pub sum : (report_of (replicate 65535 (said.Read 65535))).sum ≡ 4294836225
+  pub sum : (report_of (replicate 65535 (Some (pack.Read 65535)))).sum ≡ 4294836225
   pub full : (p : Said) → Fits p → outcome_of (replicate 65535 p) ≡ report (report_of (replicate 65535 p))
   pub over : (p : Said) → Fits p → outcome_of (replicate 65536 p) ≡ refused 65536
-  pub printed : text_of (outcome_of (replicate 65535 (said.Read 65535)))
+  pub printed : text_of (outcome_of (replicate 65535 (Some (pack.Read 65535))))
       ≡ ascii "seen\t65535\nread\t65535\nunread\t0\nsum\t4294836225\nlowest\t65535\nhighest\t65535\nmean\t65535\nremainder\t0\n"
-  pub printed_over : text_of (outcome_of (replicate 65536 (said.Unread 1))) ≡ ascii "refused\t11\t65536\n"
+  pub printed_over : text_of (outcome_of (replicate 65536 (Some (pack.Unread 1)))) ≡ ascii "refused\t11\t65536\n"
 
 pub record Reports : Type 0 where
   pub largest : Largest

@@ -1,11 +1,11 @@
 -- Unread is not zero: a pack that nobody has read never counts as a pack that nobody has used. (02, W-212)
 -- Assumes nothing.
-use Rattle.std.specs.Prelude.{ℕ, suc, ◌+◌, ◌<◌, ◌≡◌, List, [], ◌∷◌, ◌++◌}
+use Rattle.std.specs.Prelude.{ℕ, suc, ◌+◌, ◌<◌, ◌≡◌, List, [], ◌∷◌, ◌++◌, Some}
 use Rattle.std.proofs.Math.Option.{none, some}
 use Rattle.hexadecimal.specs.Text.{ascii}
 use Rattle.lines.specs.Input.{rest_from}
-use Rattle.packs.specs.declared.Said.{Said}
-use Rattle.packs.specs.declared.Said.TheVariants as said
+use Rattle.packs.specs.Said.{Said}
+use Rattle.packs.specs.declared.Pack.TheVariants as pack
 use Rattle.report.specs.Report.{Figures, Report, report, line, by_number, text_of}
 use Rattle.count_promises.specs.Packs.{said_in, report_of, outcome_of, printed_of}
 use Rattle.count_promises.specs.Lines.{read_line, unread_line}
@@ -47,11 +47,11 @@ pub record OneMoreLine (s t : List ℕ) (answer : ℕ) (before : Report) : Type 
   pub adds : OneMoreUnread answer before after
 
 pub record UnreadIsNotZero : Type 0 where
-  pub adds : (a b : List Said) (answer : ℕ) → OneMoreUnread answer (report_of (a ++ b)) (report_of (a ++ said.Unread answer ∷ b))
+  pub adds : (a b : List Said) (answer : ℕ) → OneMoreUnread answer (report_of (a ++ b)) (report_of (a ++ Some (pack.Unread answer) ∷ b))
   pub adds_line : (s t : List ℕ) (answer : ℕ) (r : Report) → rest_from [] s ≡ [] → 0 < answer → answer < 256 → outcome_of (said_in (s ++ t)) ≡ report r → r.seen < 65535
       → OneMoreLine s t answer r
   pub none_read_lem : (input : List ℕ) (r : Report) → outcome_of (said_in input) ≡ report r → r.read ≡ 0 → text_of (report r) ≡ none_read r
-  pub adds_read : (a b : List Said) (cycles : ℕ) → OneMoreRead cycles (report_of (a ++ b)) (report_of (a ++ said.Read cycles ∷ b))
+  pub adds_read : (a b : List Said) (cycles : ℕ) → OneMoreRead cycles (report_of (a ++ b)) (report_of (a ++ Some (pack.Read cycles) ∷ b))
   -- two files that differ in one pack, which is unread in one and read in the other, have different reports, also where it has 0 cycles
   pub differs : (s t : List ℕ) (answer cycles : ℕ) (r : Report) → rest_from [] s ≡ [] → 0 < answer → answer < 256 → cycles < 65536
       → outcome_of (said_in (s ++ (unread_line answer ++ (10 ∷ t)))) ≡ report r

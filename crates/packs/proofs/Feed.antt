@@ -9,10 +9,12 @@ use lib.Dec.{eqb}
 use borrow.Author.Tests.{lt-ltb, le-ltb, le-leb, lt-leb, ne_eqb}
 use Rattle.protocol.specs.Pick.{when◌then◌else◌}
 use Rattle.hexadecimal.specs.Hex.{value_of}
-use Rattle.packs.specs.declared.Said.{Said}
-use Rattle.packs.specs.declared.Said.TheVariants as said
+use Rattle.std.specs.Prelude.{Some}
+use Rattle.packs.specs.Said.{Said}
+use Rattle.packs.specs.declared.Pack.TheVariants as pack
 use Rattle.packs.specs.declared.Count.{Count}
-use Rattle.packs.specs.Sheet.{Sheet, sheet}
+use Rattle.packs.specs.declared.Sheet.{Sheet}
+use Rattle.packs.specs.Sheet.{sheet}
 use Rattle.packs.specs.Count.{is_refused, said_of, counted_of, digit_of, step_of, feed_of}
 
 -- in a line, after so many packs, with these digits after the 1
@@ -55,12 +57,12 @@ module _ (count : Count) (numbers : List ℕ) where
   -- 00, two bytes and a line feed
   pub feed_read : (a b c d : ℕ) (t : List ℕ) → value_of a < 16 → value_of b < 16 → value_of c < 16 → value_of d < 16
       → feed_of (48 ∷ 48 ∷ a ∷ b ∷ c ∷ d ∷ 10 ∷ t) (within count 1 numbers)
-      ≡ feed_of t (counted_of (said.Read ((value_of c * 16 + value_of d) * 256 + (value_of a * 16 + value_of b))) count numbers)
+      ≡ feed_of t (counted_of (Some (pack.Read ((value_of c * 16 + value_of d) * 256 + (value_of a * 16 + value_of b)))) count numbers)
   unfolding value_of said_of when◌then◌else◌
   feed_read a b c d t ha hb hc hd =
       let line : ℕ = (((256 * 16 + value_of a) * 16 + value_of b) * 16 + value_of c) * 16 + value_of d in
-      let says : said_of line ≡ said.Read ((value_of c * 16 + value_of d) * 256 + (value_of a * 16 + value_of b)) =
-      rw (le-leb 0x1000000 line (omega arith), lt-ltb line 0x1010000 (omega arith)) (ap said.Read (omega arith)) in
+      let says : said_of line ≡ Some (pack.Read ((value_of c * 16 + value_of d) * 256 + (value_of a * 16 + value_of b))) =
+      rw (le-leb 0x1000000 line (omega arith), lt-ltb line 0x1010000 (omega arith)) (ap Some (ap pack.Read (omega arith))) in
       feed_digit 48 1 _ (omega arith) (omega arith) (omega arith)
       ∙ feed_digit 48 16 _ (omega arith) (omega arith) (omega arith)
       ∙ feed_digit a 256 _ ha (omega arith) (omega arith)
@@ -72,12 +74,12 @@ module _ (count : Count) (numbers : List ℕ) where
 
   -- 01, a byte that is not 0 and a line feed
   pub feed_unread : (a b : ℕ) (t : List ℕ) → value_of a < 16 → value_of b < 16 → 0 < value_of a * 16 + value_of b
-      → feed_of (48 ∷ 49 ∷ a ∷ b ∷ 10 ∷ t) (within count 1 numbers) ≡ feed_of t (counted_of (said.Unread (value_of a * 16 + value_of b)) count numbers)
+      → feed_of (48 ∷ 49 ∷ a ∷ b ∷ 10 ∷ t) (within count 1 numbers) ≡ feed_of t (counted_of (Some (pack.Unread (value_of a * 16 + value_of b))) count numbers)
   unfolding value_of said_of when◌then◌else◌
   feed_unread a b t ha hb some =
       let line : ℕ = (257 * 16 + value_of a) * 16 + value_of b in
-      let says : said_of line ≡ said.Unread (value_of a * 16 + value_of b) =
-      rw (lt-leb 0x1000000 line (omega arith), lt-ltb 0x10100 line (omega arith), lt-ltb line 0x10200 (omega arith)) (ap said.Unread (omega arith)) in
+      let says : said_of line ≡ Some (pack.Unread (value_of a * 16 + value_of b)) =
+      rw (lt-leb 0x1000000 line (omega arith), lt-ltb 0x10100 line (omega arith), lt-ltb line 0x10200 (omega arith)) (ap Some (ap pack.Unread (omega arith))) in
       feed_digit 48 1 _ (omega arith) (omega arith) (omega arith)
       ∙ feed_digit 49 16 _ (omega arith) (omega arith) (omega arith)
       ∙ feed_digit a 257 _ ha (omega arith) (omega arith)

@@ -12,11 +12,11 @@ use lib.Dec.{ltb, eqb}
 use borrow.Author.Tests.{eqb-true, eqb-false, ltb-false}
 use Rattle.protocol.specs.Pick.{when◌then◌else◌}
 use Rattle.hexadecimal.specs.Hex.{value_of, byte_of}
-use Rattle.packs.specs.declared.Said.{Said}
-use Rattle.packs.specs.declared.Said.TheVariants as said
+use Rattle.std.specs.Prelude.{Some, None}
+use Rattle.packs.specs.Said.{Said}
+use Rattle.packs.specs.declared.Pack.TheVariants as pack
 use Rattle.packs.specs.declared.Count.{Count}
-use Rattle.packs.specs.declared.Reader.{Reader}
-use Rattle.packs.specs.Sheet.{Sheet, sheet}
+use Rattle.packs.specs.declared.Sheet.{Sheet}
 use Rattle.packs.specs.Count.{counted_of, step_of, feed_of}
 use Rattle.packs.specs.Ahead.{pair_at, read_ahead, unread_ahead, ahead_of, line_at, used_by, turn_of}
 use Rattle.packs.proofs.Feed.{within, feed_read, feed_unread}
@@ -78,7 +78,7 @@ module _ (chunk : List ℕ) (at : ℕ) (count : Count) (numbers : List ℕ) wher
   Leads s = (at + used_by s ≤ length chunk) × (feed_of (drop at chunk) (within count 1 numbers) ≡ feed_of (drop (at + used_by s) chunk) (turn_of s (get_or chunk at 0) (within count 1 numbers)))
 
   read_leads : at + 7 ≤ length chunk → get_or chunk at 0 ≡ 48 → get_or chunk (at + 1) 0 ≡ 48 → get_or chunk (at + 6) 0 ≡ 10
-      → pair_at chunk (at + 2) ≤ 255 → pair_at chunk (at + 4) ≤ 255 → Leads (said.Read (pair_at chunk (at + 4) * 256 + pair_at chunk (at + 2)))
+      → pair_at chunk (at + 2) ≤ 255 → pair_at chunk (at + 4) ≤ 255 → Leads (Some (pack.Read (pair_at chunk (at + 4) * 256 + pair_at chunk (at + 2))))
   unfolding Leads used_by turn_of
   read_leads h e₀ e₁ e₆ low high =
       let p = pair_at_lem chunk at 2 low in
@@ -91,11 +91,11 @@ module _ (chunk : List ℕ) (at : ℕ) (count : Count) (numbers : List ℕ) wher
         h,
         ap (λ (t : List ℕ). feed_of t (within count 1 numbers)) (seven chunk at h ∙ bytes)
             ∙ feed_read count numbers (g 2) (g 3) (g 4) (g 5) rest p.0 p.1 q.0 q.1
-            ∙ ap (λ (k : ℕ). feed_of rest (counted_of (said.Read k) count numbers)) cycles,
+            ∙ ap (λ (k : ℕ). feed_of rest (counted_of (Some (pack.Read k)) count numbers)) cycles,
       )
 
   unread_leads : at + 5 ≤ length chunk → get_or chunk at 0 ≡ 48 → get_or chunk (at + 1) 0 ≡ 49 → get_or chunk (at + 4) 0 ≡ 10
-      → 0 < pair_at chunk (at + 2) → pair_at chunk (at + 2) ≤ 255 → Leads (said.Unread (pair_at chunk (at + 2)))
+      → 0 < pair_at chunk (at + 2) → pair_at chunk (at + 2) ≤ 255 → Leads (Some (pack.Unread (pair_at chunk (at + 2))))
   unfolding Leads used_by turn_of
   unread_leads h e₀ e₁ e₄ some fits =
       let p = pair_at_lem chunk at 2 fits in
@@ -106,7 +106,7 @@ module _ (chunk : List ℕ) (at : ℕ) (count : Count) (numbers : List ℕ) wher
         h,
         ap (λ (t : List ℕ). feed_of t (within count 1 numbers)) (five chunk at h ∙ bytes)
             ∙ feed_unread count numbers (g 2) (g 3) rest p.0 p.1 more
-            ∙ ap (λ (k : ℕ). feed_of rest (counted_of (said.Unread k) count numbers)) (sym p.2),
+            ∙ ap (λ (k : ℕ). feed_of rest (counted_of (Some (pack.Unread k)) count numbers)) (sym p.2),
       )
 
   -- one byte, from any place in a line
@@ -114,7 +114,7 @@ module _ (chunk : List ℕ) (at : ℕ) (count : Count) (numbers : List ℕ) wher
   unfolding feed_of
   byte_leads d h = ap (λ (t : List ℕ). feed_of t d) (drop_first chunk at h)
 
-  none_leads : at < length chunk → Leads said.Nothing
+  none_leads : at < length chunk → Leads None
   unfolding Leads used_by turn_of
   none_leads h = (omega arith, byte_leads (within count 1 numbers) h)
 
@@ -151,22 +151,22 @@ module _ (chunk : List ℕ) (at : ℕ) (count : Count) (numbers : List ℕ) wher
       (λ e. none_leads h))
 
 -- a turn of `take`: its line, counted where it lies, or one byte
-pub turn_leads : (chunk : List ℕ) (at : ℕ) (r : Reader) (numbers : List ℕ) (line : Said) → at < length chunk → line ≡ line_at r.line chunk at
-    → (at + used_by line ≤ length chunk) × (feed_of (drop at chunk) (sheet r numbers) ≡ feed_of (drop (at + used_by line) chunk) (turn_of line (get_or chunk at 0) (sheet r numbers)))
+pub turn_leads : (chunk : List ℕ) (at : ℕ) (d : Sheet) (line : Said) → at < length chunk → line ≡ line_at d.reader.line chunk at
+    → (at + used_by line ≤ length chunk) × (feed_of (drop at chunk) d ≡ feed_of (drop (at + used_by line) chunk) (turn_of line (get_or chunk at 0) d))
 unfolding line_at Leads used_by turn_of when◌then◌else◌
-turn_leads chunk at r numbers line h = by (eqb r.line 1) refl
+turn_leads chunk at d line h = by (eqb d.reader.line 1) refl
   where
-    by : (t : Bool) → eqb r.line 1 ≡ t → line ≡ (when t then ahead_of chunk at else said.Nothing)
-        → (at + used_by line ≤ length chunk) × (feed_of (drop at chunk) (sheet r numbers) ≡ feed_of (drop (at + used_by line) chunk) (turn_of line (get_or chunk at 0) (sheet r numbers)))
-    by true e q = rw (q, eqb-true r.line 1 e) (ahead_leads chunk at r.count numbers h)
-    by false e q = rw q (omega arith, byte_leads chunk at r.count numbers (sheet r numbers) h)
+    by : (t : Bool) → eqb d.reader.line 1 ≡ t → line ≡ (when t then ahead_of chunk at else None)
+        → (at + used_by line ≤ length chunk) × (feed_of (drop at chunk) d ≡ feed_of (drop (at + used_by line) chunk) (turn_of line (get_or chunk at 0) d))
+    by true e q = rw (q, eqb-true d.reader.line 1 e) (ahead_leads chunk at d.reader.count d.numbers h)
+    by false e q = rw q (omega arith, byte_leads chunk at d.reader.count d.numbers d h)
 
 -- so what is left of the chunk leads to the same
-pub turn_on : (chunk : List ℕ) (at next : ℕ) (r q : Reader) (numbers after : List ℕ) (line : Said) (d : Sheet) → at < length chunk → line ≡ line_at r.line chunk at
-    → (next ≡ at + used_by line) × (sheet q after ≡ turn_of line (get_or chunk at 0) (sheet r numbers)) → feed_of (drop at chunk) (sheet r numbers) ≡ d
-    → (next ≤ length chunk) × (feed_of (drop next chunk) (sheet q after) ≡ d)
-turn_on chunk at next r q numbers after line d h e t same =
-    let l = turn_leads chunk at r numbers line h e in
+pub turn_on : (chunk : List ℕ) (at next : ℕ) (d after : Sheet) (line : Said) (v : Sheet) → at < length chunk → line ≡ line_at d.reader.line chunk at
+    → (next ≡ at + used_by line) × (after ≡ turn_of line (get_or chunk at 0) d) → feed_of (drop at chunk) d ≡ v
+    → (next ≤ length chunk) × (feed_of (drop next chunk) after ≡ v)
+turn_on chunk at next d after line v h e t same =
+    let l = turn_leads chunk at d line h e in
     (rw t.0 l.0, rw (t.0, t.1) (sym l.1 ∙ same))
 
 -- with nothing left, it is where that leads

@@ -1,13 +1,14 @@
 -- The count over the lines so far, byte by byte. (02, W-212)
 -- Assumes nothing.
-use Rattle.std.specs.Prelude.{ℕ, ◌+◌, ◌*◌, ◌/◌, ◌%◌, min, max, Bool, List, [], ◌∷◌, set, get_or, replicate, ltb, leb, eqb}
+use Rattle.std.specs.Prelude.{ℕ, ◌+◌, ◌*◌, ◌/◌, ◌%◌, min, max, Bool, List, [], ◌∷◌, set, get_or, replicate, ltb, leb, eqb, Some, None}
 use Rattle.protocol.specs.Pick.{when◌then◌else◌}
 use Rattle.hexadecimal.specs.Hex.{value_of}
-use Rattle.packs.specs.declared.Said.{Said}
-use Rattle.packs.specs.declared.Said.TheVariants as said
+use Rattle.packs.specs.Said.{Said}
+use Rattle.packs.specs.declared.Pack.TheVariants as pack
 use Rattle.packs.specs.declared.Count.{Count}
 use Rattle.packs.specs.declared.Reader.{Reader}
-use Rattle.packs.specs.Sheet.{Sheet, sheet}
+use Rattle.packs.specs.declared.Sheet.{Sheet}
+use Rattle.packs.specs.Sheet.{sheet}
 
 -- no packs; whatever is lower than the lowest or higher than the highest takes its place
 unfoldable pub no_packs : Count
@@ -55,15 +56,15 @@ one_more answer numbers = set numbers answer ((get_or numbers answer 0 + 1) % 65
 -- what a line's digits say, a number after a 1: 00 and the cycles, low byte first; 01 and an answer that is not 0
 unfoldable pub said_of : ℕ → Said
 said_of line =
-    when leb 0x1000000 line then (when ltb line 0x1010000 then said.Read (line % 256 * 256 + line / 256 % 256) else said.Nothing) else
-    when ltb 0x10100 line then (when ltb line 0x10200 then said.Unread (line % 256) else said.Nothing) else
-    said.Nothing
+    when leb 0x1000000 line then (when ltb line 0x1010000 then Some (pack.Read (line % 256 * 256 + line / 256 % 256)) else None) else
+    when ltb 0x10100 line then (when ltb line 0x10200 then Some (pack.Unread (line % 256)) else None) else
+    None
 
 -- a pack is counted
 unfoldable pub counted_by : Said → Count → List ℕ → Sheet
-counted_by (said.Read cycles) count numbers = sheet (between_of (add_read count cycles)) numbers
-counted_by (said.Unread answer) count numbers = sheet (between_of (add_unread count)) (one_more answer numbers)
-counted_by said.Nothing count numbers = sheet (refused_of count) numbers
+counted_by (Some (pack.Read cycles)) count numbers = sheet (between_of (add_read count cycles)) numbers
+counted_by (Some (pack.Unread answer)) count numbers = sheet (between_of (add_unread count)) (one_more answer numbers)
+counted_by None count numbers = sheet (refused_of count) numbers
 
 -- a line is whole: it is refused where it is no pack, or one too many
 unfoldable pub counted_of : Said → Count → List ℕ → Sheet

@@ -1,3 +1,5 @@
+pub mod Digits
+pub mod Said
 pub mod Sheet
 pub mod Count
 pub mod Ahead

@@ -2,10 +2,7 @@
 -- Assumes nothing.
 use Rattle.std.specs.Prelude.{ℕ, List}
 use Rattle.packs.specs.declared.Reader.{Reader}
-
-pub record Sheet : Type 0 where
-  pub reader : Reader
-  pub numbers : List ℕ
+use Rattle.packs.specs.declared.Sheet.{Sheet}
 
 abbrev pub sheet : Reader → List ℕ → Sheet
 sheet reader numbers = record { reader = reader; numbers = numbers }

@@ -13,7 +13,8 @@ use Rattle.protocol.specs.Pick.{when◌then◌else◌}
 use Rattle.protocol.specs.Bytes.{over, block_in, stored_at}
 use Rattle.protocol.proofs.Cases.{cases, yes_le}
 use Rattle.protocol.proofs.Laws.{laid_more, length_over}
-use Rattle.report.specs.Page.{Page, page, put, put_unread, put_by_number}
+use Rattle.report.specs.declared.page.Page.{Page}
+use Rattle.report.specs.Page.{page, put, put_unread, put_by_number}
 
 -- a text over the front, and nothing else
 abbrev pub laid : List ℕ → List ℕ → Page
@@ -59,18 +60,18 @@ puts_either true p q = p
 puts_either false p q = q
 
 -- what is put on an empty page stands at its front
-pub puts_front : {f : Page → Page} {text : List ℕ} {most : ℕ} (out ys : List ℕ) (r : ℕ) → Puts f text most → length out ≡ most → page r ys ≡ f (page 0 out)
-    → (r ≡ length text) × (r ≤ most) × (ys ≡ over text out)
+pub puts_front : {f : Page → Page} {text : List ℕ} {most : ℕ} (out : List ℕ) (q : Page) → Puts f text most → length out ≡ most → q ≡ f (page 0 out)
+    → (q.at ≡ length text) × (q.at ≤ most) × (q.out ≡ over text out)
 unfolding page over
-puts_front {f} {text} {most} out ys r p room e =
-    let same : page r ys ≡ laid text out = e ∙ p.after [] out (omega arith) in
-    let count : r ≡ length text = ap (λ (q : Page). q.at) same in
+puts_front {f} {text} {most} out q p room e =
+    let same : q ≡ laid text out = e ∙ p.after [] out (omega arith) in
+    let count : q.at ≡ length text = ap (λ (q : Page). q.at) same in
     (count, omega (arith, p.short), ap (λ (q : Page). q.out) same)
 
 -- a text that has no room
-pub put_none : (text out : List ℕ) (at : ℕ) → length out < at + length text → page at out ≡ put text (page at out)
-unfolding put page
-put_none text out at h = search cases
+pub put_none : (text : List ℕ) (p : Page) → length p.out < p.at + length text → p ≡ put text p
+unfolding put
+put_none text p h = search cases
 
 -- storing all of a text lays it over what follows
 stored : (text out : List ℕ) (at : ℕ) → at + length text ≤ length out → stored_at at (length text) text out ≡ take at out ++ over text (drop at out)
@@ -81,10 +82,10 @@ stored text out at h =
     rw (le-leb _ _ here, whole, take-length)
 
 -- a text that was stored after what is laid
-pub put_stored : (text out ys : List ℕ) (at : ℕ) → at + length text ≤ length out → ys ≡ stored_at at (length text) text out
-    → page (at + length text) ys ≡ put text (page at out)
+pub put_stored : (text : List ℕ) (p : Page) (ys : List ℕ) → p.at + length text ≤ length p.out → ys ≡ stored_at p.at (length text) text p.out
+    → page (p.at + length text) ys ≡ put text p
 unfolding put page
-put_stored text out ys at h e = yes_le _ _ _ _ _ h (ap (page (at + length text)) (e ∙ stored text out at h))
+put_stored text p ys h e = yes_le _ _ _ _ _ h (ap (page (p.at + length text)) (e ∙ stored text p.out p.at h))
 
 -- a turn over the answer numbers: one line, and those from the next number on
 pub unread_turn : (numbers : List ℕ) (k : ℕ) (p q : Page) → k < 256 → q ≡ put_unread k (get_or numbers k 0) p

@@ -13,11 +13,11 @@ use Rattle.protocol.specs.Bytes.{over}
 use Rattle.protocol.proofs.Cases.{cases}
 use Rattle.hexadecimal.specs.Text.{ascii}
 use Rattle.packs.specs.Count.{seen_of}
-use Rattle.packs.specs.Sheet.{sheet}
+use Rattle.packs.specs.declared.Sheet.{Sheet}
 use Rattle.packs.specs.declared.Count.{Count}
-use Rattle.packs.specs.declared.Reader.{Reader}
 use Rattle.report.specs.Decimal.{decimal_of}
-use Rattle.report.specs.Page.{page, put_number, put_figure, put_line, put_unread, put_by_number, put_range, put_mean, put_of_read, put_packs, put_report}
+use Rattle.report.specs.declared.page.Page.{Page}
+use Rattle.report.specs.Page.{page, put_number, put_figure, put_line, put_unread, put_by_number, put_range, put_mean, put_of_read, put_packs, put_report, put_refused}
 use Rattle.report.specs.Report.{line, by_number, of_read, text_of, report, refused}
 use Rattle.report.specs.Sheet.{figures_in, report_in, outcome_in}
 use Rattle.report.proofs.Digits.{length_decimal}
@@ -76,29 +76,26 @@ puts_report count numbers =
     (puts_both (puts_by_number numbers 255 1)
     (puts_both (puts_line (ascii "sum") 3 count.sum (omega arith)) (puts_of_read count))))))
 
-puts_refused : (n : ℕ) → Puts (put_line (ascii "refused\t11") n) (text_of (refused n)) 8192
-unfolding text_of ascii
-puts_refused n = puts_within (omega arith) (puts_line (ascii "refused\t11") 10 n (omega arith))
+puts_refused : (count : Count) → Puts (put_refused count) (text_of (refused (seen_of count + 1))) 8192
+unfolding put_refused text_of ascii
+puts_refused count = puts_within (omega arith) (puts_line (ascii "refused\t11") 10 (seen_of count + 1) (omega arith))
 
 -- what a sheet comes to where the reader stands between two lines
-whole : (reader : Reader) (numbers : List ℕ) → reader.line ≡ 1 → report (report_in reader.count numbers) ≡ outcome_in (sheet reader numbers)
+whole : (d : Sheet) → d.reader.line ≡ 1 → report (report_in d.reader.count d.numbers) ≡ outcome_in d
 unfolding outcome_in
-whole reader numbers h = search cases
+whole d h = search cases
 
 -- and where it stands anywhere else
-partial : (reader : Reader) (numbers : List ℕ) (n : ℕ) → (reader.line ≡ 1 → ⊥) → n ≡ seen_of reader.count → refused (n + 1) ≡ outcome_in (sheet reader numbers)
+partial : (d : Sheet) → (d.reader.line ≡ 1 → ⊥) → refused (seen_of d.reader.count + 1) ≡ outcome_in d
 unfolding outcome_in
-partial reader numbers n h e =
-    let q : refused (n + 1) ≡ refused (suc (seen_of reader.count)) = ap refused (omega arith) in
-    search cases
+partial d h = let q : refused (seen_of d.reader.count + 1) ≡ refused (suc (seen_of d.reader.count)) = ap refused (omega arith) in search cases
 
 -- a page with the report on it, where the input ends between two lines
-pub laid_report : (reader : Reader) (numbers out ys : List ℕ) (r : ℕ) → reader.line ≡ 1 → length out ≡ 8192 → page r ys ≡ put_report reader.count numbers (page 0 out)
-    → (r ≡ length (text_of (outcome_in (sheet reader numbers)))) × (r ≤ 8192) × (ys ≡ over (text_of (outcome_in (sheet reader numbers))) out)
-laid_report reader numbers out ys r h room e = rw (← whole reader numbers h) (puts_front out ys r (puts_report reader.count numbers) room e)
+pub laid_report : (d : Sheet) (p q : Page) → d.reader.line ≡ 1 → length p.out ≡ 8192 → q ≡ put_report d.reader.count d.numbers (page 0 p.out)
+    → (q.at ≡ length (text_of (outcome_in d))) × (q.at ≤ 8192) × (q.out ≡ over (text_of (outcome_in d)) p.out)
+laid_report d p q h room e = rw (← whole d h) (puts_front p.out q (puts_report d.reader.count d.numbers) room e)
 
 -- and with its one line, where it ends within a line or one is refused
-pub laid_refused : (reader : Reader) (numbers out ys : List ℕ) (r n : ℕ) → (reader.line ≡ 1 → ⊥) → n ≡ seen_of reader.count → length out ≡ 8192
-    → page r ys ≡ put_line (ascii "refused\t11") (n + 1) (page 0 out)
-    → (r ≡ length (text_of (outcome_in (sheet reader numbers)))) × (r ≤ 8192) × (ys ≡ over (text_of (outcome_in (sheet reader numbers))) out)
-laid_refused reader numbers out ys r n h q room e = rw (← partial reader numbers n h q) (puts_front out ys r (puts_refused (n + 1)) room e)
+pub laid_refused : (d : Sheet) (p q : Page) → (d.reader.line ≡ 1 → ⊥) → length p.out ≡ 8192 → q ≡ put_refused d.reader.count (page 0 p.out)
+    → (q.at ≡ length (text_of (outcome_in d))) × (q.at ≤ 8192) × (q.out ≡ over (text_of (outcome_in d)) p.out)
+laid_refused d p q h room e = rw (← partial d h) (puts_front p.out q (puts_refused d.reader.count) room e)

@@ -7,11 +7,7 @@ use Rattle.hexadecimal.specs.Text.{ascii}
 use Rattle.packs.specs.Count.{seen_of}
 use Rattle.packs.specs.declared.Count.{Count}
 use Rattle.report.specs.Decimal.{decimal_of}
-
--- its bytes, of which the first `at` are laid
-pub record Page : Type 0 where
-  pub at : ℕ
-  pub out : List ℕ
+use Rattle.report.specs.declared.page.Page.{Page}
 
 -- a page of these bytes
 unfoldable pub page : ℕ → List ℕ → Page
@@ -65,3 +61,7 @@ put_packs count p = put_line (ascii "unread") count.unread (put_line (ascii "rea
 -- the whole report
 unfoldable pub put_report : Count → List ℕ → Page → Page
 put_report count numbers p = put_of_read count (put_line (ascii "sum") count.sum (put_by_number numbers 255 1 (put_packs count p)))
+
+-- the one line of a file in which the line after those that are counted is refused
+unfoldable pub put_refused : Count → Page → Page
+put_refused count p = put_line (ascii "refused\t11") (seen_of count + 1) p

@@ -4,7 +4,7 @@ use Rattle.std.specs.Prelude.{ℕ, suc, ◌/◌, ◌%◌, List, get_or, eqb}
 use Rattle.std.proofs.Math.Option.{Option, none, some}
 use Rattle.protocol.specs.Pick.{when◌then◌else◌}
 use Rattle.packs.specs.Count.{seen_of}
-use Rattle.packs.specs.Sheet.{Sheet}
+use Rattle.packs.specs.declared.Sheet.{Sheet}
 use Rattle.packs.specs.declared.Count.{Count}
 use Rattle.report.specs.Report.{Figures, Report, Outcome, report, refused}
 

@@ -1,45 +1,69 @@
-// A page that is filled from the front: its bytes, and how many of them are laid. What has no room is left out.
-ghost use Rattle.std.specs.Prelude.{◌≡◌};
+// A page that is filled from the front. What has no room is left out.
+ghost use Rattle.std.specs.Prelude.{◌≡◌, replicate, take};
 ghost use Rattle.report.specs.Page.{page, put, put_number, put_figure, put_line};
 
-use protocol::bytes::store_block;
+use crate::REPORT_BYTES;
+use protocol::bytes;
 
-// A text after the first `at` bytes; how many are laid then.
-pub(crate) fn put(out: &mut [u8], at: usize, text: &[u8]) -> usize
-    ensures { page result out.new ≡ put text.now (page at out.old) }
-{
-    if out.len() < at {
-        return at;
+// Its bytes, and how many of them are laid.
+#[derive(Drop)]
+pub struct Page {
+    pub at: usize,
+    pub out: [u8; REPORT_BYTES],
+}
+
+impl Page {
+    // With nothing laid, and zeros where there is room.
+    pub fn new() -> Page
+        ensures { result ≡ page 0 (replicate 8192 0) }
+    {
+        Page {
+            at: 0,
+            out: [0; REPORT_BYTES],
+        }
     }
-    if out.len() - at < text.len() {
-        return at;
+
+    // What is laid.
+    pub fn text(&self) -> &[u8]
+        ensures { result.now ≡ take self.now.at self.now.out }
+    {
+        bytes::front(&self.out, self.at)
     }
-    store_block(out, at, text, text.len());
-    at + text.len()
-}
 
-// A number in decimal.
-pub(crate) fn put_number(out: &mut [u8], at: usize, n: u32) -> usize
-    ensures { page result out.new ≡ put_number n (page at out.old) }
-{
-    let mut digits = [0u8; 20];
-    let places = io::decimal(n as u64, &mut digits);
-    put(out, at, &digits[..places])
-}
+    // A text after what is laid.
+    pub(crate) fn put(&mut self, text: &[u8])
+        ensures { self.new ≡ put text.now self.old }
+    {
+        if self.out.len() < self.at.saturating_add(text.len()) {
+            return;
+        }
+        bytes::store_block(&mut self.out, self.at, text, text.len());
+        self.at += text.len();
+    }
 
-// A tab, a number and a line feed: what follows a line's name.
-pub(crate) fn put_figure(out: &mut [u8], at: usize, n: u32) -> usize
-    ensures { page result out.new ≡ put_figure n (page at out.old) }
-{
-    let tab = put(out, at, b"\t");
-    let number = put_number(out, tab, n);
-    put(out, number, b"\n")
-}
+    // A number in decimal.
+    pub(crate) fn put_number(&mut self, n: u32)
+        ensures { self.new ≡ put_number n self.old }
+    {
+        let mut digits = [0u8; 20];
+        let places = io::decimal(n as u64, &mut digits);
+        self.put(&digits[..places]);
+    }
 
-// A whole line.
-pub(crate) fn put_line(out: &mut [u8], at: usize, name: &[u8], n: u32) -> usize
-    ensures { page result out.new ≡ put_line name.now n (page at out.old) }
-{
-    let named = put(out, at, name);
-    put_figure(out, named, n)
+    // A tab, a number and a line feed: what follows a line's name.
+    pub(crate) fn put_figure(&mut self, n: u32)
+        ensures { self.new ≡ put_figure n self.old }
+    {
+        self.put(b"\t");
+        self.put_number(n);
+        self.put(b"\n");
+    }
+
+    // A whole line.
+    pub(crate) fn put_line(&mut self, name: &[u8], n: u32)
+        ensures { self.new ≡ put_line name.now n self.old }
+    {
+        self.put(name);
+        self.put_figure(n);
+    }
 }

@@ -1,8 +1,0 @@
--- `packs::add_read` meets its contract: each figure is moved by one pack.
--- Assumes nothing.
-use Rattle.packs.specs.Count.{add_read}
-use Rattle.packs.proofs.add_read.Goals as goal
-
-pub returns : goal.returns
-unfolding add_read
-returns c = cc

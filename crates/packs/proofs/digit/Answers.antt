@@ -1,8 +1,0 @@
--- `packs::digit` meets its contract: the fields are those of `digit_of`.
--- Assumes nothing.
-use Rattle.packs.specs.Count.{digit_of}
-use Rattle.packs.proofs.digit.Goals as goal
-
-pub returns : goal.returns
-unfolding digit_of
-returns c = cc

@@ -1,9 +1,0 @@
--- `packs::refused` meets its contract: the test is the definition's.
--- Assumes nothing.
-use mathlib.Core.Path.{refl}
-use Rattle.packs.specs.Count.{is_refused}
-use Rattle.packs.proofs.refused.Goals as goal
-
-pub returns : goal.returns
-unfolding is_refused
-returns c = refl

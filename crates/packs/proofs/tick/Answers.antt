@@ -1,8 +1,0 @@
--- `packs::tick` meets its contract: the element is one more.
--- Assumes nothing.
-use Rattle.packs.specs.Count.{one_more}
-use Rattle.packs.proofs.tick.Goals as goal
-
-pub returns : goal.returns
-unfolding one_more
-returns c = cc
