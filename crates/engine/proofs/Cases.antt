@@ -3,7 +3,7 @@
 use Prim.Native.Nat.{ℕ}
 use mathlib.Core.Path.{◌≡◌}
 use Rattle.std.specs.Prelude.{Option, Some, None}
-use Rattle.protocol.proofs.Cases.{yes_lt, not_lt, yes_le, not_le, yes_eq, not_eq, yes_eq_of, not_eq_of, is_true, is_false, flag_true, flag_false}
+use Rattle.protocol.proofs.Cases.{yes_lt, not_lt, yes_le, not_le, yes_eq, not_eq, yes_eq_of, not_eq_of, is_true, is_false, flag_true, flag_false, negated}
 use Rattle.protocol.specs.declared.error.Answer.{Answer}
 use Rattle.engine.specs.Pick.{case◌waiting◌ended◌, case◌acknowledged◌error◌timeout◌, case◌retry◌spent◌}
 use Rattle.engine.specs.declared.budget.Budget.{Budget}
@@ -42,4 +42,4 @@ module _ {A : Type 0} where
   unfolding case◌retry◌spent◌
   at_spent u v x y f p e q = rw (← p, e) q
 
-pub ruleset cases = (yes_lt, not_lt, yes_le, not_le, yes_eq, not_eq, yes_eq_of, not_eq_of, is_true, is_false, flag_true, flag_false, at_waiting, at_ended, at_ack, at_error, at_timeout, at_retry, at_spent)
+pub ruleset cases = (yes_lt, not_lt, yes_le, not_le, yes_eq, not_eq, yes_eq_of, not_eq_of, is_true, is_false, flag_true, flag_false, negated, at_waiting, at_ended, at_ack, at_error, at_timeout, at_retry, at_spent)
