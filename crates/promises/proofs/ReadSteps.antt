@@ -1,5 +1,6 @@
 -- What one event does to a data-flash read that waits: the head or the read that is due goes out, and the call is where its outcome leads.
 -- Assumes nothing.
+use Rattle.std.specs.Prelude.{Err, Ok}
 use Prim.Native.Nat.{ℕ, zero, suc, ◌+◌, ◌*◌, ◌-◌, ◌≤◌, ◌<◌, min}
 use mathlib.Core.Path.{◌≡◌, refl, sym, ap, ◌∙◌}
 use mathlib.Core.Bool.{Bool, true, false}
@@ -17,7 +18,7 @@ use Rattle.protocol.specs.Reply.{mac_ask, bytes_asked, heard_of, data_of}
 use Rattle.protocol.specs.declared.common.Config.{Config}
 use Rattle.protocol.specs.declared.error.Answer.{Answer}
 use Rattle.protocol.specs.declared.error.Answer.TheVariants as answer
-use Rattle.protocol.specs.declared.reply.Heard.TheVariants as reply
+use Rattle.protocol.specs.declared.reply.Unheard.TheVariants as unheard
 use Rattle.protocol.proofs.Laws.{take_over, length_over, take_min, laid_more}
 use Rattle.engine.specs.Pick.{case◌waiting◌ended◌, case◌acknowledged◌error◌timeout◌}
 use Rattle.engine.specs.Budget.{tallied}
@@ -186,7 +187,7 @@ module _ (config : Config) (address size n : ℕ) where
     unfolding buffer_after judge_of weigh_of acknowledged_of heard_head case◌waiting◌ended◌ case◌acknowledged◌error◌timeout◌ case◌refused◌fault◌headed◌block◌ fits_of when◌then◌else◌
     head_heard_buffer = rw (eq-eqb (length buffer) size fits, eq-eqb n n refl)
 
-    module _ (bytes : List ℕ) (good : heard_of (block_ask (size - i * 32) config.pec_read) bytes ≡ reply.Good) where
+    module _ (bytes : List ℕ) (good : heard_of (block_ask (size - i * 32) config.pec_read) bytes ≡ (Ok tt)) where
       pub received : i < 4294967295 → call_r (report_of (read_at phase.Waiting false i b t) outcome.Acknowledged bytes size n) ≡ read_at (phase_after (blocks_of size) (suc i)) false (suc i) b (tallied t)
       unfolding report_of counted_of judge_of weigh_of acknowledged_of heard_block verdict_of due_ask ask_of advance_of parts.read_count read_dataflash case◌waiting◌ended◌ case◌acknowledged◌error◌timeout◌ case◌refused◌fault◌headed◌block◌ fits_of when◌then◌else◌
       received h =
@@ -205,7 +206,7 @@ module _ (config : Config) (address size n : ℕ) where
     unfolding read_over read_made makes
     damaged_head front last = rw shows_head
 
-    module _ (bytes : List ℕ) (wrong : heard_of (block_ask (size - i * 32) config.pec_read) bytes ≡ reply.WrongPec) where
+    module _ (bytes : List ℕ) (wrong : heard_of (block_ask (size - i * 32) config.pec_read) bytes ≡ (Err unheard.WrongPec)) where
       disbelieved : call_r (report_of (read_at phase.Waiting false i b t) outcome.Acknowledged bytes size n) ≡ fail_of (read_at phase.Waiting false i b (tallied t)) answer.Pec
       unfolding report_of counted_of judge_of weigh_of acknowledged_of heard_block verdict_of due_ask ask_of read_dataflash case◌waiting◌ended◌ case◌acknowledged◌error◌timeout◌ case◌refused◌fault◌headed◌block◌ fits_of when◌then◌else◌
       disbelieved = rw (eq-eqb size size refl, eq-eqb n n refl, wrong)
@@ -219,7 +220,7 @@ module _ (config : Config) (address size n : ℕ) where
         ≡ record { call = fail_of (read_at phase.Waiting false i b (tallied t)) answer.Pec; gauge = moved_of g; buffer = buffer; work = work; flash = flash; got = i }
     unfolding read_over makes heard when◌then◌else◌
     made_damaged pec front last full other =
-        let wrong : heard_of (block_ask (size - i * 32) config.pec_read) (front ++ (last ∷ [])) ≡ reply.WrongPec = rw pec (reply_damaged (size - i * 32) front last full other) in
+        let wrong : heard_of (block_ask (size - i * 32) config.pec_read) (front ++ (last ∷ [])) ≡ (Err unheard.WrongPec) = rw pec (reply_damaged (size - i * 32) front last full other) in
         let asks : count_at ≡ 36 = rw pec (count_of true (size - i * 32)) in
         rw (shows_read, lays_none, asks, read_acts 36 g flash (omega arith), long, disbelieved_buffer (front ++ (last ∷ [])) wrong, fits, disbelieved (front ++ (last ∷ [])) wrong)
 
