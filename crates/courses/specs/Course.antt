@@ -1,8 +1,8 @@
 -- A course, and how a run over one starts and ends. (01, The model gauge)
 -- Assumes nothing.
-use Rattle.std.specs.Prelude.{Err, Ok, Result}
-use Rattle.std.specs.Prelude.{ℕ, Bool, true, false, List, [], ◌∷◌, ltb, eqb}
+use Rattle.std.specs.Prelude.{ℕ, Bool, true, false, List, [], ◌∷◌, ltb, eqb, Result, Ok, Err}
 use Rattle.protocol.specs.Pick.{when◌then◌else◌}
+use Rattle.protocol.specs.declared.error.Answer.{Answer}
 use Rattle.protocol.specs.declared.error.Answer.TheVariants as answer
 use Rattle.engine.specs.Pick.{case◌waiting◌ended◌}
 use Rattle.engine.specs.declared.bus.Phase.{Phase}

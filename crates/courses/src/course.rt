@@ -31,7 +31,12 @@ pub(crate) fn fate(byte: u8) -> Fate
 fn sound(course: &[u8]) -> bool
     ensures { result ≡ sound_of course.now }
 {
-    course.iter().all(|&byte| byte <= 2)
+    for &byte in course {
+        if 2 < byte {
+            return false;
+        }
+    }
+    true
 }
 
 // A run starts with a flash of 8,192 bytes, else 8, and a sound course, else 11.

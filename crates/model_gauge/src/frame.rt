@@ -50,15 +50,13 @@ fn whole(frame: &[u8], count: u8) -> bool
 fn form_of(count: u8, address: u16) -> Form
     ensures { result ≡ form_of count address }
 {
-    if count == 2 {
-        return Form::Address(address);
-    }
-    if count < 3 || 34 < count {
-        return Form::Other;
-    }
-    Form::BlockWrite {
-        address,
-        count: count as usize - 2,
+    match count {
+        2 => Form::Address(address),
+        3..=34 => Form::BlockWrite {
+            address,
+            count: count as usize - 2,
+        },
+        _ => Form::Other,
     }
 }
 
