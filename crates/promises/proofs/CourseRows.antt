@@ -14,10 +14,12 @@ use Rattle.engine.specs.declared.bus.Phase.TheVariants as phase
 use Rattle.engine.specs.declared.bus.Transfer.{Transfer}
 use Rattle.engine.specs.declared.bus.Transfer.TheVariants as transfer
 use Rattle.writing.specs.Writing as writing
-use Rattle.writing.specs.declared.call.WriteTask.{WriteTask}
+use Rattle.engine.specs.declared.bus.Task.{Task}
+use Rattle.writing.specs.declared.call.WritePlan.{WritePlan}
 use Rattle.writing.specs.declared.call.WriteCall.{WriteCall}
 use Rattle.reading.specs.Reading as reading
-use Rattle.reading.specs.declared.call.ReadTask.{ReadTask}
+use Rattle.engine.specs.declared.bus.Task.{Task}
+use Rattle.reading.specs.declared.call.ReadPlan.{ReadPlan}
 use Rattle.reading.specs.declared.call.ReadCall.{ReadCall}
 use Rattle.calls.specs.Call.{next_of, work_after, wrote_of, got_of, report_of, buffer_after, phase_of, fits_of}
 use Rattle.calls.specs.declared.call.Call.{Call}
@@ -66,13 +68,13 @@ begins (call.Read c) waits = (rw waits tt, refl)
 wrote_follows : (c d : WriteCall) (r : Reported WriteCall) → SortW d r → (call_w r).task ≡ d.task → Follows (call.Write c) (call.Write d) → Follows (call.Write c) (taken_of (wrote_of r))
 unfolding taken_of wrote_of
 wrote_follows c d (Err (a, same)) s task k = subst (λ (e : WriteCall). Follows (call.Write c) (call.Write e)) (sym s.1) k
-wrote_follows c d (Ok next) s task k = (s.1, ap (λ (t : WriteTask). t.lent) task ∙ k.1)
+wrote_follows c d (Ok next) s task k = (s.1, ap (λ (t : Task WritePlan). t.lent) task ∙ k.1)
 
 got_follows : (c d : ReadCall) (before after : List ℕ) (r : Reported ReadCall) → SortR d before after r → (call_r r).task ≡ d.task → Follows (call.Read c) (call.Read d)
     → Follows (call.Read c) (taken_of (got_of r))
 unfolding taken_of got_of
 got_follows c d before after (Err (a, same)) s task k = subst (λ (e : ReadCall). Follows (call.Read c) (call.Read e)) (sym s.1) k
-got_follows c d before after (Ok next) s task k = (s.1, ap (λ (t : ReadTask). t.lent) task ∙ k.1)
+got_follows c d before after (Ok next) s task k = (s.1, ap (λ (t : Task ReadPlan). t.lent) task ∙ k.1)
 
 module _ (o : Outcome) (reply : List ℕ) (p : ℕ) (buffer : List ℕ) (w : ℕ) where
   report_follows : (c d : Call) → Follows c d → Follows c (taken_of (report_of d o reply p (length buffer) w))

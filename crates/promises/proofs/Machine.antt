@@ -30,7 +30,8 @@ use Rattle.engine.specs.declared.bus.Transfer.TheVariants as transfer
 use Rattle.writing.specs.Frames.{is_plain, frame_count, block_bytes, bytes_at}
 use Rattle.writing.specs.Writing.{plan_of, own_bytes, due_bytes, shown_of, work_shown, next_of, work_after, part_of, advance_of, fail_of, settle_of, replied_of, counted_of, report_of}
 use Rattle.writing.specs.declared.call.WriteCall.{WriteCall}
-use Rattle.writing.specs.declared.call.WriteTask.{WriteTask}
+use Rattle.engine.specs.declared.bus.Task.{Task}
+use Rattle.writing.specs.declared.call.WritePlan.{WritePlan}
 use Rattle.r5.specs.Plans.{write_dataflash}
 use Rattle.promises.specs.Events.{Cause, bus_error, timed_out, Event, acknowledged, failed, unheard, cause_of, heard_as, lent_of, flash_after, acked_after}
 use Rattle.promises.specs.Host.{makes}
@@ -70,7 +71,7 @@ sealed_short true f h = simp length-append (omega arith)
 sealed_short false f h = omega arith
 
 module _ (config : Config) (address : ℕ) (payload : List ℕ) (n : ℕ) where
-  abbrev pub task_of : WriteTask
+  abbrev pub task_of : Task WritePlan
   task_of = record { plan = write_dataflash config address; lent = record { length = length payload; work = n } }
 
   -- the call with i blocks acknowledged

@@ -35,7 +35,8 @@ use Rattle.reading.specs.Parts.{head_bytes, block_ask, ask_of, most_of}
 use Rattle.reading.specs.Parts as parts
 use Rattle.reading.specs.Reading.{due_ask, shown_head, work_head, shown_of, work_shown, next_of, work_after, headed_of, advance_of, fail_of, heard_head, verdict_of, heard_block, acknowledged_of, weigh_of, judge_of, stored_of, counted_of, report_of, buffer_after}
 use Rattle.reading.specs.declared.call.ReadCall.{ReadCall}
-use Rattle.reading.specs.declared.call.ReadTask.{ReadTask}
+use Rattle.engine.specs.declared.bus.Task.{Task}
+use Rattle.reading.specs.declared.call.ReadPlan.{ReadPlan}
 use Rattle.r5.specs.Plans.{read_dataflash}
 use Rattle.model_gauge.specs.Gauge.{reply_of, moved_of, taken, acts, effect_of}
 use Rattle.model_gauge.specs.declared.gauge.Gauge.{Gauge}
@@ -87,7 +88,7 @@ unfolding effect_of moved_of
 read_acts count g flash few = replied.asked count g flash few
 
 module _ (config : Config) (address size n : ℕ) where
-  abbrev pub read_task : ReadTask
+  abbrev pub read_task : Task ReadPlan
   read_task = record { plan = read_dataflash config address; lent = record { length = size; work = n } }
 
   -- the call with i blocks received
