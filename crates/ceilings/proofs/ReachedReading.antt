@@ -1,6 +1,6 @@
 -- A reading call reaches its ceiling: all goes well until the last read, and then every attempt fails after its head went through.
 -- Assumes nothing.
-use Rattle.std.specs.Prelude.{Err, Ok}
+use Rattle.std.specs.Prelude.{Ok}
 use Prim.Native.Nat.{ℕ, zero, suc, ◌+◌, ◌-◌, ◌*◌, ◌≤◌, ◌<◌}
 use mathlib.Core.Path.{◌≡◌, refl, sym, ◌∙◌}
 use mathlib.Core.List.{List, [], ◌∷◌, ◌++◌}
@@ -15,7 +15,6 @@ use Rattle.protocol.specs.Pick.{when◌then◌else◌}
 use Rattle.protocol.specs.Reply.{around_of, bytes_asked, checked_of, heard_of}
 use Rattle.protocol.specs.declared.error.Answer.TheVariants as answer
 use Rattle.protocol.specs.declared.reply.Ask.{Ask}
-use Rattle.protocol.specs.declared.reply.Unheard.TheVariants as unheard
 use Rattle.protocol.proofs.Shared as shared
 use Rattle.engine.specs.Pick.{case◌waiting◌ended◌, case◌acknowledged◌error◌timeout◌, case◌retry◌spent◌}
 use Rattle.engine.specs.Budget.{wait_of, more_of, nothing, waited, tallied}

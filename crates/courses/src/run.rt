@@ -89,9 +89,7 @@ impl Link {
         ensures { world result buffer.new work.now flash.now ≡ transferred (length payload.now) fate (read command count) (world self buffer.old work.now flash.now) }
     {
         let mut reply = [0u8; REPLY_BYTES];
-        let effect = self
-            .gauge
-            .read(fate, command, count, flash, &mut reply);
+        let effect = self.gauge.read(fate, command, count, flash, &mut reply);
         let brought = bytes::front(&reply, effect.replied);
         self.report(effect, brought, payload, buffer, work)
     }

@@ -1,7 +1,7 @@
 -- A call that is run over a course: each byte is a transfer whose outcome is taken, or the call shows none and stays as it is.
 -- Assumes nothing.
 use Rattle.engine.specs.Bus.{Reported}
-use Rattle.std.specs.Prelude.{Err, Ok}
+use Rattle.std.specs.Prelude.{Ok}
 use Prim.Native.Nat.{ℕ, zero, suc, ◌+◌, ◌≤◌, ◌<◌}
 use mathlib.Core.Path.{◌≡◌, refl, sym, ap, subst, ◌∙◌}
 use mathlib.Core.Bool.{Bool, true, false, false≢true}

@@ -82,7 +82,13 @@ pub fn lay_register(work: &mut [u8], address: u8, body: &[u8], pec: bool) -> Opt
 pub fn lay_info(work: &mut [u8], body: &[u8], pec: bool) -> Option<usize>
     ensures { (result ≡ laid_of pec (info_bytes body.now) (length work.old)) × (work.new ≡ work_laid pec (info_bytes body.now) work.old) }
 {
-    lay(work, &[MFG_INFO_CMD, (body.len() % 256) as u8], b"", body, pec)
+    lay(
+        work,
+        &[MFG_INFO_CMD, (body.len() % 256) as u8],
+        b"",
+        body,
+        pec,
+    )
 }
 
 // A command: bits 23..16 of its address, the count 2, bits 15..8, bits 7..0.
@@ -90,7 +96,13 @@ pub fn lay_command(work: &mut [u8], address: u32, pec: bool) -> Option<usize>
     ensures { (result ≡ laid_of pec (command_bytes address) (length work.old)) × (work.new ≡ work_laid pec (command_bytes address) work.old) }
 {
     let [low, middle, high, _] = address.to_le_bytes();
-    lay(work, &[high, MAC_CMD_ADDR_SIZE_BYTES], &[middle, low], b"", pec)
+    lay(
+        work,
+        &[high, MAC_CMD_ADDR_SIZE_BYTES],
+        &[middle, low],
+        b"",
+        pec,
+    )
 }
 
 // A MAC frame: 44, the count of what follows, a command pair, the data.

@@ -1,6 +1,6 @@
 -- A signed figure of 16 bits, as the machine holds it, and as `bits_of` and `figure_of` say.
 -- Assumes nothing.
-use Prim.Native.Nat.{ℕ, suc, ◌+◌, ◌-◌, ◌*◌}
+use Prim.Native.Nat.{ℕ, ◌+◌, ◌-◌, ◌*◌}
 use mathlib.Core.Path.{◌≡◌, refl, ap}
 use mathlib.Core.Bool.{Bool, true, false}
 use native.Mathlib.Omega.{arith}
@@ -24,6 +24,7 @@ figure low high =
   where
     n : ℕ
     n = high * 256 + low
+
     by : (t : Bool) → ltb n 32768 ≡ t → to_z w16 n ≡ when t then pos n else negsuc (65535 - n)
     by true t = rw t
     by false t = rw t (ap negsuc (omega arith))

@@ -123,7 +123,9 @@ impl ReadCall {
         };
         ReadCall {
             task: Task { plan, lent },
-            phase: plan.limit.admit(plan.head.first_address(), lent.length, lent.work),
+            phase: plan
+                .limit
+                .admit(plan.head.first_address(), lent.length, lent.work),
             heading: plan.head.some(),
             received: 0,
             budget: Budget { left: plan.retries },
@@ -135,7 +137,10 @@ impl ReadCall {
     fn due(self) -> Ask
         ensures { result ≡ due_ask self }
     {
-        self.task.plan.reads.ask(self.task.lent.length, self.received)
+        self.task
+            .plan
+            .reads
+            .ask(self.task.lent.length, self.received)
     }
 
     // The head, laid in the work buffer.

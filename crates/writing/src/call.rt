@@ -72,7 +72,9 @@ impl WriteCall {
         };
         WriteCall {
             task: Task { plan, lent },
-            phase: plan.limit.admit(plan.frames.first_address(), lent.length, lent.work),
+            phase: plan
+                .limit
+                .admit(plan.frames.first_address(), lent.length, lent.work),
             sent: 0,
             budget: Budget { left: plan.retries },
             tally: Tally::new(),

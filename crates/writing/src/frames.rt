@@ -44,7 +44,14 @@ fn lay_block(work: &mut [u8], start: u16, payload: &[u8], i: u32, pec: bool) -> 
 }
 
 // Frame i of manufacturer info C: a half of its access key, then, past both, its own frame.
-fn lay_info_c(work: &mut [u8], lower: u16, upper: u16, payload: &[u8], i: u32, pec: bool) -> Option<usize>
+fn lay_info_c(
+    work: &mut [u8],
+    lower: u16,
+    upper: u16,
+    payload: &[u8],
+    i: u32,
+    pec: bool,
+) -> Option<usize>
     ensures { (result ≡ laid_of pec (info_cbytes lower upper i payload.now) (length work.old)) × (work.new ≡ work_laid pec (info_cbytes lower upper i payload.now) work.old) }
 {
     if i < 2 {

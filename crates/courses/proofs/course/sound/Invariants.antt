@@ -1,6 +1,6 @@
 -- `courses::course::sound` meets its contract: the bytes passed are sound, so the rest decides.
 -- Assumes nothing.
-use Prim.Native.Nat.{◌-◌, ◌≤◌}
+use Prim.Native.Nat.{◌≤◌}
 use mathlib.Core.Path.{◌≡◌}
 use lib.ListN.{length, drop}
 use Rattle.courses.specs.Course.{sound_of}

@@ -1,7 +1,6 @@
 -- `protocol::reply::checked` meets its contract: the PEC of the opening, carried on over the reply, is that of both.
 -- Assumes nothing.
 use mathlib.Core.Path.{◌≡◌, refl}
-use mathlib.Core.List.{[], ◌∷◌, ◌++◌}
 use Prim.Native.Nat.{◌-◌}
 use native.Mathlib.Omega.{arith}
 use lib.ListN.{length}

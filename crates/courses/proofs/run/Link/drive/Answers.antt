@@ -1,6 +1,5 @@
 -- `courses::run::Link::drive` meets its contract: the transfers made and those to come are all of them.
 use mathlib.Core.Path.{refl, sym, ◌∙◌}
-use native.Mathlib.Omega.{arith}
 use borrow.Author.Rules.{rules}
 use Rattle.courses.proofs.Courses.{drive_turn, drive_done}
 use Rattle.courses.proofs.run.Link.drive.Goals as goal

@@ -1,6 +1,6 @@
 -- `courses::run::Link::drive` meets its contract: the transfers made and those to come are all of them.
 -- Assumes nothing.
-use Prim.Native.Nat.{◌-◌, ◌≤◌}
+use Prim.Native.Nat.{◌≤◌}
 use mathlib.Core.Path.{◌≡◌}
 use lib.ListN.{length, drop}
 use Rattle.courses.specs.Run.{world, drive_of}
