@@ -1,5 +1,7 @@
 -- What a report costs, and what it leaves in a reading call's buffer.
 -- Assumes nothing.
+use Rattle.engine.specs.Bus.{Reported}
+use Rattle.std.specs.Prelude.{Err, Ok}
 use Prim.Native.Nat.{ℕ, ◌*◌}
 use mathlib.Core.Path.{◌≡◌, refl, sym, subst, ◌∙◌}
 use mathlib.Core.Bool.{Bool, true, false, false≢true}
@@ -24,16 +26,12 @@ use Rattle.engine.specs.declared.bus.Phase.{Phase}
 use Rattle.engine.specs.declared.bus.Phase.TheVariants as phase
 use Rattle.writing.specs.Writing as writing
 use Rattle.writing.specs.declared.call.WriteCall.{WriteCall}
-use Rattle.writing.specs.declared.call.WriteReported.{WriteReported}
-use Rattle.writing.specs.declared.call.WriteReported.TheVariants as wrote
 use Rattle.reading.specs.Pick.{case◌refused◌fault◌headed◌block◌}
 use Rattle.reading.specs.Parts as parts
 use Rattle.reading.specs.Reading as reading
 use Rattle.reading.specs.declared.call.ReadCall.{ReadCall}
 use Rattle.reading.specs.declared.call.Verdict.{Verdict}
 use Rattle.reading.specs.declared.call.Verdict.TheVariants as verdict
-use Rattle.reading.specs.declared.call.ReadReported.{ReadReported}
-use Rattle.reading.specs.declared.call.ReadReported.TheVariants as read
 use Rattle.answers.specs.Rows.{Failure, Damaged, reads_made}
 use Rattle.answers.specs.Steps.{MissedW, CostW, MissedR, HeardR, PaidR, CostR, Delivers}
 use Rattle.answers.proofs.Laws.{either, bare_head}
@@ -57,7 +55,7 @@ module _ (call : WriteCall) where
       (λ b less. (refl, refl, (inl (refl, less, refl, refl), refl)))
       (λ none. (refl, refl, (inr (over_waits, none, none, (refl, refl)), refl)))
 
-  settles : (o : Outcome) → CostW call o (wrote.Taken (writing.settle_of (writing.counted_of call) o))
+  settles : (o : Outcome) → CostW call o (Ok (writing.settle_of (writing.counted_of call) o))
   unfolding MissesW writing.settle_of writing.advance_of case◌acknowledged◌error◌timeout◌ writing.counted_of tallied
   settles outcome.Acknowledged = (refl, refl, (refl, (refl, refl), refl))
   settles (outcome.BusError code) = misses_w (answer.I2c code)
@@ -68,14 +66,14 @@ module _ (call : WriteCall) where
   unfolding writing.report_of case◌waiting◌ended◌ when◌then◌else◌ writing.counted_of tallied
   cost_w o r n w = by call.phase refl (fits_of call.task.lent n w) refl (writing.replied_of o r) refl
     where
-      result : WriteReported
+      result : Reported WriteCall
       result = writing.report_of call o r n w
 
       by : (p : Phase) → call.phase ≡ p → (t : Bool) → fits_of call.task.lent n w ≡ t → (s : Bool) → writing.replied_of o r ≡ s → CostW call o result
-      by (phase.Ended a) e t f s g = let q : result ≡ wrote.Refused answer.NothingOutstanding call = rw e in subst (CostW call o) (sym q) tt
-      by phase.Waiting e false f s g = let q : result ≡ wrote.Refused answer.WrongBuffer call = rw (e, f) in subst (CostW call o) (sym q) tt
-      by phase.Waiting e true f true g = let q : result ≡ wrote.Refused answer.WrongReply call = rw (e, f, g) in subst (CostW call o) (sym q) tt
-      by phase.Waiting e true f false g = let q : result ≡ wrote.Taken (writing.settle_of (writing.counted_of call) o) = rw (e, f, g) in subst (CostW call o) (sym q) (settles o)
+      by (phase.Ended a) e t f s g = let q : result ≡ Err (answer.NothingOutstanding, call) = rw e in subst (CostW call o) (sym q) tt
+      by phase.Waiting e false f s g = let q : result ≡ Err (answer.WrongBuffer, call) = rw (e, f) in subst (CostW call o) (sym q) tt
+      by phase.Waiting e true f true g = let q : result ≡ Err (answer.WrongReply, call) = rw (e, f, g) in subst (CostW call o) (sym q) tt
+      by phase.Waiting e true f false g = let q : result ≡ Ok (writing.settle_of (writing.counted_of call) o) = rw (e, f, g) in subst (CostW call o) (sym q) (settles o)
 
 -- ---- a reading call
 
@@ -162,22 +160,22 @@ module _ (call : ReadCall) where
   unfolding MissesR reading.report_of reading.headed_of reading.advance_of reads_made case◌refused◌fault◌headed◌block◌ when◌then◌else◌ reading.counted_of tallied
   cost_r o bytes n w = by (reading.judge_of call o bytes n w) refl (judge_comes o bytes n w)
     where
-      result : ReadReported
+      result : Reported ReadCall
       result = reading.report_of call o bytes n w
 
       by : (v : Verdict) → reading.judge_of call o bytes n w ≡ v → Comes o bytes (reading.judge_of call o bytes n w) → CostR call o bytes result
-      by (verdict.Refused a) e c = let q : result ≡ read.Refused a call = rw e in subst (CostR call o bytes) (sym q) tt
+      by (verdict.Refused a) e c = let q : result ≡ Err (a, call) = rw e in subst (CostR call o bytes) (sym q) tt
       by (verdict.Failed a) e c =
-          let q : result ≡ read.Taken (reading.fail_of (reading.counted_of call) a) = rw e in
+          let q : result ≡ Ok (reading.fail_of (reading.counted_of call) a) = rw e in
           let m = misses_r a in
           subst (CostR call o bytes) (sym q) (m.0, m.1, pays_miss o bytes (reading.fail_of (reading.counted_of call) a) (subst (Comes o bytes) e c) m.2)
       by verdict.Head e c =
-          let q : result ≡ read.Taken (reading.headed_of (reading.counted_of call)) = rw e in
+          let q : result ≡ Ok (reading.headed_of (reading.counted_of call)) = rw e in
           let d : Comes o bytes verdict.Head = subst (Comes o bytes) e c in
           subst (CostR call o bytes) (sym q)
           (refl, refl, pays_heard o bytes (reading.headed_of (reading.counted_of call)) d.0 (λ x. false≢true (sym x.0 ∙ d.1)) (refl, (refl, refl), refl, rw d.1))
       by verdict.Block e c =
-          let q : result ≡ read.Taken (reading.advance_of (reading.counted_of call)) = rw e in
+          let q : result ≡ Ok (reading.advance_of (reading.counted_of call)) = rw e in
           let d : Comes o bytes verdict.Block = subst (Comes o bytes) e c in
           subst (CostR call o bytes) (sym q) (refl, refl, pays_heard o bytes (reading.advance_of (reading.counted_of call)) d.0 d.2 (refl, (refl, refl), refl, rw d.1))
 

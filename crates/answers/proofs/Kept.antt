@@ -1,5 +1,6 @@
 -- What a report can do to a reading call and its buffer, and what stays true however it is fed.
 -- Assumes nothing.
+use Rattle.std.specs.Prelude.{Err, Ok, Result}
 use Prim.Native.Nat.{ℕ, ◌+◌, ◌*◌, ◌≤◌, ◌<◌, min}
 use mathlib.Core.Path.{◌≡◌, refl, sym, ap, subst, ◌∙◌}
 use mathlib.Core.Bool.{Bool, true, false}
@@ -16,8 +17,8 @@ use Rattle.protocol.proofs.Laws.{drop_over, length_over}
 use Rattle.protocol.specs.declared.error.Answer.{Answer}
 use Rattle.protocol.specs.declared.error.Answer.TheVariants as answer
 use Rattle.protocol.specs.Reply as reply
-use Rattle.protocol.specs.declared.reply.Heard.{Heard}
-use Rattle.protocol.specs.declared.reply.Heard.TheVariants as heard
+use Rattle.protocol.specs.declared.reply.Unheard.{Unheard}
+use Rattle.protocol.specs.declared.reply.Unheard.TheVariants as unheard
 use Rattle.engine.specs.Pick.{case◌waiting◌ended◌, case◌acknowledged◌error◌timeout◌}
 use Rattle.engine.specs.Budget.{more_of, waited, nothing, tallied}
 use Rattle.engine.specs.Bus.{phase_after, fits_of}
@@ -92,11 +93,11 @@ Means call verdict.Head = (call.phase ≡ phase.Waiting) × (call.heading ≡ tr
 Means call verdict.Block = (call.phase ≡ phase.Waiting) × (call.heading ≡ false)
 
 module _ (call : ReadCall) where
-  block_means : (h : Heard) → call.phase ≡ phase.Waiting → call.heading ≡ false → Means call (verdict_of h)
+  block_means : (h : Result (Unit {0}) Unheard) → call.phase ≡ phase.Waiting → call.heading ≡ false → Means call (verdict_of h)
   unfolding verdict_of
-  block_means heard.WrongLength p f = tt
-  block_means heard.WrongPec p f = p
-  block_means heard.Good p f = (p, f)
+  block_means (Err unheard.WrongLength) p f = tt
+  block_means (Err unheard.WrongPec) p f = p
+  block_means (Ok tt) p f = (p, f)
 
   head_means : (r : ℕ) → call.phase ≡ phase.Waiting → call.heading ≡ true → Means call (heard_head r)
   unfolding heard_head when◌then◌else◌

@@ -1,5 +1,7 @@
 -- A refused report changes nothing, a call ends only by a report that was taken, and what is not sent leaves the work buffer alone.
 -- Assumes nothing.
+use Rattle.engine.specs.Bus.{Reported}
+use Rattle.std.specs.Prelude.{Err, None, Ok, Some, Option, Result}
 use Prim.Native.Nat.{ℕ}
 use mathlib.Core.Path.{◌≡◌, refl, sym, ap, subst, ◌∙◌}
 use mathlib.Core.Bool.{Bool, true, false}
@@ -16,10 +18,8 @@ use Rattle.protocol.specs.Reply as reply
 use Rattle.protocol.proofs.Laws.{drop_over}
 use Rattle.protocol.specs.declared.error.Answer.{Answer}
 use Rattle.protocol.specs.declared.error.Answer.TheVariants as answer
-use Rattle.protocol.specs.declared.frame.Laid.{Laid}
-use Rattle.protocol.specs.declared.frame.Laid.TheVariants as laid
-use Rattle.protocol.specs.declared.reply.Heard.{Heard}
-use Rattle.protocol.specs.declared.reply.Heard.TheVariants as heard
+use Rattle.protocol.specs.declared.reply.Unheard.{Unheard}
+use Rattle.protocol.specs.declared.reply.Unheard.TheVariants as unheard
 use Rattle.engine.specs.Pick.{case◌waiting◌ended◌, case◌acknowledged◌error◌timeout◌, case◌retry◌spent◌}
 use Rattle.engine.specs.Budget.{failed, more_of}
 use Rattle.engine.specs.Bus.{write_of, phase_after, fits_of}
@@ -32,16 +32,12 @@ use Rattle.engine.specs.declared.bus.Transfer.TheVariants as transfer
 use Rattle.writing.specs.Frames as frames
 use Rattle.writing.specs.Writing as writing
 use Rattle.writing.specs.declared.call.WriteCall.{WriteCall}
-use Rattle.writing.specs.declared.call.WriteReported.{WriteReported}
-use Rattle.writing.specs.declared.call.WriteReported.TheVariants as wrote
 use Rattle.reading.specs.Pick.{case◌refused◌fault◌headed◌block◌}
 use Rattle.reading.specs.Parts as parts
 use Rattle.reading.specs.Reading as reading
 use Rattle.reading.specs.declared.call.ReadCall.{ReadCall}
 use Rattle.reading.specs.declared.call.Verdict.{Verdict}
 use Rattle.reading.specs.declared.call.Verdict.TheVariants as verdict
-use Rattle.reading.specs.declared.call.ReadReported.{ReadReported}
-use Rattle.reading.specs.declared.call.ReadReported.TheVariants as read
 use Rattle.answers.specs.Rows.{OneOf, Among, asked, SortW, Kept, SortR}
 use Rattle.answers.specs.Steps.{Shown, AsksNothing, AsksOf}
 use Rattle.answers.proofs.Laws.{fits_same}
@@ -94,14 +90,14 @@ module _ (call : WriteCall) where
   unfolding writing.report_of case◌waiting◌ended◌ when◌then◌else◌ writing.counted_of
   sort_w o r n w = by call.phase refl (fits_of call.task.lent n w) refl (writing.replied_of o r) refl
     where
-      result : WriteReported
+      result : Reported WriteCall
       result = writing.report_of call o r n w
 
       by : (p : Phase) → call.phase ≡ p → (t : Bool) → fits_of call.task.lent n w ≡ t → (s : Bool) → writing.replied_of o r ≡ s → SortW call result
-      by (phase.Ended a) e t f s g = let q : result ≡ wrote.Refused answer.NothingOutstanding call = rw e in subst (SortW call) (sym q) (inr (inr (inl refl)), refl)
-      by phase.Waiting e false f s g = let q : result ≡ wrote.Refused answer.WrongBuffer call = rw (e, f) in subst (SortW call) (sym q) (inl refl, refl)
-      by phase.Waiting e true f true g = let q : result ≡ wrote.Refused answer.WrongReply call = rw (e, f, g) in subst (SortW call) (sym q) (inr (inl refl), refl)
-      by phase.Waiting e true f false g = let q : result ≡ wrote.Taken (writing.settle_of (writing.counted_of call) o) = rw (e, f, g) in subst (SortW call) (sym q) (e, settle_ends o)
+      by (phase.Ended a) e t f s g = let q : result ≡ Err (answer.NothingOutstanding, call) = rw e in subst (SortW call) (sym q) (inr (inr (inl refl)), refl)
+      by phase.Waiting e false f s g = let q : result ≡ Err (answer.WrongBuffer, call) = rw (e, f) in subst (SortW call) (sym q) (inl refl, refl)
+      by phase.Waiting e true f true g = let q : result ≡ Err (answer.WrongReply, call) = rw (e, f, g) in subst (SortW call) (sym q) (inr (inl refl), refl)
+      by phase.Waiting e true f false g = let q : result ≡ Ok (writing.settle_of (writing.counted_of call) o) = rw (e, f, g) in subst (SortW call) (sym q) (e, settle_ends o)
 
   -- WHAT A WRITING CALL SHOWS
   pub shows_w : (payload work : List ℕ) → Shown (Unit {0}) AsksNothing call.phase call.task.lent (length payload) (length work) work (writing.work_after call payload work) (writing.next_of call payload (length work))
@@ -117,7 +113,7 @@ module _ (call : WriteCall) where
           → At (writing.work_after call payload work) (writing.next_of call payload (length work))
       both after shown p q x = subst (λ (l : List ℕ). At l (writing.next_of call payload (length work))) (sym p) (subst (At after) (sym q) x)
 
-      frame : Laid
+      frame : Option ℕ
       frame = laid_of call.task.plan.pec (writing.due_bytes call payload) (length work)
 
       sent : List ℕ
@@ -127,10 +123,10 @@ module _ (call : WriteCall) where
           → writing.next_of call payload (length work) ≡ write_of frame
       due e f g = rw (g, f, e)
 
-      has_room : ltb (length (writing.due_bytes call payload)) (length work) ≡ true → frame ≡ laid.Frame (length (sealed call.task.plan.pec (writing.due_bytes call payload)))
+      has_room : ltb (length (writing.due_bytes call payload)) (length work) ≡ true → frame ≡ Some (length (sealed call.task.plan.pec (writing.due_bytes call payload)))
       has_room h = rw h
 
-      no_room : ltb (length (writing.due_bytes call payload)) (length work) ≡ false → frame ≡ laid.NoRoom
+      no_room : ltb (length (writing.due_bytes call payload)) (length work) ≡ false → frame ≡ None
       no_room h = rw h
 
       by : (p : Phase) → call.phase ≡ p → (t : Bool) → fits_of call.task.lent (length payload) (length work) ≡ t → (s : Bool) → writing.own_bytes call ≡ s
@@ -161,11 +157,11 @@ module _ (call : ReadCall) where
   Fit verdict.Head = call.phase ≡ phase.Waiting
   Fit verdict.Block = call.phase ≡ phase.Waiting
 
-  heard_fit : (h : Heard) → call.phase ≡ phase.Waiting → Fit (reading.verdict_of h)
+  heard_fit : (h : Result (Unit {0}) Unheard) → call.phase ≡ phase.Waiting → Fit (reading.verdict_of h)
   unfolding reading.verdict_of
-  heard_fit heard.WrongLength p = inr (inl refl)
-  heard_fit heard.WrongPec p = (p, inr (inr (inr (inl refl))))
-  heard_fit heard.Good p = p
+  heard_fit (Err unheard.WrongLength) p = inr (inl refl)
+  heard_fit (Err unheard.WrongPec) p = (p, inr (inr (inr (inl refl))))
+  heard_fit (Ok tt) p = p
 
   head_fit : (r : ℕ) → call.phase ≡ phase.Waiting → Fit (reading.heard_head r)
   unfolding reading.heard_head when◌then◌else◌
@@ -228,26 +224,26 @@ module _ (call : ReadCall) where
   unfolding reading.report_of reading.buffer_after case◌refused◌fault◌headed◌block◌ reading.counted_of
   sort_r o bytes buffer w = by (reading.judge_of call o bytes (length buffer) w) refl (judge_fit o bytes (length buffer) w)
     where
-      At : List ℕ → ReadReported → Type 0
+      At : List ℕ → Reported ReadCall → Type 0
       At after result = SortR call buffer after result
 
       goal : Type 0
       goal = At (reading.buffer_after call o bytes buffer w) (reading.report_of call o bytes (length buffer) w)
 
-      both : (after : List ℕ) (result : ReadReported) → reading.buffer_after call o bytes buffer w ≡ after → reading.report_of call o bytes (length buffer) w ≡ result → At after result → goal
+      both : (after : List ℕ) (result : Reported ReadCall) → reading.buffer_after call o bytes buffer w ≡ after → reading.report_of call o bytes (length buffer) w ≡ result → At after result → goal
       both after result p q x = subst (λ (l : List ℕ). At l (reading.report_of call o bytes (length buffer) w)) (sym p) (subst (At after) (sym q) x)
 
       by : (v : Verdict) → reading.judge_of call o bytes (length buffer) w ≡ v → Fit (reading.judge_of call o bytes (length buffer) w) → goal
-      by (verdict.Refused a) e fit = both buffer (read.Refused a call) (rw e) (rw e) (subst Fit e fit, refl, refl)
+      by (verdict.Refused a) e fit = both buffer (Err (a, call)) (rw e) (rw e) (subst Fit e fit, refl, refl)
       by (verdict.Failed a) e fit =
           let f : Fit (verdict.Failed a) = subst Fit e fit in
-          both buffer (read.Taken (reading.fail_of (reading.counted_of call) a)) (rw e) (rw e) (f.0, reads_fail a f.1, (λ x y. refl))
+          both buffer (Ok (reading.fail_of (reading.counted_of call) a)) (rw e) (rw e) (f.0, reads_fail a f.1, (λ x y. refl))
       by verdict.Head e fit =
           let f : Fit verdict.Head = subst Fit e fit in
-          both buffer (read.Taken (reading.headed_of (reading.counted_of call))) (rw e) (rw e) (f, headed_ends, (λ x y. refl))
+          both buffer (Ok (reading.headed_of (reading.counted_of call))) (rw e) (rw e) (f, headed_ends, (λ x y. refl))
       by verdict.Block e fit =
           let f : Fit verdict.Block = subst Fit e fit in
-          both (reading.stored_of call bytes buffer) (read.Taken (reading.advance_of (reading.counted_of call))) (rw e) (rw e) (f, block_ends, block_kept buffer (reading.stored_of call bytes buffer))
+          both (reading.stored_of call bytes buffer) (Ok (reading.advance_of (reading.counted_of call))) (rw e) (rw e) (f, block_ends, block_kept buffer (reading.stored_of call bytes buffer))
 
   -- WHAT A READING CALL SHOWS
   pub shows_r : (n : ℕ) (work : List ℕ) → Shown (call.heading ≡ true) (AsksOf call) call.phase call.task.lent n (length work) work (reading.work_after call n work) (reading.next_of call n (length work))
@@ -263,7 +259,7 @@ module _ (call : ReadCall) where
           → At (reading.work_after call n work) (reading.next_of call n (length work))
       both after shown p q x = subst (λ (l : List ℕ). At l (reading.next_of call n (length work))) (sym p) (subst (At after) (sym q) x)
 
-      frame : Laid
+      frame : Option ℕ
       frame = laid_of call.task.plan.head_pec (parts.head_bytes call.task.plan.head call.received) (length work)
 
       sent : List ℕ
@@ -273,10 +269,10 @@ module _ (call : ReadCall) where
       due e f g = rw (g, f, e)
 
       has_room : ltb (length (parts.head_bytes call.task.plan.head call.received)) (length work) ≡ true
-          → frame ≡ laid.Frame (length (sealed call.task.plan.head_pec (parts.head_bytes call.task.plan.head call.received)))
+          → frame ≡ Some (length (sealed call.task.plan.head_pec (parts.head_bytes call.task.plan.head call.received)))
       has_room h = rw h
 
-      no_room : ltb (length (parts.head_bytes call.task.plan.head call.received)) (length work) ≡ false → frame ≡ laid.NoRoom
+      no_room : ltb (length (parts.head_bytes call.task.plan.head call.received)) (length work) ≡ false → frame ≡ None
       no_room h = rw h
 
       by : (p : Phase) → call.phase ≡ p → (t : Bool) → fits_of call.task.lent n (length work) ≡ t → (s : Bool) → call.heading ≡ s

@@ -1,5 +1,6 @@
 -- At a report to a writing call each answer is given exactly when its row says so.
 -- Assumes nothing.
+use Rattle.std.specs.Prelude.{Err, Ok}
 use Prim.Native.Nat.{ℕ, ◌*◌}
 use mathlib.Core.Path.{◌≡◌, refl, sym, ap, subst, ◌∙◌}
 use mathlib.Core.Bool.{Bool, true, false, false≢true}
@@ -23,7 +24,6 @@ use Rattle.writing.specs.declared.frames.Frames.{Frames}
 use Rattle.writing.specs.declared.frames.Frames.TheVariants as sent
 use Rattle.writing.specs.Writing.{advance_of, gave_up, retry_of, end_of, fail_of, settle_of, replied_of, report_of, counted_of}
 use Rattle.writing.specs.declared.call.WriteCall.{WriteCall}
-use Rattle.writing.specs.declared.call.WriteReported.TheVariants as wrote
 use Rattle.answers.specs.Rows.{Says, Failure, said_w, OpenW, Partial, Writes}
 use Rattle.answers.specs.Rows.Writes.{done, bus_error, timed_out, partly, wrong_buffer, wrong_reply, nothing_outstanding}
 use Rattle.answers.proofs.Laws.{InTable, row_of, says_of, over_waits, fits_same, same_fits, other_fits, fits_other}
@@ -95,12 +95,12 @@ module _ (call : WriteCall) (o : Outcome) (r n w : ℕ) where
       by false t = let q : (advance_of (counted_of call)).phase ≡ phase.Waiting = rw t in subst Holds (sym q) tt
 
   -- a report that is looked at
-  taken_holds : OpenW call n w → (x : Outcome) → o ≡ x → Holds (said_w (when◌then◌else◌ (replied_of o r) (wrote.Refused answer.WrongReply call) (wrote.Taken (settle_of (counted_of call) o))))
+  taken_holds : OpenW call n w → (x : Outcome) → o ≡ x → Holds (said_w (when◌then◌else◌ (replied_of o r) (Err (answer.WrongReply, call)) (Ok (settle_of (counted_of call) o))))
   unfolding Row replied_of settle_of case◌acknowledged◌error◌timeout◌ when◌then◌else◌ counted_of
   taken_holds ready outcome.Acknowledged e = by (eqb r 0) refl
     where
       said : Phase
-      said = said_w (when◌then◌else◌ (replied_of o r) (wrote.Refused answer.WrongReply call) (wrote.Taken (settle_of (counted_of call) o)))
+      said = said_w (when◌then◌else◌ (replied_of o r) (Err (answer.WrongReply, call)) (Ok (settle_of (counted_of call) o)))
 
       by : (t : Bool) → eqb r 0 ≡ t → Holds said
       by true t =
@@ -110,10 +110,10 @@ module _ (call : WriteCall) (o : Outcome) (r n w : ℕ) where
           let q : said ≡ phase.Ended answer.WrongReply = rw (e, t) in
           subst Holds (sym q) (wrong_reply ready e (eqb-false r 0 t))
   taken_holds ready (outcome.BusError code) e =
-      let q : said_w (when◌then◌else◌ (replied_of o r) (wrote.Refused answer.WrongReply call) (wrote.Taken (settle_of (counted_of call) o))) ≡ (fail_of (counted_of call) (answer.I2c code)).phase = rw e in
+      let q : said_w (when◌then◌else◌ (replied_of o r) (Err (answer.WrongReply, call)) (Ok (settle_of (counted_of call) o))) ≡ (fail_of (counted_of call) (answer.I2c code)).phase = rw e in
       subst Holds (sym q) (fail_holds (answer.I2c code) ready (rw e tt) (bus_error code ready e))
   taken_holds ready outcome.Timeout e =
-      let q : said_w (when◌then◌else◌ (replied_of o r) (wrote.Refused answer.WrongReply call) (wrote.Taken (settle_of (counted_of call) o))) ≡ (fail_of (counted_of call) answer.Timeout).phase = rw e in
+      let q : said_w (when◌then◌else◌ (replied_of o r) (Err (answer.WrongReply, call)) (Ok (settle_of (counted_of call) o))) ≡ (fail_of (counted_of call) answer.Timeout).phase = rw e in
       subst Holds (sym q) (fail_holds answer.Timeout ready (rw e tt) (timed_out ready e))
 
   report_holds : Holds (said_w (report_of call o r n w))
@@ -128,12 +128,12 @@ module _ (call : WriteCall) (o : Outcome) (r n w : ℕ) where
           let q : said_w (report_of call o r n w) ≡ phase.Ended answer.WrongBuffer = rw (e, f) in
           subst Holds (sym q) (wrong_buffer e (other_fits call.task.lent n w f))
       by phase.Waiting e true f =
-          let q : said_w (report_of call o r n w) ≡ said_w (when◌then◌else◌ (replied_of o r) (wrote.Refused answer.WrongReply call) (wrote.Taken (settle_of (counted_of call) o))) = rw (e, f) in
+          let q : said_w (report_of call o r n w) ≡ said_w (when◌then◌else◌ (replied_of o r) (Err (answer.WrongReply, call)) (Ok (settle_of (counted_of call) o))) = rw (e, f) in
           subst Holds (sym q) (taken_holds (e, fits_same call.task.lent n w f) o refl)
 
   -- ---- and a row that holds is answered
 
-  looked : OpenW call n w → report_of call o r n w ≡ when◌then◌else◌ (replied_of o r) (wrote.Refused answer.WrongReply call) (wrote.Taken (settle_of (counted_of call) o))
+  looked : OpenW call n w → report_of call o r n w ≡ when◌then◌else◌ (replied_of o r) (Err (answer.WrongReply, call)) (Ok (settle_of (counted_of call) o))
   unfolding report_of case◌waiting◌ended◌ when◌then◌else◌
   looked (e, same) = rw (e, same_fits call.task.lent n w same)
 

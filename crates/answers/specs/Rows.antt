@@ -2,6 +2,8 @@
 -- said of the bench program (`bench_promises`, Retired).
 -- The rows go by the paper's number and detail. `Starts`, `Writes` and `Reads` have a constructor for each case of a row that can come there: no other answer comes.
 -- Assumes nothing.
+use Rattle.engine.specs.Bus.{Reported}
+use Rattle.std.specs.Prelude.{Err, Ok}
 use Rattle.std.specs.Prelude.{ℕ, ◌+◌, ◌-◌, ◌*◌, ◌≤◌, ◌<◌, ◌≡◌, true, false, List, [], ◌∷◌, ◌⊎◌, length}
 use Rattle.protocol.specs.Pick.{when◌then◌else◌}
 use Rattle.protocol.specs.Answer.{number_of, detail_of}
@@ -19,13 +21,9 @@ use Rattle.engine.specs.declared.limit.Limit.TheVariants as limit
 use Rattle.writing.specs.Frames as frames
 use Rattle.writing.specs.declared.frames.Frames.TheVariants as sent
 use Rattle.writing.specs.declared.call.WriteCall.{WriteCall}
-use Rattle.writing.specs.declared.call.WriteReported.{WriteReported}
-use Rattle.writing.specs.declared.call.WriteReported.TheVariants as wrote
 use Rattle.reading.specs.Parts as parts
 use Rattle.reading.specs.Reading.{due_ask}
 use Rattle.reading.specs.declared.call.ReadCall.{ReadCall}
-use Rattle.reading.specs.declared.call.ReadReported.{ReadReported}
-use Rattle.reading.specs.declared.call.ReadReported.TheVariants as read
 
 -- ---- the number of each answer, and its detail
 
@@ -92,13 +90,13 @@ Failure (outcome.BusError code) = Unit {0}
 Failure outcome.Timeout = Unit {0}
 
 -- the answer that a report leaves the caller with: a refusal's, or that of a call that has ended with it
-abbrev pub said_w : WriteReported → Phase
-said_w (wrote.Refused a call) = phase.Ended a
-said_w (wrote.Taken call) = call.phase
+abbrev pub said_w : Reported WriteCall → Phase
+said_w (Err (a, call)) = phase.Ended a
+said_w (Ok call) = call.phase
 
-abbrev pub said_r : ReadReported → Phase
-said_r (read.Refused a call) = phase.Ended a
-said_r (read.Taken call) = call.phase
+abbrev pub said_r : Reported ReadCall → Phase
+said_r (Err (a, call)) = phase.Ended a
+said_r (Ok call) = call.phase
 
 -- a waiting call with the right buffers
 abbrev pub OpenW : WriteCall → ℕ → ℕ → Type 0
@@ -161,14 +159,14 @@ pub data Reads (call : ReadCall) (o : Outcome) (bytes : List ℕ) (n w : ℕ) : 
 -- ---- a refusal of a step is 8, 9 or 10 and hands the call back as it was; after a report that was taken a call waits, or ends with 0, 1, 2 or 6 if it
 -- writes, with 0, 1, 2 or 3 if it reads
 
-abbrev pub SortW : WriteCall → WriteReported → Type 0
-SortW call (wrote.Refused a same) = OneOf (8 ∷ 9 ∷ 10 ∷ []) (number_of a) × (same ≡ call)
-SortW call (wrote.Taken next) = (call.phase ≡ phase.Waiting) × Among (0 ∷ 1 ∷ 2 ∷ 6 ∷ []) next.phase
+abbrev pub SortW : WriteCall → Reported WriteCall → Type 0
+SortW call (Err (a, same)) = OneOf (8 ∷ 9 ∷ 10 ∷ []) (number_of a) × (same ≡ call)
+SortW call (Ok next) = (call.phase ≡ phase.Waiting) × Among (0 ∷ 1 ∷ 2 ∷ 6 ∷ []) next.phase
 
 -- of a read, the buffer after a refusal, and after every ending but 0, is the buffer before
 abbrev pub Kept : Phase → List ℕ → List ℕ → Type 0
 Kept p before after = (p ≡ phase.Waiting → ⊥) → (Says 0 0 p → ⊥) → after ≡ before
 
-abbrev pub SortR : ReadCall → List ℕ → List ℕ → ReadReported → Type 0
-SortR call before after (read.Refused a same) = OneOf (8 ∷ 9 ∷ 10 ∷ []) (number_of a) × (same ≡ call) × (after ≡ before)
-SortR call before after (read.Taken next) = (call.phase ≡ phase.Waiting) × Among (0 ∷ 1 ∷ 2 ∷ 3 ∷ []) next.phase × Kept next.phase before after
+abbrev pub SortR : ReadCall → List ℕ → List ℕ → Reported ReadCall → Type 0
+SortR call before after (Err (a, same)) = OneOf (8 ∷ 9 ∷ 10 ∷ []) (number_of a) × (same ≡ call) × (after ≡ before)
+SortR call before after (Ok next) = (call.phase ≡ phase.Waiting) × Among (0 ∷ 1 ∷ 2 ∷ 3 ∷ []) next.phase × Kept next.phase before after

@@ -1,17 +1,15 @@
 -- A call fed any list of reports: with any replies, and to a writing call with any lent lengths.
 -- Assumes nothing.
+use Rattle.engine.specs.Bus.{Reported}
+use Rattle.std.specs.Prelude.{Err, Ok}
 use Rattle.std.specs.Prelude.{ℕ, ◌+◌, ◌≤◌, ◌≡◌, List, [], ◌∷◌, length}
 use Rattle.protocol.specs.declared.error.Answer.{Answer}
 use Rattle.engine.specs.declared.bus.Outcome.{Outcome}
 use Rattle.engine.specs.declared.bus.Phase.TheVariants as phase
 use Rattle.writing.specs.Writing as writing
 use Rattle.writing.specs.declared.call.WriteCall.{WriteCall}
-use Rattle.writing.specs.declared.call.WriteReported.{WriteReported}
-use Rattle.writing.specs.declared.call.WriteReported.TheVariants as wrote
 use Rattle.reading.specs.Reading as reading
 use Rattle.reading.specs.declared.call.ReadCall.{ReadCall}
-use Rattle.reading.specs.declared.call.ReadReported.{ReadReported}
-use Rattle.reading.specs.declared.call.ReadReported.TheVariants as read
 
 -- ---- a writing call
 
@@ -23,9 +21,9 @@ pub record WriteReport : Type 0 where
   pub work : ℕ
 
 -- the call that a report hands back
-abbrev pub call_w : WriteReported → WriteCall
-call_w (wrote.Refused a call) = call
-call_w (wrote.Taken call) = call
+abbrev pub call_w : Reported WriteCall → WriteCall
+call_w (Err (a, call)) = call
+call_w (Ok call) = call
 
 abbrev pub reported_w : WriteCall → WriteReport → WriteCall
 reported_w call e = call_w (writing.report_of call e.outcome e.reply e.payload e.work)
@@ -51,9 +49,9 @@ pub record Reader : Type 0 where
   pub call : ReadCall
   pub buffer : List ℕ
 
-abbrev pub call_r : ReadReported → ReadCall
-call_r (read.Refused a call) = call
-call_r (read.Taken call) = call
+abbrev pub call_r : Reported ReadCall → ReadCall
+call_r (Err (a, call)) = call
+call_r (Ok call) = call
 
 abbrev pub reported_r : Reader → ReadReport → Reader
 reported_r r e = record {

@@ -1,5 +1,7 @@
 -- What a step does to what is lent, and what it costs. (01, The step machine; Frames and retries; 02, W-203)
 -- Assumes nothing.
+use Rattle.engine.specs.Bus.{Reported}
+use Rattle.std.specs.Prelude.{Err, Ok}
 use Rattle.std.specs.Prelude.{ℕ, ◌+◌, ◌-◌, ◌*◌, ◌≡◌, Bool, true, false, List, ◌⊎◌, ◌↔◌, length, take, drop}
 use Rattle.protocol.specs.Common.{TwoByteBudgets}
 use Rattle.protocol.specs.Pick.{when◌then◌else◌}
@@ -19,14 +21,10 @@ use Rattle.engine.specs.declared.bus.Transfer.TheVariants as transfer
 use Rattle.writing.specs.Writing as writing
 use Rattle.writing.specs.declared.call.WritePlan.{WritePlan}
 use Rattle.writing.specs.declared.call.WriteCall.{WriteCall}
-use Rattle.writing.specs.declared.call.WriteReported.{WriteReported}
-use Rattle.writing.specs.declared.call.WriteReported.TheVariants as wrote
 use Rattle.reading.specs.Reading as reading
 use Rattle.reading.specs.declared.parts.Head.TheVariants as head
 use Rattle.reading.specs.declared.call.ReadPlan.{ReadPlan}
 use Rattle.reading.specs.declared.call.ReadCall.{ReadCall}
-use Rattle.reading.specs.declared.call.ReadReported.{ReadReported}
-use Rattle.reading.specs.declared.call.ReadReported.TheVariants as read
 use Rattle.answers.specs.Rows.{Same, Failure, asked, Damaged, reads_made}
 use Rattle.answers.specs.Runs.{WriteReport, feed_w, ReadReport, feed_r}
 use Rattle.answers.specs.Within.{WritesBy, write_with_retries_lem, write_register_lem, write_buffer_lem, write_security_keys_lem, write_authentication_key_lem, write_charging_voltage_override_lem, send_access_key_lem, unseal_fg_lem, write_mfg_info_c_lem, write_mfg_info_lem, write_dataflash_lem, ReadsBy}
@@ -132,9 +130,9 @@ PaidW call (outcome.BusError code) next = MissedW call next
 PaidW call outcome.Timeout next = MissedW call next
 
 -- a refused report costs nothing (`SortW`); one that is taken is one transfer more, and does not change what the call was started for
-abbrev pub CostW : WriteCall → Outcome → WriteReported → Type 0
-CostW call o (wrote.Refused a same) = Unit {0}
-CostW call o (wrote.Taken next) = (next.task ≡ call.task) × (next.tally.transfers ≡ more_of call.tally.transfers) × PaidW call o next
+abbrev pub CostW : WriteCall → Outcome → Reported WriteCall → Type 0
+CostW call o (Err (a, same)) = Unit {0}
+CostW call o (Ok next) = (next.task ≡ call.task) × (next.tally.transfers ≡ more_of call.tally.transfers) × PaidW call o next
 
 -- of a read, after a failed attempt the head is due again exactly where there is one, with as many blocks received
 abbrev pub MissedR : ReadCall → ReadCall → Type 0
@@ -155,9 +153,9 @@ PaidR call outcome.Acknowledged bytes next = (Damaged call bytes → MissedR cal
 PaidR call (outcome.BusError code) bytes next = MissedR call next
 PaidR call outcome.Timeout bytes next = MissedR call next
 
-abbrev pub CostR : ReadCall → Outcome → List ℕ → ReadReported → Type 0
-CostR call o bytes (read.Refused a same) = Unit {0}
-CostR call o bytes (read.Taken next) = (next.task ≡ call.task) × (next.tally.transfers ≡ more_of call.tally.transfers) × PaidR call o bytes next
+abbrev pub CostR : ReadCall → Outcome → List ℕ → Reported ReadCall → Type 0
+CostR call o bytes (Err (a, same)) = Unit {0}
+CostR call o bytes (Ok next) = (next.task ≡ call.task) × (next.tally.transfers ≡ more_of call.tally.transfers) × PaidR call o bytes next
 
 -- ---- what a report leaves in a reading call's buffer: a head, a failure or a wrong PEC brings nothing, and the blocks in front stay
 

@@ -1,17 +1,16 @@
 -- Each contract of a call has one answer: start, next transfer, the part to send and report of both engines. (01, How far each statement must reach)
 -- A contract is written here as it stands under `ensures` in call.rt of `writing` and `reading`, of the lent bytes and what they are after the call.
 -- Assumes nothing.
+use Rattle.engine.specs.Bus.{Reported}
 use Rattle.std.specs.Prelude.{ℕ, ◌≡◌, List, length, take}
 use Rattle.engine.specs.declared.bus.Outcome.{Outcome}
 use Rattle.engine.specs.declared.bus.Transfer.{Transfer}
 use Rattle.writing.specs.Writing as writing
 use Rattle.writing.specs.declared.call.WritePlan.{WritePlan}
 use Rattle.writing.specs.declared.call.WriteCall.{WriteCall}
-use Rattle.writing.specs.declared.call.WriteReported.{WriteReported}
 use Rattle.reading.specs.Reading as reading
 use Rattle.reading.specs.declared.call.ReadPlan.{ReadPlan}
 use Rattle.reading.specs.declared.call.ReadCall.{ReadCall}
-use Rattle.reading.specs.declared.call.ReadReported.{ReadReported}
 
 -- ---- the contracts of a writing call
 
@@ -24,7 +23,7 @@ ShowsW call payload work (result, after) = (result ≡ writing.next_of call payl
 abbrev pub SendsW : WriteCall → List ℕ → List ℕ → ℕ → List ℕ → Type 0
 SendsW call payload work n result = result ≡ writing.part_of call payload work n
 
-abbrev pub ReportsW : WriteCall → Outcome → List ℕ → List ℕ → List ℕ → WriteReported → Type 0
+abbrev pub ReportsW : WriteCall → Outcome → List ℕ → List ℕ → List ℕ → Reported WriteCall → Type 0
 ReportsW call outcome reply payload work result = result ≡ writing.report_of call outcome (length reply) (length payload) (length work)
 
 -- ---- the contracts of a reading call
@@ -38,7 +37,7 @@ ShowsR call buffer work (result, after) = (result ≡ reading.next_of call (leng
 abbrev pub SendsR : ReadCall → List ℕ → ℕ → List ℕ → Type 0
 SendsR call work n result = result ≡ take n work
 
-abbrev pub ReportsR : ReadCall → Outcome → List ℕ → List ℕ → List ℕ → ReadReported × List ℕ → Type 0
+abbrev pub ReportsR : ReadCall → Outcome → List ℕ → List ℕ → List ℕ → Reported ReadCall × List ℕ → Type 0
 ReportsR call outcome reply buffer work (result, after) =
     (result ≡ reading.report_of call outcome reply (length buffer) (length work))
     × (after ≡ reading.buffer_after call outcome reply buffer (length work))

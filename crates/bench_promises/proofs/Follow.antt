@@ -1,5 +1,7 @@
 -- A run of the bench from a call on, followed through the Rust's function: each outcome that is taken is one more that the Rust is given.
 -- Assumes nothing.
+use Rattle.engine.specs.Bus.{Reported}
+use Rattle.std.specs.Prelude.{Err, Ok}
 use Prim.Native.Nat.{ℕ, ◌≤◌, ◌<◌}
 use mathlib.Core.Path.{◌≡◌, refl, sym, ap, ◌∙◌}
 use mathlib.Core.Bool.{Bool, true, false}
@@ -21,8 +23,6 @@ use Rattle.reading.proofs.Shown.{read_work}
 use Rattle.calls.specs.Call.{next_of, work_after, part_of, report_of, buffer_after, tally_of}
 use Rattle.calls.specs.declared.call.Call.{Call}
 use Rattle.calls.specs.declared.call.Call.TheVariants as call
-use Rattle.calls.specs.declared.call.Reported.{Reported}
-use Rattle.calls.specs.declared.call.Reported.TheVariants as reported
 use Rattle.requests.specs.Outcome.{acknowledged_line, error_line, timeout_line, outcome_line}
 use Rattle.requests.specs.declared.outcome.Told.TheVariants as told
 use Rattle.printing.specs.Printing.{write_said, end_said}
@@ -141,10 +141,10 @@ module _ (per_frame growing : Bool) (retries : ℕ) (rust : List BusOutcome → 
       unfolding report_then fed zeros came◌taken◌refused◌
       step o s ok r b = by (report_of c (feeding.told o) s (length payload) (length buffer) 39) refl
         where
-          by : (u : Reported) → report_of c (feeding.told o) s (length payload) (length buffer) 39 ≡ u
+          by : (u : Reported Call) → report_of c (feeding.told o) s (length payload) (length buffer) 39 ≡ u
               → onward o ≡ transfer_lines (done ++ (m ∷ [])) ++ report_then u (buffer_after c (feeding.told o) s buffer 39) go
-          by (reported.Refused a same) e = absurd (rw e at ok)
-          by (reported.Taken d) e =
+          by (Err (a, same)) e = absurd (rw e at ok)
+          by (Ok d) e =
               on o d (buffer_after c (feeding.told o) s buffer 39) (lasts_on per_frame growing retries os c lasts o s (length payload) (length buffer) 39 d e)
               (λ more. ap rust (append_assoc os (o ∷ []) more) ∙ same (o ∷ more) ∙ next _ _ ∙ rw (length_work c payload (length buffer), r, e, b))
 

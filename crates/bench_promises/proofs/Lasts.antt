@@ -1,5 +1,9 @@
 -- How long a call of the bench has waited, by the outcomes so far: what the definition over the Rust says.
 -- Assumes nothing.
+use Rattle.engine.specs.Bus.{Reported}
+use Rattle.std.specs.Prelude.{Err, Ok}
+use Rattle.writing.specs.declared.call.WriteCall.{WriteCall}
+use Rattle.reading.specs.declared.call.ReadCall.{ReadCall}
 use Prim.Native.Nat.{ℕ}
 use mathlib.Core.Path.{◌≡◌, refl, ap, subst, ◌∙◌}
 use mathlib.Core.Bool.{Bool, true, false}
@@ -12,18 +16,12 @@ use Rattle.protocol.specs.declared.common.Side.TheVariants as sides
 use Rattle.protocol.specs.declared.common.Config.{Config}
 use Rattle.engine.specs.declared.bus.Outcome.{Outcome}
 use Rattle.writing.specs.Writing as writing
-use Rattle.writing.specs.declared.call.WriteReported.{WriteReported}
-use Rattle.writing.specs.declared.call.WriteReported.TheVariants as wrote
 use Rattle.reading.specs.Reading as reading
-use Rattle.reading.specs.declared.call.ReadReported.{ReadReported}
-use Rattle.reading.specs.declared.call.ReadReported.TheVariants as got
 use Rattle.calls.specs.Kind.{plan_of}
 use Rattle.calls.specs.Sides.{side_of}
 use Rattle.calls.specs.Call.{start_with, start_of, wrote_of, got_of, report_of, tally_of}
 use Rattle.calls.specs.declared.call.Call.{Call}
 use Rattle.calls.specs.declared.call.Call.TheVariants as call
-use Rattle.calls.specs.declared.call.Reported.{Reported}
-use Rattle.calls.specs.declared.call.Reported.TheVariants as reported
 use Rattle.calls.specs.declared.kind.Kind.{Kind}
 use Rattle.calls.specs.declared.kind.Kind.TheVariants as kind
 use Rattle.original.specs.OriginalCommon.{set_for}
@@ -41,19 +39,19 @@ abbrev pub Budgeted : (per_frame : Bool) → Call → Type 0
 Budgeted per_frame (call.Write c) = per_frame ≡ true
 Budgeted per_frame (call.Read c) = per_frame ≡ false
 
-abbrev BudgetedIn : (per_frame : Bool) → Reported → Type 0
-BudgetedIn per_frame (reported.Refused a c) = Unit {0}
-BudgetedIn per_frame (reported.Taken c) = Budgeted per_frame c
+abbrev BudgetedIn : (per_frame : Bool) → Reported Call → Type 0
+BudgetedIn per_frame (Err (a, c)) = Unit {0}
+BudgetedIn per_frame (Ok c) = Budgeted per_frame c
 
-wrote_budgeted : (per_frame : Bool) (u : WriteReported) → per_frame ≡ true → BudgetedIn per_frame (wrote_of u)
+wrote_budgeted : (per_frame : Bool) (u : Reported WriteCall) → per_frame ≡ true → BudgetedIn per_frame (wrote_of u)
 unfolding wrote_of
-wrote_budgeted per_frame (wrote.Refused a c) e = tt
-wrote_budgeted per_frame (wrote.Taken c) e = e
+wrote_budgeted per_frame (Err (a, c)) e = tt
+wrote_budgeted per_frame (Ok c) e = e
 
-got_budgeted : (per_frame : Bool) (u : ReadReported) → per_frame ≡ false → BudgetedIn per_frame (got_of u)
+got_budgeted : (per_frame : Bool) (u : Reported ReadCall) → per_frame ≡ false → BudgetedIn per_frame (got_of u)
 unfolding got_of
-got_budgeted per_frame (got.Refused a c) e = tt
-got_budgeted per_frame (got.Taken c) e = e
+got_budgeted per_frame (Err (a, c)) e = tt
+got_budgeted per_frame (Ok c) e = e
 
 keeps_budgeted : (per_frame : Bool) (c : Call) → Budgeted per_frame c → (o : Outcome) (reply : List ℕ) (p n w : ℕ) → BudgetedIn per_frame (report_of c o reply p n w)
 unfolding report_of
@@ -72,7 +70,7 @@ map_append (u ∷ os) o = ap (λ (l : List Outcome). told u ∷ l) (map_append o
 
 -- one more that it takes
 pub lasts_on : (per_frame growing : Bool) (retries : ℕ) (os : List BusOutcome) (c : Call) → Lasts per_frame growing retries os c → (o : BusOutcome) (reply : List ℕ) (p n w : ℕ) (next : Call)
-    → report_of c (told o) reply p n w ≡ reported.Taken next → Lasts per_frame growing retries (os ++ (o ∷ [])) next
+    → report_of c (told o) reply p n w ≡ Ok next → Lasts per_frame growing retries (os ++ (o ∷ [])) next
 lasts_on per_frame growing retries os c l o reply p n w next e = record {
   budgets = l.budgets;
   keeps = rw (map_append os o) (keeps_on growing retries l.budgets (map told os) c l.keeps (told o) reply p n w next e);

@@ -1,5 +1,7 @@
 -- No call gives 15: at its start and at a report its answer is one of the rows of `answers`, and what it shows is its answer, or 8.
 -- Assumes nothing.
+use Rattle.engine.specs.Bus.{Reported}
+use Rattle.std.specs.Prelude.{Err, Ok}
 use Prim.Native.Nat.{ℕ}
 use mathlib.Core.Path.{◌≡◌, refl, sym, subst, ◌∙◌}
 use mathlib.Core.List.{List, [], ◌∷◌}
@@ -17,12 +19,8 @@ use Rattle.engine.specs.declared.bus.Transfer.TheVariants as transfer
 use Rattle.engine.specs.declared.limit.Limit.{Limit}
 use Rattle.writing.specs.Writing as writing
 use Rattle.writing.specs.declared.call.WriteCall.{WriteCall}
-use Rattle.writing.specs.declared.call.WriteReported.{WriteReported}
-use Rattle.writing.specs.declared.call.WriteReported.TheVariants as wrote
 use Rattle.reading.specs.Reading as reading
 use Rattle.reading.specs.declared.call.ReadCall.{ReadCall}
-use Rattle.reading.specs.declared.call.ReadReported.{ReadReported}
-use Rattle.reading.specs.declared.call.ReadReported.TheVariants as got
 use Rattle.calls.specs.Kind.{plan_of}
 use Rattle.calls.specs.Call.{start_with, start_of, next_of, wrote_of, got_of, report_of, phase_of}
 use Rattle.calls.specs.declared.kind.Plan.{Plan}
@@ -86,15 +84,15 @@ not_started (plan.Read plan) p n w = rw (starts_as.reading plan n w).phase (not_
 
 -- ---- at a report
 
-not_written : (c : WriteCall) (u : WriteReported) → SortW c u → Not15 c.phase → NotReported15 (wrote_of u)
+not_written : (c : WriteCall) (u : Reported WriteCall) → SortW c u → Not15 c.phase → NotReported15 (wrote_of u)
 unfolding wrote_of phase_of
-not_written c (wrote.Refused a same) (k, e) h = (apart (8 ∷ 9 ∷ 10 ∷ []) refusals (number_of a) k, rw e h)
-not_written c (wrote.Taken next) (w, ends) h = among (0 ∷ 1 ∷ 2 ∷ 6 ∷ []) ends_w next.phase ends
+not_written c (Err (a, same)) (k, e) h = (apart (8 ∷ 9 ∷ 10 ∷ []) refusals (number_of a) k, rw e h)
+not_written c (Ok next) (w, ends) h = among (0 ∷ 1 ∷ 2 ∷ 6 ∷ []) ends_w next.phase ends
 
-not_got : (c : ReadCall) (before after : List ℕ) (u : ReadReported) → SortR c before after u → Not15 c.phase → NotReported15 (got_of u)
+not_got : (c : ReadCall) (before after : List ℕ) (u : Reported ReadCall) → SortR c before after u → Not15 c.phase → NotReported15 (got_of u)
 unfolding got_of phase_of
-not_got c before after (got.Refused a same) (k, e, kept) h = (apart (8 ∷ 9 ∷ 10 ∷ []) refusals (number_of a) k, rw e h)
-not_got c before after (got.Taken next) (w, ends, kept) h = among (0 ∷ 1 ∷ 2 ∷ 3 ∷ []) ends_r next.phase ends
+not_got c before after (Err (a, same)) (k, e, kept) h = (apart (8 ∷ 9 ∷ 10 ∷ []) refusals (number_of a) k, rw e h)
+not_got c before after (Ok next) (w, ends, kept) h = among (0 ∷ 1 ∷ 2 ∷ 3 ∷ []) ends_r next.phase ends
 
 not_reported : (c : Call) → Not15 (phase_of c) → (o : Outcome) (reply : List ℕ) (p n w : ℕ) → NotReported15 (report_of c o reply p n w)
 unfolding report_of phase_of

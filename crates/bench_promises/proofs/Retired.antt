@@ -1,5 +1,7 @@
 -- 15 exactly when the input begins with a retired kind: the two characters are those of the first line, and no call and no other line gives it.
 -- Assumes nothing.
+use Rattle.engine.specs.Bus.{Reported}
+use Rattle.std.specs.Prelude.{Err, Ok}
 use Prim.Native.Nat.{ℕ, zero, suc, ◌+◌, ◌/◌, ◌%◌, ◌≤◌, ◌<◌}
 use mathlib.Core.Path.{◌≡◌, refl, sym, ap, subst, ◌∙◌}
 use mathlib.Core.Bool.{Bool, true, false, ◌&&◌, ◌||◌, false≢true}
@@ -25,8 +27,6 @@ use Rattle.engine.specs.declared.bus.Transfer.{Transfer}
 use Rattle.engine.specs.declared.bus.Transfer.TheVariants as transfer
 use Rattle.calls.specs.Call.{start_of, next_of, report_of, buffer_after, tally_of, phase_of}
 use Rattle.calls.specs.declared.call.Call.{Call}
-use Rattle.calls.specs.declared.call.Reported.{Reported}
-use Rattle.calls.specs.declared.call.Reported.TheVariants as reported
 use Rattle.requests.specs.Request.{called_of, request_line}
 use Rattle.requests.specs.Retired.{retired_kind}
 use Rattle.requests.specs.declared.request.Request.{Request}
@@ -191,9 +191,9 @@ other_shown : (c : Call) (payload buffer : List ℕ) → Not15 (phase_of c) → 
 unfolding line_shown
 other_shown c payload buffer h = other_tell (next_of c payload (length buffer) 39) _ (tally_of c) buffer (no_call.shows c h payload (length buffer) 39)
 
-other_after : (payload : List ℕ) (u : Reported) (buffer : List ℕ) → NotReported15 u → GoodAfter Other (λ c after. Not15 (phase_of c)) payload u buffer
-other_after payload (reported.Refused a c) buffer h = other_end a (tally_of c) buffer h.0
-other_after payload (reported.Taken c) buffer h = h
+other_after : (payload : List ℕ) (u : Reported Call) (buffer : List ℕ) → NotReported15 u → GoodAfter Other (λ c after. Not15 (phase_of c)) payload u buffer
+other_after payload (Err (a, c)) buffer h = other_end a (tally_of c) buffer h.0
+other_after payload (Ok c) buffer h = h
 
 -- a request line that is not retired is refused with 11 alone
 abbrev Fine : Request → Type 0

@@ -1,5 +1,7 @@
 -- What a call that shows a transfer makes of an outcome: it takes every failure and every reply of the length that is asked, and refuses any other with 9.
 -- Assumes nothing.
+use Rattle.engine.specs.Bus.{Reported}
+use Rattle.std.specs.Prelude.{Err, None, Ok, Some, Option}
 use Prim.Native.Nat.{ℕ}
 use mathlib.Core.Path.{◌≡◌, refl, sym, subst, ◌∙◌}
 use mathlib.Core.Bool.{Bool, true, false}
@@ -10,9 +12,7 @@ use Rattle.protocol.specs.Pick.{when◌then◌else◌}
 use Rattle.protocol.specs.Frame.{laid_of}
 use Rattle.protocol.specs.Reply.{bytes_asked, checked_of, heard_of}
 use Rattle.protocol.specs.declared.error.Answer.TheVariants as answer
-use Rattle.protocol.specs.declared.frame.Laid.{Laid}
-use Rattle.protocol.specs.declared.frame.Laid.TheVariants as laid
-use Rattle.protocol.specs.declared.reply.Heard.TheVariants as heard
+use Rattle.protocol.specs.declared.reply.Unheard.TheVariants as unheard
 use Rattle.engine.specs.Pick.{case◌waiting◌ended◌, case◌acknowledged◌error◌timeout◌}
 use Rattle.engine.specs.Bus.{write_of, fits_of}
 use Rattle.engine.specs.declared.bus.Outcome.{Outcome}
@@ -32,8 +32,6 @@ use Rattle.reading.specs.declared.call.Verdict.TheVariants as verdict
 use Rattle.calls.specs.Call.{next_of, wrote_of, got_of, report_of, buffer_after}
 use Rattle.calls.specs.declared.call.Call.{Call}
 use Rattle.calls.specs.declared.call.Call.TheVariants as call
-use Rattle.calls.specs.declared.call.Reported.{Reported}
-use Rattle.calls.specs.declared.call.Reported.TheVariants as reported
 
 -- how many bytes a transfer that is shown brings
 abbrev pub brought : Transfer → ℕ
@@ -48,9 +46,9 @@ IsTransfer (transfer.Read command n) = Unit {0}
 IsTransfer (transfer.Refused a) = ⊥
 IsTransfer (transfer.Ended a) = ⊥
 
-abbrev pub IsTaken : Reported → Type 0
-IsTaken (reported.Taken c) = Unit {0}
-IsTaken (reported.Refused a c) = ⊥
+abbrev pub IsTaken : Reported Call → Type 0
+IsTaken (Ok c) = Unit {0}
+IsTaken (Err (a, c)) = ⊥
 
 abbrev pub Failure : Outcome → Type 0
 Failure outcome.Acknowledged = ⊥
@@ -65,7 +63,7 @@ pub record Takes (c : Call) (p : ℕ) (buffer : List ℕ) (asks : ℕ) : Type 0 
       × (buffer_after c o s buffer 39 ≡ buffer_after c o t buffer 39)
   pub right : (s : List ℕ) → length s ≡ asks → IsTaken (report_of c outcome.Acknowledged s p (length buffer) 39)
   pub wrong : (s : List ℕ) → (length s ≡ asks → ⊥)
-      → (report_of c outcome.Acknowledged s p (length buffer) 39 ≡ reported.Refused answer.WrongReply c) × (buffer_after c outcome.Acknowledged s buffer 39 ≡ buffer)
+      → (report_of c outcome.Acknowledged s p (length buffer) 39 ≡ Err (answer.WrongReply, c)) × (buffer_after c outcome.Acknowledged s buffer 39 ≡ buffer)
 
 -- ---- a writing call
 
@@ -102,11 +100,11 @@ module _ (c : WriteCall) (payload : List ℕ) where
   unfolding writing.next_of writing.shown_of case◌waiting◌ended◌ when◌then◌else◌ write_of
   reads_none = by c.phase (fits_of c.task.lent (length payload) 39) (writing.own_bytes c) (laid_of c.task.plan.pec (writing.due_bytes c payload) 39)
     where
-      by : (p : Phase) (f own : Bool) (l : Laid)
+      by : (p : Phase) (f own : Bool) (l : Option ℕ)
           → brought (case p waiting (when f then (when own then transfer.Write (length payload) else write_of l) else transfer.Refused answer.WrongBuffer) ended transfer.Ended) ≡ 0
       by phase.Waiting true true l = refl
-      by phase.Waiting true false (laid.Frame n) = refl
-      by phase.Waiting true false laid.NoRoom = refl
+      by phase.Waiting true false (Some n) = refl
+      by phase.Waiting true false None = refl
       by phase.Waiting false own l = refl
       by (phase.Ended a) f own l = refl
 
@@ -118,12 +116,12 @@ NoRefusal (verdict.Failed a) = Unit {0}
 NoRefusal verdict.Head = Unit {0}
 NoRefusal verdict.Block = Unit {0}
 
-brought_head : (l : Laid) → brought (write_of l) ≡ 0
+brought_head : (l : Option ℕ) → brought (write_of l) ≡ 0
 unfolding write_of
-brought_head (laid.Frame n) = refl
-brought_head laid.NoRoom = refl
+brought_head (Some n) = refl
+brought_head None = refl
 
-believed : (pec good : Bool) → NoRefusal (reading.verdict_of (when pec then (when good then heard.Good else heard.WrongPec) else heard.Good))
+believed : (pec good : Bool) → NoRefusal (reading.verdict_of (when pec then (when good then (Ok tt) else (Err unheard.WrongPec)) else (Ok tt)))
 unfolding reading.verdict_of when◌then◌else◌
 believed true true = tt
 believed true false = tt

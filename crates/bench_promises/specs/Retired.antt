@@ -1,5 +1,7 @@
 -- 15, the answer to a retired kind: given exactly when the first line begins with 0C or 0D, however the input is cut, and by no call. (02, W-210)
 -- Assumes nothing.
+use Rattle.engine.specs.Bus.{Reported}
+use Rattle.std.specs.Prelude.{Err, Ok}
 use Rattle.std.specs.Prelude.{ℕ, ◌≤◌, ◌≡◌, Bool, false, List, [], ◌∷◌, ◌⊎◌, length}
 use Rattle.hexadecimal.specs.Text.{ascii}
 use Rattle.protocol.specs.Answer.{number_of}
@@ -12,8 +14,6 @@ use Rattle.engine.specs.declared.bus.Transfer.TheVariants as transfer
 use Rattle.calls.specs.Call.{start_of, next_of, report_of, phase_of}
 use Rattle.calls.specs.declared.kind.Kind.{Kind}
 use Rattle.calls.specs.declared.call.Call.{Call}
-use Rattle.calls.specs.declared.call.Reported.{Reported}
-use Rattle.calls.specs.declared.call.Reported.TheVariants as reported
 use Rattle.lines.specs.Input.{lines_from}
 use Rattle.session.specs.Desk.{Desk}
 use Rattle.session.specs.Loop.{Fresh, Ready, Reached}
@@ -39,9 +39,9 @@ abbrev pub Not15 : Phase → Type 0
 Not15 phase.Waiting = Unit {0}
 Not15 (phase.Ended a) = number_of a ≡ 15 → ⊥
 
-abbrev pub NotReported15 : Reported → Type 0
-NotReported15 (reported.Refused a c) = (number_of a ≡ 15 → ⊥) × Not15 (phase_of c)
-NotReported15 (reported.Taken c) = Not15 (phase_of c)
+abbrev pub NotReported15 : Reported Call → Type 0
+NotReported15 (Err (a, c)) = (number_of a ≡ 15 → ⊥) × Not15 (phase_of c)
+NotReported15 (Ok c) = Not15 (phase_of c)
 
 abbrev pub NotShown15 : Transfer → Type 0
 NotShown15 (transfer.Write n) = Unit {0}

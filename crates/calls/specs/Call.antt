@@ -1,26 +1,23 @@
 -- A call, step by step: what the engine that carries it out does, with the one of payload and buffer that it looks at. (01, The step machine)
 -- Assumes nothing.
-use Rattle.std.specs.Prelude.{ℕ, Bool, List, length, take}
+use Rattle.std.specs.Prelude.{ℕ, Bool, List, length, take, Ok, Err}
 use Rattle.protocol.specs.declared.common.Config.{Config}
 use Rattle.engine.specs.Bus as bus
+use Rattle.engine.specs.Bus.{Reported}
 use Rattle.engine.specs.declared.budget.Tally.{Tally}
 use Rattle.engine.specs.declared.bus.Outcome.{Outcome}
 use Rattle.engine.specs.declared.bus.Phase.{Phase}
 use Rattle.engine.specs.declared.bus.Transfer.{Transfer}
 use Rattle.writing.specs.Writing as writing
-use Rattle.writing.specs.declared.call.WriteReported.{WriteReported}
-use Rattle.writing.specs.declared.call.WriteReported.TheVariants as wrote
+use Rattle.writing.specs.declared.call.WriteCall.{WriteCall}
 use Rattle.reading.specs.Reading as reading
-use Rattle.reading.specs.declared.call.ReadReported.{ReadReported}
-use Rattle.reading.specs.declared.call.ReadReported.TheVariants as got
+use Rattle.reading.specs.declared.call.ReadCall.{ReadCall}
 use Rattle.calls.specs.Kind.{plan_of}
 use Rattle.calls.specs.declared.kind.Kind.{Kind}
 use Rattle.calls.specs.declared.kind.Plan.{Plan}
 use Rattle.calls.specs.declared.kind.Plan.TheVariants as plan
 use Rattle.calls.specs.declared.call.Call.{Call}
 use Rattle.calls.specs.declared.call.Call.TheVariants as call
-use Rattle.calls.specs.declared.call.Reported.{Reported}
-use Rattle.calls.specs.declared.call.Reported.TheVariants as reported
 
 -- a plan starts, with a payload of p bytes, a buffer of n and a work buffer of w
 unfoldable pub start_with : Plan → ℕ → ℕ → ℕ → Call
@@ -46,16 +43,16 @@ part_of (call.Write c) payload work n = writing.part_of c payload work n
 part_of (call.Read c) payload work n = take n work
 
 -- what came of a report
-unfoldable pub wrote_of : WriteReported → Reported
-wrote_of (wrote.Refused why c) = reported.Refused why (call.Write c)
-wrote_of (wrote.Taken c) = reported.Taken (call.Write c)
+unfoldable pub wrote_of : Reported WriteCall → Reported Call
+wrote_of (Err (why, c)) = Err (why, call.Write c)
+wrote_of (Ok c) = Ok (call.Write c)
 
-unfoldable pub got_of : ReadReported → Reported
-got_of (got.Refused why c) = reported.Refused why (call.Read c)
-got_of (got.Taken c) = reported.Taken (call.Read c)
+unfoldable pub got_of : Reported ReadCall → Reported Call
+got_of (Err (why, c)) = Err (why, call.Read c)
+got_of (Ok c) = Ok (call.Read c)
 
 -- an outcome with a reply, a payload of p bytes, a buffer of n and a work buffer of w
-unfoldable pub report_of : Call → Outcome → List ℕ → ℕ → ℕ → ℕ → Reported
+unfoldable pub report_of : Call → Outcome → List ℕ → ℕ → ℕ → ℕ → Reported Call
 report_of (call.Write c) o reply p n w = wrote_of (writing.report_of c o (length reply) p w)
 report_of (call.Read c) o reply p n w = got_of (reading.report_of c o reply n w)
 

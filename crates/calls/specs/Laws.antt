@@ -1,6 +1,7 @@
 -- A call is what the engine makes of it that carries it out, for every state and whatever is lent; the one of payload and buffer that it does not look at
 -- may be anything. With these, what demand 1 says of the two engines is said of every call. (01, The step machine)
 -- Assumes nothing.
+use Rattle.std.specs.Prelude.{Err, Ok}
 use Rattle.std.specs.Prelude.{ℕ, ◌≡◌, List, length, take}
 use Rattle.protocol.specs.declared.common.Config.{Config}
 use Rattle.protocol.specs.declared.error.Answer.{Answer}
@@ -9,17 +10,14 @@ use Rattle.engine.specs.declared.bus.Outcome.{Outcome}
 use Rattle.writing.specs.Writing as writing
 use Rattle.writing.specs.declared.call.WritePlan.{WritePlan}
 use Rattle.writing.specs.declared.call.WriteCall.{WriteCall}
-use Rattle.writing.specs.declared.call.WriteReported.TheVariants as wrote
 use Rattle.reading.specs.Reading as reading
 use Rattle.reading.specs.declared.call.ReadPlan.{ReadPlan}
 use Rattle.reading.specs.declared.call.ReadCall.{ReadCall}
-use Rattle.reading.specs.declared.call.ReadReported.TheVariants as got
 use Rattle.calls.specs.Kind.{plan_of}
 use Rattle.calls.specs.Call.{start_of, next_of, work_after, part_of, report_of, buffer_after, phase_of, tally_of, fits_of}
 use Rattle.calls.specs.declared.kind.Kind.{Kind}
 use Rattle.calls.specs.declared.kind.Plan.TheVariants as plan
 use Rattle.calls.specs.declared.call.Call.TheVariants as call
-use Rattle.calls.specs.declared.call.Reported.TheVariants as reported
 
 pub record WritesAs (c : WriteCall) : Type 0 where
   -- what it shows, what that leaves in the work buffer, and the part to send
@@ -27,10 +25,10 @@ pub record WritesAs (c : WriteCall) : Type 0 where
       → (next_of (call.Write c) payload n (length work) ≡ writing.next_of c payload (length work)) × (work_after (call.Write c) payload n work ≡ writing.work_after c payload work)
   pub sends : (payload work : List ℕ) (n : ℕ) → part_of (call.Write c) payload work n ≡ writing.part_of c payload work n
   -- what comes of a report; the buffer is as it was
-  pub takes : (o : Outcome) (reply : List ℕ) (p n w : ℕ) (next : WriteCall) → writing.report_of c o (length reply) p w ≡ wrote.Taken next
-      → report_of (call.Write c) o reply p n w ≡ reported.Taken (call.Write next)
-  pub refuses : (o : Outcome) (reply : List ℕ) (p n w : ℕ) (a : Answer) (same : WriteCall) → writing.report_of c o (length reply) p w ≡ wrote.Refused a same
-      → report_of (call.Write c) o reply p n w ≡ reported.Refused a (call.Write same)
+  pub takes : (o : Outcome) (reply : List ℕ) (p n w : ℕ) (next : WriteCall) → writing.report_of c o (length reply) p w ≡ Ok next
+      → report_of (call.Write c) o reply p n w ≡ Ok (call.Write next)
+  pub refuses : (o : Outcome) (reply : List ℕ) (p n w : ℕ) (a : Answer) (same : WriteCall) → writing.report_of c o (length reply) p w ≡ Err (a, same)
+      → report_of (call.Write c) o reply p n w ≡ Err (a, call.Write same)
   pub keeps : (o : Outcome) (reply buffer : List ℕ) (w : ℕ) → buffer_after (call.Write c) o reply buffer w ≡ buffer
   -- where it stands, what it counts, and the lengths of its start
   pub stands : (phase_of (call.Write c) ≡ c.phase) × (tally_of (call.Write c) ≡ c.tally)
@@ -42,10 +40,10 @@ pub record ReadsAs (c : ReadCall) : Type 0 where
       → (next_of (call.Read c) payload n (length work) ≡ reading.next_of c n (length work)) × (work_after (call.Read c) payload n work ≡ reading.work_after c n work)
   pub sends : (payload work : List ℕ) (n : ℕ) → part_of (call.Read c) payload work n ≡ take n work
   -- what comes of a report, and what it leaves in the buffer
-  pub takes : (o : Outcome) (reply : List ℕ) (p n w : ℕ) (next : ReadCall) → reading.report_of c o reply n w ≡ got.Taken next
-      → report_of (call.Read c) o reply p n w ≡ reported.Taken (call.Read next)
-  pub refuses : (o : Outcome) (reply : List ℕ) (p n w : ℕ) (a : Answer) (same : ReadCall) → reading.report_of c o reply n w ≡ got.Refused a same
-      → report_of (call.Read c) o reply p n w ≡ reported.Refused a (call.Read same)
+  pub takes : (o : Outcome) (reply : List ℕ) (p n w : ℕ) (next : ReadCall) → reading.report_of c o reply n w ≡ Ok next
+      → report_of (call.Read c) o reply p n w ≡ Ok (call.Read next)
+  pub refuses : (o : Outcome) (reply : List ℕ) (p n w : ℕ) (a : Answer) (same : ReadCall) → reading.report_of c o reply n w ≡ Err (a, same)
+      → report_of (call.Read c) o reply p n w ≡ Err (a, call.Read same)
   pub fills : (o : Outcome) (reply buffer : List ℕ) (w : ℕ) → buffer_after (call.Read c) o reply buffer w ≡ reading.buffer_after c o reply buffer w
   -- where it stands, what it counts, and the lengths of its start
   pub stands : (phase_of (call.Read c) ≡ c.phase) × (tally_of (call.Read c) ≡ c.tally)

@@ -1,57 +1,27 @@
 // A call: start, next transfer, the part to send, report of an outcome. A step is lent a payload, which is read, and a buffer, which is filled: a writing
 // call looks at the payload alone; a reading call looks at the buffer alone, and a command's start at its input too. A work buffer is lent beside them.
 ghost use Rattle.std.specs.Prelude.{◌≡◌, length};
-ghost use Rattle.calls.specs.Call.{start_of, next_of, work_after, part_of, wrote_of, got_of, report_of, buffer_after, phase_of, tally_of, fits_of};
+ghost use Rattle.calls.specs.Call.{start_of, next_of, work_after, part_of, report_of, buffer_after, phase_of, tally_of, fits_of};
 
 use crate::kind::{Kind, Plan};
 use engine::budget::Tally;
-use engine::bus::{Outcome, Phase, Transfer};
+use engine::bus::{Outcome, Phase, Reported, Transfer};
 use protocol::common::Config;
-use protocol::error::Answer;
-use reading::call::{ReadCall, ReadReported};
-use writing::call::{WriteCall, WriteReported};
+use reading::call::ReadCall;
+use writing::call::WriteCall;
 
 // A call, by the engine that carries it out. It goes in by value and comes back.
-#[derive(Clone, Copy)]
+#[derive(Clone, Copy, Debug, PartialEq, Eq)]
 pub enum Call {
     Write(WriteCall),
     Read(ReadCall),
 }
 
 // A call and the transfer that it shows.
-#[derive(Clone, Copy)]
+#[derive(Clone, Copy, Debug, PartialEq, Eq)]
 pub struct Shown {
     pub call: Call,
     pub transfer: Transfer,
-}
-
-// What came of a report.
-#[derive(Clone, Copy)]
-pub enum Reported {
-    // Refused, with the call as it was.
-    Refused(Answer, Call),
-    // Taken, with the new call.
-    Taken(Call),
-}
-
-// What came of a report to a writing call.
-fn wrote(reported: WriteReported) -> Reported
-    ensures { result ≡ wrote_of reported }
-{
-    match reported {
-        WriteReported::Refused(why, call) => Reported::Refused(why, Call::Write(call)),
-        WriteReported::Taken(call) => Reported::Taken(Call::Write(call)),
-    }
-}
-
-// What came of a report to a reading call.
-fn got(reported: ReadReported) -> Reported
-    ensures { result ≡ got_of reported }
-{
-    match reported {
-        ReadReported::Refused(why, call) => Reported::Refused(why, Call::Read(call)),
-        ReadReported::Taken(call) => Reported::Taken(Call::Read(call)),
-    }
 }
 
 impl Call {
@@ -103,12 +73,18 @@ impl Call {
         payload: &[u8],
         buffer: &mut [u8],
         work: &[u8],
-    ) -> Reported
+    ) -> Reported<Call>
         ensures { (result ≡ report_of self outcome reply.now (length payload.now) (length buffer.old) (length work.now)) × (buffer.new ≡ buffer_after self outcome reply.now buffer.old (length work.now)) }
     {
         match self {
-            Call::Write(call) => wrote(call.report(outcome, reply, payload, work)),
-            Call::Read(call) => got(call.report(outcome, reply, buffer, work)),
+            Call::Write(call) => match call.report(outcome, reply, payload, work) {
+                Ok(next) => Ok(Call::Write(next)),
+                Err((why, same)) => Err((why, Call::Write(same))),
+            },
+            Call::Read(call) => match call.report(outcome, reply, buffer, work) {
+                Ok(next) => Ok(Call::Read(next)),
+                Err((why, same)) => Err((why, Call::Read(same))),
+            },
         }
     }
 
@@ -137,16 +113,8 @@ impl Call {
         ensures { result ≡ fits_of self payload buffer work }
     {
         match self {
-            Call::Write(call) => {
-                let task = call.task;
-                let lent = task.lent;
-                lent.fits(payload, work)
-            }
-            Call::Read(call) => {
-                let task = call.task;
-                let lent = task.lent;
-                lent.fits(buffer, work)
-            }
+            Call::Write(call) => call.task.lent.fits(payload, work),
+            Call::Read(call) => call.task.lent.fits(buffer, work),
         }
     }
 }

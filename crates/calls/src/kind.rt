@@ -8,7 +8,7 @@ use reading::call::ReadPlan;
 use writing::call::WritePlan;
 
 // Which call.
-#[derive(Clone, Copy)]
+#[derive(Clone, Copy, Debug, PartialEq, Eq)]
 pub enum Kind {
     // The plain write.
     WriteWithRetries,
@@ -35,7 +35,7 @@ pub enum Kind {
 }
 
 // What is carried out, and by which engine.
-#[derive(Clone, Copy)]
+#[derive(Clone, Copy, Debug, PartialEq, Eq)]
 pub enum Plan {
     Write(WritePlan),
     Read(ReadPlan),

@@ -1,5 +1,9 @@
 -- A report to any call, by the engine that carries it out; and any list of reports.
 -- Assumes nothing.
+use Rattle.engine.specs.Bus.{Reported}
+use Rattle.std.specs.Prelude.{Err, Ok}
+use Rattle.writing.specs.declared.call.WriteCall.{WriteCall}
+use Rattle.reading.specs.declared.call.ReadCall.{ReadCall}
 use Prim.Native.Nat.{ℕ, suc, ◌+◌, ◌≤◌, ◌<◌}
 use mathlib.Core.Path.{◌≡◌}
 use mathlib.Core.List.{List, [], ◌∷◌}
@@ -8,16 +12,10 @@ use lib.ListN.{length}
 use Rattle.engine.specs.declared.bus.Outcome.{Outcome}
 use Rattle.engine.specs.declared.bus.Phase.TheVariants as phase
 use Rattle.writing.specs.Writing as writing
-use Rattle.writing.specs.declared.call.WriteReported.{WriteReported}
-use Rattle.writing.specs.declared.call.WriteReported.TheVariants as wrote
 use Rattle.reading.specs.Reading as reading
-use Rattle.reading.specs.declared.call.ReadReported.{ReadReported}
-use Rattle.reading.specs.declared.call.ReadReported.TheVariants as got
 use Rattle.calls.specs.Call.{wrote_of, got_of, report_of, phase_of, tally_of}
 use Rattle.calls.specs.declared.call.Call.{Call}
 use Rattle.calls.specs.declared.call.Call.TheVariants as call
-use Rattle.calls.specs.declared.call.Reported.{Reported}
-use Rattle.calls.specs.declared.call.Reported.TheVariants as reported
 use Rattle.ceilings.specs.Reports.{Report, came_of, call_after, taken_in, feed, accepted}
 use Rattle.ceilings.specs.Ceilings.{Ceiling}
 use Rattle.ceilings.proofs.Writing as writes
@@ -29,20 +27,20 @@ Sound k m v (call.Write c) = writes.Sound k m v c
 Sound k m v (call.Read c) = reads.Sound k m v c
 
 -- an outcome that is taken is one more, and one fewer can come
-abbrev pub Sounds : (k m v : ℕ) → Reported → Type 0
-Sounds k m v (reported.Refused why c) = Sound k m v c
-Sounds k m v (reported.Taken next) = (l : ℕ) × (m ≡ suc l) × Sound (suc k) l v next
+abbrev pub Sounds : (k m v : ℕ) → Reported Call → Type 0
+Sounds k m v (Err (why, c)) = Sound k m v c
+Sounds k m v (Ok next) = (l : ℕ) × (m ≡ suc l) × Sound (suc k) l v next
 
 module _ (k m v : ℕ) where
-  wrote_sounds : (r : WriteReported) → writes.Follows k m v r → Sounds k m v (wrote_of r)
+  wrote_sounds : (r : Reported WriteCall) → writes.Follows k m v r → Sounds k m v (wrote_of r)
   unfolding wrote_of
-  wrote_sounds (wrote.Refused why c) s = s
-  wrote_sounds (wrote.Taken c) s = s
+  wrote_sounds (Err (why, c)) s = s
+  wrote_sounds (Ok c) s = s
 
-  got_sounds : (r : ReadReported) → reads.Follows k m v r → Sounds k m v (got_of r)
+  got_sounds : (r : Reported ReadCall) → reads.Follows k m v r → Sounds k m v (got_of r)
   unfolding got_of
-  got_sounds (got.Refused why c) s = s
-  got_sounds (got.Taken c) s = s
+  got_sounds (Err (why, c)) s = s
+  got_sounds (Ok c) s = s
 
   pub sounds : (c : Call) → Sound k m v c → (o : Outcome) (reply : List ℕ) (p n w : ℕ) → Sounds k m v (report_of c o reply p n w)
   unfolding report_of
@@ -76,11 +74,11 @@ record Ran (k m v taken : ℕ) (c : Call) : Type 0 where
 
 -- one report before others
 run_on : (es : List Report) → ((k m v : ℕ) (c : Call) → Sound k m v c → Ran k m v (accepted c es) (feed c es))
-    → (k m v : ℕ) (r : Reported) → Sounds k m v r → Ran k m v (taken_in r + accepted (call_after r) es) (feed (call_after r) es)
-run_on es rest k m v (reported.Refused why c) s =
+    → (k m v : ℕ) (r : Reported Call) → Sounds k m v r → Ran k m v (taken_in r + accepted (call_after r) es) (feed (call_after r) es)
+run_on es rest k m v (Err (why, c)) s =
     let ran = rest k m v c s in
     record { counts = omega (arith, ran.counts); highest = omega (arith, ran.highest); ends = λ all w. ran.ends (omega (arith, all)) w; rests = ran.rests }
-run_on es rest k m v (reported.Taken next) (l, e, s) =
+run_on es rest k m v (Ok next) (l, e, s) =
     let ran = rest (suc k) l v next s in
     record { counts = omega (arith, ran.counts); highest = omega (arith, ran.highest, e); ends = λ all w. ran.ends (omega (arith, all, e)) w; rests = ran.rests }
 

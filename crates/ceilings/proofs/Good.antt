@@ -1,5 +1,7 @@
 -- How many outcomes a call can still accept: the number falls with each that it takes, and a call that waits has some left.
 -- Assumes nothing.
+use Rattle.engine.specs.Bus.{Reported}
+use Rattle.std.specs.Prelude.{Err, Ok}
 use Prim.Native.Nat.{ℕ, suc, ◌≤◌, ◌<◌}
 use mathlib.Core.Path.{◌≡◌, sym, ap, subst, ◌∙◌}
 use mathlib.Core.List.{List}
@@ -10,8 +12,6 @@ use Rattle.engine.specs.declared.bus.Phase.TheVariants as phase
 use Rattle.calls.specs.Sides.{budget_of}
 use Rattle.calls.specs.Call.{start_of, report_of, phase_of, tally_of}
 use Rattle.calls.specs.declared.call.Call.{Call}
-use Rattle.calls.specs.declared.call.Reported.{Reported}
-use Rattle.calls.specs.declared.call.Reported.TheVariants as reported
 use Rattle.calls.specs.declared.kind.Kind.{Kind}
 use Rattle.ceilings.specs.Ceilings.{CeilingOf}
 use Rattle.ceilings.proofs.Calls.{Sound, Sounds, sounds, waits_more, counted, rested}
@@ -30,22 +30,22 @@ pub rests : (m v : ℕ) (call : Call) → Good m v call → (tally_of call).wait
 rests m v call (k, s) = rested k m v call s
 
 -- a report that is refused leaves as many, one that is taken one fewer
-abbrev pub Follows : (m v : ℕ) → Reported → Type 0
-Follows m v (reported.Refused why call) = Good m v call
-Follows m v (reported.Taken next) = (l : ℕ) × (m ≡ suc l) × Good l v next
+abbrev pub Follows : (m v : ℕ) → Reported Call → Type 0
+Follows m v (Err (why, call)) = Good m v call
+Follows m v (Ok next) = (l : ℕ) × (m ≡ suc l) × Good l v next
 
-follows_so : (k m v : ℕ) (r : Reported) → Sounds k m v r → Follows m v r
-follows_so k m v (reported.Refused why call) s = (k, s)
-follows_so k m v (reported.Taken next) (l, e, s) = (l, e, (suc k, s))
+follows_so : (k m v : ℕ) (r : Reported Call) → Sounds k m v r → Follows m v r
+follows_so k m v (Err (why, call)) s = (k, s)
+follows_so k m v (Ok next) (l, e, s) = (l, e, (suc k, s))
 
 pub follows : (m v : ℕ) (call : Call) → Good m v call → (o : Outcome) (reply : List ℕ) (p n w : ℕ) → Follows m v (report_of call o reply p n w)
 follows m v call (k, s) o reply p n w = follows_so k m v (report_of call o reply p n w) (sounds k m v call s o reply p n w)
 
 -- and an outcome that is taken is counted
-pub counts : (m v : ℕ) (call next : Call) → Good m v call → (o : Outcome) (reply : List ℕ) (p n w : ℕ) → report_of call o reply p n w ≡ reported.Taken next
+pub counts : (m v : ℕ) (call next : Call) → Good m v call → (o : Outcome) (reply : List ℕ) (p n w : ℕ) → report_of call o reply p n w ≡ Ok next
     → (tally_of next).transfers ≡ suc (tally_of call).transfers
 counts m v call next (k, s) o reply p n w e =
-    let after : Sounds k m v (reported.Taken next) = subst (Sounds k m v) e (sounds k m v call s o reply p n w) in
+    let after : Sounds k m v (Ok next) = subst (Sounds k m v) e (sounds k m v call s o reply p n w) in
     counted (suc k) after.0 v next after.2 ∙ ap suc (sym (counted k m v call s))
 
 -- a call by its name starts with its ceiling

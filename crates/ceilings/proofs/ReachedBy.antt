@@ -1,5 +1,6 @@
 -- One report more: a call that takes it reaches what the call after it reaches, and one transfer.
 -- Assumes nothing.
+use Rattle.std.specs.Prelude.{Ok}
 use Prim.Native.Nat.{ℕ, zero, suc, ◌+◌, ◌*◌, ◌≤◌}
 use mathlib.Core.Path.{◌≡◌, refl, ap, subst, ◌∙◌}
 use mathlib.Core.List.{List, [], ◌∷◌}
@@ -10,7 +11,6 @@ use Rattle.engine.specs.declared.budget.Tally.{Tally}
 use Rattle.engine.specs.declared.bus.Outcome.{Outcome}
 use Rattle.calls.specs.Call.{report_of, tally_of}
 use Rattle.calls.specs.declared.call.Call.{Call}
-use Rattle.calls.specs.declared.call.Reported.TheVariants as reported
 use Rattle.ceilings.specs.Reports.{feed, accepted}
 use Rattle.ceilings.specs.Ceilings.{Reached}
 
@@ -20,7 +20,7 @@ unfolding feed accepted
 no_more c = record { reports = []; takes = refl; waits_all = refl }
 
 -- one that is taken, before others
-pub one_more : (c next : Call) (o : Outcome) (reply : List ℕ) (p n w m v : ℕ) → report_of c o reply p n w ≡ reported.Taken next → Reached m v next → Reached (1 + m) v c
+pub one_more : (c next : Call) (o : Outcome) (reply : List ℕ) (p n w m v : ℕ) → report_of c o reply p n w ≡ Ok next → Reached m v next → Reached (1 + m) v c
 unfolding feed accepted
 one_more c next o reply p n w m v taken r = record {
   reports = record { outcome = o; reply = reply; payload = p; buffer = n; work = w } ∷ r.reports;

@@ -1,5 +1,6 @@
 -- A reading call reaches its ceiling: all goes well until the last read, and then every attempt fails after its head went through.
 -- Assumes nothing.
+use Rattle.std.specs.Prelude.{Ok}
 use Prim.Native.Nat.{ℕ, zero, suc, ◌+◌, ◌-◌, ◌*◌, ◌≤◌, ◌<◌}
 use mathlib.Core.Path.{◌≡◌, refl, sym, ◌∙◌}
 use mathlib.Core.List.{List, [], ◌∷◌, ◌++◌}
@@ -14,7 +15,6 @@ use Rattle.protocol.specs.Pick.{when◌then◌else◌}
 use Rattle.protocol.specs.Reply.{around_of, bytes_asked, checked_of, heard_of}
 use Rattle.protocol.specs.declared.error.Answer.TheVariants as answer
 use Rattle.protocol.specs.declared.reply.Ask.{Ask}
-use Rattle.protocol.specs.declared.reply.Heard.TheVariants as heard
 use Rattle.protocol.proofs.Shared as shared
 use Rattle.engine.specs.Pick.{case◌waiting◌ended◌, case◌acknowledged◌error◌timeout◌, case◌retry◌spent◌}
 use Rattle.engine.specs.Budget.{wait_of, more_of, nothing, waited, tallied}
@@ -30,7 +30,6 @@ use Rattle.reading.specs.declared.call.ReadPlan.{ReadPlan}
 use Rattle.reading.specs.declared.call.ReadCall.{ReadCall}
 use Rattle.calls.specs.Call.{got_of, report_of, tally_of, start_with, phase_of}
 use Rattle.calls.specs.declared.call.Call.TheVariants as call
-use Rattle.calls.specs.declared.call.Reported.TheVariants as reported
 use Rattle.calls.specs.declared.kind.Plan.TheVariants as plan
 use Rattle.ceilings.specs.Ceilings.{Reached}
 use Rattle.ceilings.proofs.ReachedBy.{no_more, one_more, same_reach, spends}
@@ -53,10 +52,10 @@ unfolding bytes_asked around_of when◌then◌else◌
 some_asked ask t = rw t (omega arith)
 
 -- zeros of the number asked, with their PEC where it is asked for
-believed : (ask : Ask) → (reply : List ℕ) × (heard_of ask reply ≡ heard.Good)
+believed : (ask : Ask) → (reply : List ℕ) × (heard_of ask reply ≡ (Ok tt))
 believed ask = by ask.pec refl
   where
-    by : (t : Bool) → ask.pec ≡ t → (reply : List ℕ) × (heard_of ask reply ≡ heard.Good)
+    by : (t : Bool) → ask.pec ≡ t → (reply : List ℕ) × (heard_of ask reply ≡ (Ok tt))
     by false t = (
       replicate (bytes_asked ask) 0,
       (shared.laws).good ask (replicate (bytes_asked ask) 0) (sym (length-replicate (bytes_asked ask) 0)) (λ e. absurd (false≢true (sym t ∙ e))),
@@ -87,26 +86,26 @@ module _ (its : ReadPlan) (p n w : ℕ) where
   missed left t = waited (tallied t) (wait_of its.growing (its.retries - suc left))
 
   -- a timeout with a retry left
-  retried : (h : Bool) (i left v : ℕ) (t : Tally) → report_of (call.Read (at h i (suc left) v t)) outcome.Timeout [] p n w ≡ reported.Taken (call.Read (at (has_head its.head) i left (more_of v) (missed left t)))
+  retried : (h : Bool) (i left v : ℕ) (t : Tally) → report_of (call.Read (at h i (suc left) v t)) outcome.Timeout [] p n w ≡ Ok (call.Read (at (has_head its.head) i left (more_of v) (missed left t)))
   unfolding report_of got_of reading.report_of reading.judge_of reading.weigh_of reading.fail_of reading.counted_of reading.retry_of
       case◌waiting◌ended◌ case◌acknowledged◌error◌timeout◌ case◌retry◌spent◌ case◌refused◌fault◌headed◌block◌ waited tallied fits_of when◌then◌else◌
   retried h i left v t = rw (eq-eqb n n refl, eq-eqb w w refl, laws.retries its.retries left its.growing)
 
   -- and with none
-  gives_up : (h : Bool) (i v : ℕ) (t : Tally) → report_of (call.Read (at h i 0 v t)) outcome.Timeout [] p n w ≡ reported.Taken (call.Read (reading.end_of (at h i 0 v (tallied t)) answer.Timeout))
+  gives_up : (h : Bool) (i v : ℕ) (t : Tally) → report_of (call.Read (at h i 0 v t)) outcome.Timeout [] p n w ≡ Ok (call.Read (reading.end_of (at h i 0 v (tallied t)) answer.Timeout))
   unfolding report_of got_of reading.report_of reading.judge_of reading.weigh_of reading.fail_of reading.counted_of
       case◌waiting◌ended◌ case◌acknowledged◌error◌timeout◌ case◌retry◌spent◌ case◌refused◌fault◌headed◌block◌ tallied fits_of when◌then◌else◌
   gives_up h i v t = rw (eq-eqb n n refl, eq-eqb w w refl, laws.spent its.retries its.growing)
 
   -- a head that goes through, before a read
-  opened : (i left v : ℕ) (t : Tally) → i < read_count its.reads n → report_of (call.Read (at true i left v t)) outcome.Acknowledged [] p n w ≡ reported.Taken (call.Read (at false i left v (tallied t)))
+  opened : (i left v : ℕ) (t : Tally) → i < read_count its.reads n → report_of (call.Read (at true i left v t)) outcome.Acknowledged [] p n w ≡ Ok (call.Read (at false i left v (tallied t)))
   unfolding report_of got_of reading.report_of reading.judge_of reading.weigh_of reading.acknowledged_of reading.heard_head reading.counted_of reading.headed_of
       case◌waiting◌ended◌ case◌acknowledged◌error◌timeout◌ case◌refused◌fault◌headed◌block◌ phase_after tallied fits_of when◌then◌else◌
   opened i left v t more = rw (eq-eqb n n refl, eq-eqb w w refl, lt-leb (read_count its.reads n) i more)
 
   -- a reply that is believed, before another
-  advanced : (i left v : ℕ) (t : Tally) (reply : List ℕ) → heard_of (ask_of its.reads n i) reply ≡ heard.Good → more_of i < read_count its.reads n
-      → report_of (call.Read (at false i left v t)) outcome.Acknowledged reply p n w ≡ reported.Taken (call.Read (at false (more_of i) left v (tallied t)))
+  advanced : (i left v : ℕ) (t : Tally) (reply : List ℕ) → heard_of (ask_of its.reads n i) reply ≡ (Ok tt) → more_of i < read_count its.reads n
+      → report_of (call.Read (at false i left v t)) outcome.Acknowledged reply p n w ≡ Ok (call.Read (at false (more_of i) left v (tallied t)))
   unfolding report_of got_of reading.report_of reading.judge_of reading.weigh_of reading.acknowledged_of reading.heard_block reading.verdict_of reading.due_ask reading.counted_of reading.advance_of
       case◌waiting◌ended◌ case◌acknowledged◌error◌timeout◌ case◌refused◌fault◌headed◌block◌ phase_after tallied fits_of when◌then◌else◌
   advanced i left v t reply good more = rw (eq-eqb n n refl, eq-eqb w w refl, good, lt-leb (read_count its.reads n) (more_of i) more)

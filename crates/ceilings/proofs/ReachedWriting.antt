@@ -1,5 +1,6 @@
 -- A writing call reaches its ceiling: each frame fails until its budget is spent and then goes through, and the last one fails once more.
 -- Assumes nothing.
+use Rattle.std.specs.Prelude.{Ok}
 use Prim.Native.Nat.{ℕ, zero, suc, ◌+◌, ◌-◌, ◌*◌, ◌≤◌, ◌<◌}
 use mathlib.Core.Path.{◌≡◌, refl}
 use mathlib.Core.List.{[]}
@@ -22,7 +23,6 @@ use Rattle.writing.specs.declared.call.WritePlan.{WritePlan}
 use Rattle.writing.specs.declared.call.WriteCall.{WriteCall}
 use Rattle.calls.specs.Call.{wrote_of, report_of, tally_of, start_with, phase_of}
 use Rattle.calls.specs.declared.call.Call.TheVariants as call
-use Rattle.calls.specs.declared.call.Reported.TheVariants as reported
 use Rattle.calls.specs.declared.kind.Plan.TheVariants as plan
 use Rattle.ceilings.specs.Ceilings.{Reached}
 use Rattle.ceilings.proofs.ReachedBy.{no_more, one_more, same_reach, spends}
@@ -43,20 +43,20 @@ module _ (its : WritePlan) (p n w : ℕ) where
   missed left t = waited (tallied t) (wait_of its.growing (its.retries - suc left))
 
   -- a timeout with a retry left
-  retried : (i left v : ℕ) (t : Tally) → report_of (call.Write (at i (suc left) v t)) outcome.Timeout [] p n w ≡ reported.Taken (call.Write (at i left (more_of v) (missed left t)))
+  retried : (i left v : ℕ) (t : Tally) → report_of (call.Write (at i (suc left) v t)) outcome.Timeout [] p n w ≡ Ok (call.Write (at i left (more_of v) (missed left t)))
   unfolding report_of wrote_of writing.report_of writing.replied_of writing.settle_of writing.fail_of writing.counted_of writing.retry_of
       case◌waiting◌ended◌ case◌acknowledged◌error◌timeout◌ case◌retry◌spent◌ waited tallied fits_of when◌then◌else◌
   retried i left v t = rw (eq-eqb p p refl, eq-eqb w w refl, laws.retries its.retries left its.growing)
 
   -- and with none
-  gives_up : (i v : ℕ) (t : Tally) → report_of (call.Write (at i 0 v t)) outcome.Timeout [] p n w ≡ reported.Taken (call.Write (writing.end_of (at i 0 v (tallied t)) answer.Timeout))
+  gives_up : (i v : ℕ) (t : Tally) → report_of (call.Write (at i 0 v t)) outcome.Timeout [] p n w ≡ Ok (call.Write (writing.end_of (at i 0 v (tallied t)) answer.Timeout))
   unfolding report_of wrote_of writing.report_of writing.replied_of writing.settle_of writing.fail_of writing.counted_of
       case◌waiting◌ended◌ case◌acknowledged◌error◌timeout◌ case◌retry◌spent◌ tallied fits_of when◌then◌else◌
   gives_up i v t = rw (eq-eqb p p refl, eq-eqb w w refl, laws.spent its.retries its.growing)
 
   -- a frame that goes through, before others
   advanced : (i left v : ℕ) (t : Tally) → more_of i < frame_count its.frames p
-      → report_of (call.Write (at i left v t)) outcome.Acknowledged [] p n w ≡ reported.Taken (call.Write (at (more_of i) its.retries v (tallied t)))
+      → report_of (call.Write (at i left v t)) outcome.Acknowledged [] p n w ≡ Ok (call.Write (at (more_of i) its.retries v (tallied t)))
   unfolding report_of wrote_of writing.report_of writing.replied_of writing.settle_of writing.counted_of writing.advance_of
       case◌waiting◌ended◌ case◌acknowledged◌error◌timeout◌ phase_after tallied fits_of when◌then◌else◌
   advanced i left v t more = rw (eq-eqb p p refl, eq-eqb w w refl, lt-leb (frame_count its.frames p) (more_of i) more)

@@ -1,5 +1,7 @@
 -- A report to a reading call: what comes of it, and how many outcomes it can still accept.
 -- Assumes nothing.
+use Rattle.engine.specs.Bus.{Reported}
+use Rattle.std.specs.Prelude.{Err, Ok}
 use Prim.Native.Nat.{ℕ, suc, ◌+◌, ◌-◌, ◌*◌, ◌≤◌, ◌<◌}
 use mathlib.Core.Path.{◌≡◌, refl, sym, subst, ◌∙◌}
 use mathlib.Core.Bool.{true, false, false≢true}
@@ -16,24 +18,22 @@ use Rattle.reading.specs.Reading.{headed_of, advance_of, retry_of, end_of, fail_
 use Rattle.reading.specs.declared.call.ReadCall.{ReadCall}
 use Rattle.reading.specs.declared.call.Verdict.{Verdict}
 use Rattle.reading.specs.declared.call.Verdict.TheVariants as verdict
-use Rattle.reading.specs.declared.call.ReadReported.{ReadReported}
-use Rattle.reading.specs.declared.call.ReadReported.TheVariants as reported
 use Rattle.answers.proofs.Laws.{not_done, either}
 use Rattle.answers.proofs.Kept.{Means, judge_means}
 
 -- what can come of a report
-data Came (call : ReadCall) : ReadReported → Type 0 where
-  turned_down : (why : Answer) → Came call (reported.Refused why call)
-  opens : call.phase ≡ phase.Waiting → call.heading ≡ true → Came call (reported.Taken (headed_of (counted_of call)))
-  goes_on : call.phase ≡ phase.Waiting → call.heading ≡ false → Came call (reported.Taken (advance_of (counted_of call)))
-  again : (left : Budget) (ms : ℕ) → call.phase ≡ phase.Waiting → left.left + 1 ≡ call.budget.left → Came call (reported.Taken (retry_of (counted_of call) left ms))
-  ends : (why : Answer) → call.phase ≡ phase.Waiting → Came call (reported.Taken (end_of (counted_of call) why))
+data Came (call : ReadCall) : Reported ReadCall → Type 0 where
+  turned_down : (why : Answer) → Came call (Err (why, call))
+  opens : call.phase ≡ phase.Waiting → call.heading ≡ true → Came call (Ok (headed_of (counted_of call)))
+  goes_on : call.phase ≡ phase.Waiting → call.heading ≡ false → Came call (Ok (advance_of (counted_of call)))
+  again : (left : Budget) (ms : ℕ) → call.phase ≡ phase.Waiting → left.left + 1 ≡ call.budget.left → Came call (Ok (retry_of (counted_of call) left ms))
+  ends : (why : Answer) → call.phase ≡ phase.Waiting → Came call (Ok (end_of (counted_of call) why))
 
 module _ (call : ReadCall) where
-  fails : (why : Answer) → call.phase ≡ phase.Waiting → Came call (reported.Taken (fail_of (counted_of call) why))
+  fails : (why : Answer) → call.phase ≡ phase.Waiting → Came call (Ok (fail_of (counted_of call) why))
   unfolding fail_of counted_of
   fails why e =
-      either (λ (c : ReadCall). Came call (reported.Taken c)) call.task.plan.retries call.task.plan.growing call.budget (retry_of (counted_of call)) (end_of (counted_of call) why)
+      either (λ (c : ReadCall). Came call (Ok c)) call.task.plan.retries call.task.plan.growing call.budget (retry_of (counted_of call)) (end_of (counted_of call) why)
       (λ left less. again left _ e less) (λ none. ends why e)
 
   came : (o : Outcome) (reply : List ℕ) (n w : ℕ) → Came call (report_of call o reply n w)
@@ -75,9 +75,9 @@ pub record Sound (k m v : ℕ) (call : ReadCall) : Type 0 where
   pub due : call.phase ≡ phase.Waiting → Due k m v call
 
 -- an outcome that is taken is one more, and one fewer can come
-abbrev pub Follows : (k m v : ℕ) → ReadReported → Type 0
-Follows k m v (reported.Refused why call) = Sound k m v call
-Follows k m v (reported.Taken next) = (l : ℕ) × (m ≡ suc l) × Sound (suc k) l v next
+abbrev pub Follows : (k m v : ℕ) → Reported ReadCall → Type 0
+Follows k m v (Err (why, call)) = Sound k m v call
+Follows k m v (Ok next) = (l : ℕ) × (m ≡ suc l) × Sound (suc k) l v next
 
 -- a call that waits has an outcome to accept
 pub some_enough : (m : ℕ) (call : ReadCall) → Enough m call → 0 < m
@@ -125,7 +125,7 @@ module _ (k m v : ℕ) where
       let some = some_enough m call d.enough in
       (omega (arith, s.counted, d.room, some), omega (arith, some), omega (arith, d.room, some))
 
-  keeps : (call : ReadCall) (r : ReadReported) → Came call r → Sound k m v call → Follows k m v r
+  keeps : (call : ReadCall) (r : Reported ReadCall) → Came call r → Sound k m v call → Follows k m v r
   unfolding headed_of advance_of retry_of end_of counted_of waited tallied
   keeps call r (turned_down why) s = s
   keeps call r (opens e h) s =

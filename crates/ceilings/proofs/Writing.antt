@@ -1,5 +1,7 @@
 -- A report to a writing call: what comes of it, and how many outcomes it can still accept.
 -- Assumes nothing.
+use Rattle.engine.specs.Bus.{Reported}
+use Rattle.std.specs.Prelude.{Err, Ok}
 use Prim.Native.Nat.{ℕ, suc, ◌+◌, ◌-◌, ◌*◌, ◌≤◌, ◌<◌}
 use mathlib.Core.Path.{◌≡◌, refl, sym, subst}
 use mathlib.Core.Bool.{Bool, true, false}
@@ -18,26 +20,24 @@ use Rattle.engine.specs.declared.bus.Phase.TheVariants as phase
 use Rattle.writing.specs.Frames.{frame_count}
 use Rattle.writing.specs.Writing.{advance_of, retry_of, end_of, fail_of, settle_of, replied_of, counted_of, report_of}
 use Rattle.writing.specs.declared.call.WriteCall.{WriteCall}
-use Rattle.writing.specs.declared.call.WriteReported.{WriteReported}
-use Rattle.writing.specs.declared.call.WriteReported.TheVariants as reported
 use Rattle.answers.proofs.Laws.{not_done, either}
 use Rattle.ceilings.proofs.Numbers.{one_less}
 
 -- what can come of a report
-data Came (call : WriteCall) : WriteReported → Type 0 where
-  refused : (why : Answer) → Came call (reported.Refused why call)
-  goes_on : call.phase ≡ phase.Waiting → Came call (reported.Taken (advance_of (counted_of call)))
-  again : (left : Budget) (ms : ℕ) → call.phase ≡ phase.Waiting → left.left + 1 ≡ call.budget.left → Came call (reported.Taken (retry_of (counted_of call) left ms))
-  ends : (why : Answer) → call.phase ≡ phase.Waiting → Came call (reported.Taken (end_of (counted_of call) why))
+data Came (call : WriteCall) : Reported WriteCall → Type 0 where
+  refused : (why : Answer) → Came call (Err (why, call))
+  goes_on : call.phase ≡ phase.Waiting → Came call (Ok (advance_of (counted_of call)))
+  again : (left : Budget) (ms : ℕ) → call.phase ≡ phase.Waiting → left.left + 1 ≡ call.budget.left → Came call (Ok (retry_of (counted_of call) left ms))
+  ends : (why : Answer) → call.phase ≡ phase.Waiting → Came call (Ok (end_of (counted_of call) why))
 
 module _ (call : WriteCall) where
-  fails : (why : Answer) → call.phase ≡ phase.Waiting → Came call (reported.Taken (fail_of (counted_of call) why))
+  fails : (why : Answer) → call.phase ≡ phase.Waiting → Came call (Ok (fail_of (counted_of call) why))
   unfolding fail_of counted_of
   fails why e =
-      either (λ (c : WriteCall). Came call (reported.Taken c)) call.task.plan.retries call.task.plan.growing call.budget (retry_of (counted_of call)) (end_of (counted_of call) why)
+      either (λ (c : WriteCall). Came call (Ok c)) call.task.plan.retries call.task.plan.growing call.budget (retry_of (counted_of call)) (end_of (counted_of call) why)
       (λ left less. again left _ e less) (λ none. ends why e)
 
-  settles : (o : Outcome) → call.phase ≡ phase.Waiting → Came call (reported.Taken (settle_of (counted_of call) o))
+  settles : (o : Outcome) → call.phase ≡ phase.Waiting → Came call (Ok (settle_of (counted_of call) o))
   unfolding settle_of case◌acknowledged◌error◌timeout◌
   settles outcome.Acknowledged e = goes_on e
   settles (outcome.BusError code) e = fails (answer.I2c code) e
@@ -49,16 +49,16 @@ module _ (call : WriteCall) where
     where
       by : (p : Phase) → call.phase ≡ p → (t : Bool) → fits_of call.task.lent n w ≡ t → (s : Bool) → replied_of o r ≡ s → Came call (report_of call o r n w)
       by (phase.Ended a) e t f s g =
-          let q : report_of call o r n w ≡ reported.Refused answer.NothingOutstanding call = rw e in
+          let q : report_of call o r n w ≡ Err (answer.NothingOutstanding, call) = rw e in
           subst (Came call) (sym q) (refused answer.NothingOutstanding)
       by phase.Waiting e false f s g =
-          let q : report_of call o r n w ≡ reported.Refused answer.WrongBuffer call = rw (e, f) in
+          let q : report_of call o r n w ≡ Err (answer.WrongBuffer, call) = rw (e, f) in
           subst (Came call) (sym q) (refused answer.WrongBuffer)
       by phase.Waiting e true f true g =
-          let q : report_of call o r n w ≡ reported.Refused answer.WrongReply call = rw (e, f, g) in
+          let q : report_of call o r n w ≡ Err (answer.WrongReply, call) = rw (e, f, g) in
           subst (Came call) (sym q) (refused answer.WrongReply)
       by phase.Waiting e true f false g =
-          let q : report_of call o r n w ≡ reported.Taken (settle_of (counted_of call) o) = rw (e, f, g) in
+          let q : report_of call o r n w ≡ Ok (settle_of (counted_of call) o) = rw (e, f, g) in
           subst (Came call) (sym q) (settles o e)
 
 -- a call that waits, after k outcomes: m more are enough for the frame that is due and those that follow it, and all waits come to v at the most
@@ -77,12 +77,12 @@ pub record Sound (k m v : ℕ) (call : WriteCall) : Type 0 where
   pub due : call.phase ≡ phase.Waiting → Due k m v call
 
 -- an outcome that is taken is one more, and one fewer can come
-abbrev pub Follows : (k m v : ℕ) → WriteReported → Type 0
-Follows k m v (reported.Refused why call) = Sound k m v call
-Follows k m v (reported.Taken next) = (l : ℕ) × (m ≡ suc l) × Sound (suc k) l v next
+abbrev pub Follows : (k m v : ℕ) → Reported WriteCall → Type 0
+Follows k m v (Err (why, call)) = Sound k m v call
+Follows k m v (Ok next) = (l : ℕ) × (m ≡ suc l) × Sound (suc k) l v next
 
 module _ (k m v : ℕ) where
-  keeps : (call : WriteCall) (r : WriteReported) → Came call r → Sound k m v call → Follows k m v r
+  keeps : (call : WriteCall) (r : Reported WriteCall) → Came call r → Sound k m v call → Follows k m v r
   unfolding advance_of retry_of end_of counted_of waited tallied
   keeps call r (refused why) s = s
   keeps call r (goes_on e) s =

@@ -1,5 +1,6 @@
 -- A run that is refused changes nothing, and a call that has ended or is lent other lengths shows no transfer.
 -- Assumes nothing.
+use Rattle.std.specs.Prelude.{Err, Ok}
 use Prim.Native.Nat.{ℕ, ◌<◌}
 use mathlib.Core.Path.{◌≡◌, refl, sym, ap, ◌∙◌}
 use mathlib.Core.Bool.{Bool, true, false, ◌&&◌, false≢true}
@@ -25,7 +26,6 @@ use Rattle.courses.specs.Pick.{case◌sending◌to◌none◌, case◌refused◌a
 use Rattle.courses.specs.Course.{fate_of, fates_of, sound_of, admit_of, end_of}
 use Rattle.courses.specs.Figures.{BadByte, LentAgain, unchanged, Figures}
 use Rattle.courses.specs.Run.{world, step_of, drive_of, ended_of, refused_of, leaves_of, run_of}
-use Rattle.courses.specs.declared.course.Admitted.TheVariants as admitted
 use Rattle.courses.specs.declared.course.End.TheVariants as end
 use Rattle.courses.specs.declared.run.Link.{Link}
 
@@ -60,15 +60,15 @@ all_good course good = by (sound_of course) refl
     by true t = t
     by false t = absurd (good (bad_of course t))
 
-admit_flash : (n : ℕ) (course : List ℕ) → (n ≡ 8192 → ⊥) → admit_of n course ≡ admitted.Refused answer.WrongBuffer
+admit_flash : (n : ℕ) (course : List ℕ) → (n ≡ 8192 → ⊥) → admit_of n course ≡ Err answer.WrongBuffer
 unfolding admit_of when◌then◌else◌
 admit_flash n course h = rw (ne_eqb n 8192 h)
 
-admit_course : (n : ℕ) (course : List ℕ) → n ≡ 8192 → BadByte course → admit_of n course ≡ admitted.Refused answer.BadLine
+admit_course : (n : ℕ) (course : List ℕ) → n ≡ 8192 → BadByte course → admit_of n course ≡ Err answer.BadLine
 unfolding admit_of when◌then◌else◌
 admit_course n course h b = rw (eq-eqb n 8192 h, unsound course b)
 
-admit_all : (n : ℕ) (course : List ℕ) → n ≡ 8192 → sound_of course ≡ true → admit_of n course ≡ admitted.Yes
+admit_all : (n : ℕ) (course : List ℕ) → n ≡ 8192 → sound_of course ≡ true → admit_of n course ≡ Ok tt
 unfolding admit_of when◌then◌else◌
 admit_all n course h s = rw (eq-eqb n 8192 h, s)
 
@@ -105,7 +105,7 @@ shows_other (call.Read c) payload n work waits other = (rw (waits, other), rw (w
 -- ---- runs
 
 module _ (payload buffer work flash : List ℕ) (link : Link) where
-  refuses : (course : List ℕ) (a : Answer) → admit_of (length flash) course ≡ admitted.Refused a
+  refuses : (course : List ℕ) (a : Answer) → admit_of (length flash) course ≡ Err a
       → run_of payload course (world link buffer work flash) ≡ unchanged a link buffer work flash
   unfolding run_of refused_of case◌refused◌admitted◌
   refuses course a e = rw e

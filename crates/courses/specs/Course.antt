@@ -1,14 +1,13 @@
 -- A course, and how a run over one starts and ends. (01, The model gauge)
 -- Assumes nothing.
-use Rattle.std.specs.Prelude.{ℕ, Bool, true, false, List, [], ◌∷◌, ltb, eqb}
+use Rattle.std.specs.Prelude.{ℕ, Bool, true, false, List, [], ◌∷◌, ltb, eqb, Result, Ok, Err}
 use Rattle.protocol.specs.Pick.{when◌then◌else◌}
+use Rattle.protocol.specs.declared.error.Answer.{Answer}
 use Rattle.protocol.specs.declared.error.Answer.TheVariants as answer
 use Rattle.engine.specs.Pick.{case◌waiting◌ended◌}
 use Rattle.engine.specs.declared.bus.Phase.{Phase}
 use Rattle.model_gauge.specs.declared.gauge.Fate.{Fate}
 use Rattle.model_gauge.specs.declared.gauge.Fate.TheVariants as fate
-use Rattle.courses.specs.declared.course.Admitted.{Admitted}
-use Rattle.courses.specs.declared.course.Admitted.TheVariants as admitted
 use Rattle.courses.specs.declared.course.End.{End}
 use Rattle.courses.specs.declared.course.End.TheVariants as end
 
@@ -27,10 +26,10 @@ sound_of [] = true
 sound_of (byte ∷ course) = when ltb 2 byte then false else sound_of course
 
 -- 8 for the flash, then 11 for the course
-unfoldable pub admit_of : ℕ → List ℕ → Admitted
+unfoldable pub admit_of : ℕ → List ℕ → Result (Unit {0}) Answer
 admit_of flash course =
-    when eqb flash 8192 then (when sound_of course then admitted.Yes else admitted.Refused answer.BadLine)
-    else admitted.Refused answer.WrongBuffer
+    when eqb flash 8192 then (when sound_of course then Ok tt else Err answer.BadLine)
+    else Err answer.WrongBuffer
 
 -- the call's answer, or a cut where it still waits; 8 where other lengths are lent than at its start
 unfoldable pub end_of : Phase → Bool → End

@@ -1,12 +1,11 @@
 -- The choice by what a call shows and by whether a run may start, in the words of the code. Each stays shut: proofs take it apart by the laws of
 -- `proofs/Cases.antt`. Assumes nothing.
+use Rattle.std.specs.Prelude.{Err, Ok, Result}
 use Rattle.std.specs.Prelude.{ℕ, List}
 use Rattle.protocol.specs.declared.error.Answer.{Answer}
 use Rattle.engine.specs.Made.{Made, write, read}
 use Rattle.engine.specs.declared.bus.Transfer.{Transfer}
 use Rattle.engine.specs.declared.bus.Transfer.TheVariants as transfer
-use Rattle.courses.specs.declared.course.Admitted.{Admitted}
-use Rattle.courses.specs.declared.course.Admitted.TheVariants as admitted
 
 infixr 10 case◌sending◌to◌none◌
 infixr 10 case◌refused◌admitted◌
@@ -17,6 +16,6 @@ case transfer.Read command count sending part to f none x = f (read command coun
 case transfer.Refused a sending part to f none x = x
 case transfer.Ended a sending part to f none x = x
 
-unfoldable pub case◌refused◌admitted◌ : {A : Type 0} → Admitted → (Answer → A) → A → A
-case admitted.Refused a refused f admitted x = f a
-case admitted.Yes refused f admitted x = x
+unfoldable pub case◌refused◌admitted◌ : {A : Type 0} → Result (Unit {0}) Answer → (Answer → A) → A → A
+case Err a refused f admitted x = f a
+case Ok tt refused f admitted x = x

@@ -1,12 +1,12 @@
 -- A call run over a course: it shows a transfer, which goes to the gauge or is lost on its way, and it hears what came of it. (01, The model gauge)
 -- Assumes nothing.
+use Rattle.engine.specs.Bus.{Reported}
+use Rattle.std.specs.Prelude.{Err, Ok}
 use Rattle.std.specs.Prelude.{ℕ, List, [], ◌∷◌, length}
 use Rattle.protocol.specs.declared.error.Answer.{Answer}
 use Rattle.engine.specs.Made.{Made}
 use Rattle.calls.specs.Call.{next_of, work_after, part_of, report_of, buffer_after, phase_of, fits_of}
 use Rattle.calls.specs.declared.call.Call.{Call}
-use Rattle.calls.specs.declared.call.Reported.{Reported}
-use Rattle.calls.specs.declared.call.Reported.TheVariants as reported
 use Rattle.model_gauge.specs.Gauge.{Effect, effect_of}
 use Rattle.model_gauge.specs.declared.gauge.Fate.{Fate}
 use Rattle.courses.specs.Pick.{case◌sending◌to◌none◌, case◌refused◌admitted◌}
@@ -40,9 +40,9 @@ abbrev pub left_over : Left → World
 left_over l = world l.run.link l.buffer l.work l.flash
 
 -- a refused report leaves the call as it was
-unfoldable pub taken_of : Reported → Call
-taken_of (reported.Refused a call) = call
-taken_of (reported.Taken call) = call
+unfoldable pub taken_of : Reported Call → Call
+taken_of (Err (a, call)) = call
+taken_of (Ok call) = call
 
 -- the call hears what a transfer came to, with a payload of p bytes lent; flash and gauge are those after it
 unfoldable pub heard_in : ℕ → Effect → World → World

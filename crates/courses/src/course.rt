@@ -7,7 +7,8 @@ use model_gauge::gauge::{FLASH_BYTES, Fate};
 use protocol::error::Answer;
 
 // How a run over a course ends.
-#[derive(Clone, Copy)]
+// Stays: an enum of its own, since `None` would not say that the course ran out.
+#[derive(Clone, Copy, Debug, PartialEq, Eq)]
 pub enum End {
     // With an answer: the call's, or the run's own refusal.
     Answered(Answer),
@@ -15,54 +16,40 @@ pub enum End {
     Cut,
 }
 
-// Whether a run may start.
-#[derive(Clone, Copy)]
-pub(crate) enum Admitted {
-    Refused(Answer),
-    Yes,
-}
-
 // What a byte of a sound course says.
 pub(crate) fn fate(byte: u8) -> Fate
     ensures { result ≡ fate_of byte }
 {
-    if byte == 0 {
-        return Fate::Heard;
+    match byte {
+        0 => Fate::Heard,
+        1 => Fate::LostBefore,
+        _ => Fate::LostAfter,
     }
-    if byte == 1 {
-        return Fate::LostBefore;
-    }
-    Fate::LostAfter
 }
 
 // Whether each byte of a course is 0, 1 or 2.
 fn sound(course: &[u8]) -> bool
     ensures { result ≡ sound_of course.now }
 {
-    let mut i = 0;
-    while i < course.len() {
-        let byte = course[i];
+    for &byte in course {
         if 2 < byte {
             return false;
         }
-        i += 1;
     }
     true
 }
 
 // A run starts with a flash of 8,192 bytes, else 8, and a sound course, else 11.
-pub(crate) fn admit(flash: usize, course: &[u8]) -> Admitted
+pub(crate) fn admit(flash: usize, course: &[u8]) -> Result<(), Answer>
     ensures { result ≡ admit_of flash course.now }
 {
-    if flash == FLASH_BYTES {
-        if sound(course) {
-            Admitted::Yes
-        } else {
-            Admitted::Refused(Answer::BadLine)
-        }
-    } else {
-        Admitted::Refused(Answer::WrongBuffer)
+    if flash != FLASH_BYTES {
+        return Err(Answer::WrongBuffer);
     }
+    if !sound(course) {
+        return Err(Answer::BadLine);
+    }
+    Ok(())
 }
 
 // How a run ends that leaves its call in this phase, with the lengths of its start lent to it or others.
@@ -71,12 +58,7 @@ pub(crate) fn end_of(phase: Phase, fits: bool) -> End
 {
     match phase {
         Phase::Ended(answer) => End::Answered(answer),
-        Phase::Waiting => {
-            if fits {
-                End::Cut
-            } else {
-                End::Answered(Answer::WrongBuffer)
-            }
-        }
+        Phase::Waiting if fits => End::Cut,
+        Phase::Waiting => End::Answered(Answer::WrongBuffer),
     }
 }

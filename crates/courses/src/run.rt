@@ -6,34 +6,34 @@ ghost use Rattle.courses.specs.Course.{fates_of};
 ghost use Rattle.courses.specs.Run.{world, left, taken_of, transferred, step_of, drive_of, ended_of, refused_of, run_of};
 
 use crate::course;
-use crate::course::{Admitted, End};
-use calls::call::{Call, Reported};
-use engine::bus::Transfer;
-use model_gauge::gauge::{Effect, Fate, Gauge};
+use crate::course::End;
+use calls::call::Call;
+use engine::bus::{Reported, Transfer};
+use model_gauge::gauge::{Effect, Fate, Gauge, REPLY_BYTES};
 use protocol::bytes;
 use protocol::error::Answer;
 
 // A call and the gauge on the other side of the bus.
-#[derive(Clone, Copy)]
+#[derive(Clone, Copy, Debug, PartialEq, Eq)]
 pub struct Link {
     pub call: Call,
     pub gauge: Gauge,
 }
 
 // What a run leaves: call and gauge as they stand, and how it ended.
-#[derive(Clone, Copy)]
+#[derive(Clone, Copy, Debug, PartialEq, Eq)]
 pub struct Run {
     pub link: Link,
     pub end: End,
 }
 
 // The call after a report, which a refusal leaves as it was.
-fn taken(reported: Reported) -> Call
+fn taken(reported: Reported<Call>) -> Call
     ensures { result ≡ taken_of reported }
 {
     match reported {
-        Reported::Refused(_, call) => call,
-        Reported::Taken(call) => call,
+        Ok(call) => call,
+        Err((_, same)) => same,
     }
 }
 
@@ -49,12 +49,12 @@ impl Link {
     ) -> Link
         ensures { (result ≡ record { call = taken_of (report_of self.call effect.outcome reply.now (length payload.now) (length buffer.old) (length work.now)); gauge = effect.gauge }) × (buffer.new ≡ buffer_after self.call effect.outcome reply.now buffer.old (length work.now)) }
     {
-        let call = self.call;
-        let outcome = effect.outcome;
-        let gauge = effect.gauge;
+        let reported = self
+            .call
+            .report(effect.outcome, reply, payload, buffer, work);
         Link {
-            call: taken(call.report(outcome, reply, payload, buffer, work)),
-            gauge,
+            call: taken(reported),
+            gauge: effect.gauge,
         }
     }
 
@@ -70,10 +70,8 @@ impl Link {
     ) -> Link
         ensures { world result buffer.new work.now flash.new ≡ transferred (length payload.now) fate (write (part_of self.call payload.now work.now n)) (world self buffer.old work.now flash.old) }
     {
-        let call = self.call;
-        let gauge = self.gauge;
-        let frame = call.to_send(payload, work, n);
-        let effect = gauge.write(fate, frame, flash);
+        let frame = self.call.to_send(payload, work, n);
+        let effect = self.gauge.write(fate, frame, flash);
         self.report(effect, b"", payload, buffer, work)
     }
 
@@ -90,9 +88,8 @@ impl Link {
     ) -> Link
         ensures { world result buffer.new work.now flash.now ≡ transferred (length payload.now) fate (read command count) (world self buffer.old work.now flash.now) }
     {
-        let gauge = self.gauge;
-        let mut reply = [0u8; 36];
-        let effect = gauge.read(fate, command, count, flash, &mut reply);
+        let mut reply = [0u8; REPLY_BYTES];
+        let effect = self.gauge.read(fate, command, count, flash, &mut reply);
         let brought = bytes::front(&reply, effect.replied);
         self.report(effect, brought, payload, buffer, work)
     }
@@ -108,16 +105,12 @@ impl Link {
     ) -> Link
         ensures { world result buffer.new work.new flash.new ≡ step_of payload.now fate (world self buffer.old work.old flash.old) }
     {
-        let call = self.call;
-        let shown = call.next(payload, buffer, work);
-        let transfer = shown.transfer;
-        match transfer {
+        match self.call.next(payload, buffer, work).transfer {
             Transfer::Write(n) => self.send(fate, n, payload, buffer, work, flash),
             Transfer::Read(command, count) => {
                 self.ask(fate, command, count, payload, buffer, work, flash)
             }
-            Transfer::Refused(_) => self,
-            Transfer::Ended(_) => self,
+            Transfer::Refused(_) | Transfer::Ended(_) => self,
         }
     }
 
@@ -133,10 +126,8 @@ impl Link {
         ensures { world result buffer.new work.new flash.new ≡ drive_of payload.now (fates_of course.now) (world self buffer.old work.old flash.old) }
     {
         let mut link = self;
-        let mut i = 0;
-        while i < course.len() {
-            link = link.step(course::fate(course[i]), payload, buffer, work, flash);
-            i += 1;
+        for &byte in course {
+            link = link.step(course::fate(byte), payload, buffer, work, flash);
         }
         link
     }
@@ -145,10 +136,10 @@ impl Link {
     fn ended(self, payload: usize, buffer: usize, work: usize) -> Run
         ensures { result ≡ ended_of self payload buffer work }
     {
-        let call = self.call;
+        let fits = self.call.fits(payload, buffer, work);
         Run {
             link: self,
-            end: course::end_of(call.phase(), call.fits(payload, buffer, work)),
+            end: course::end_of(self.call.phase(), fits),
         }
     }
 
@@ -174,11 +165,11 @@ impl Link {
         ensures { left result buffer.new work.new flash.new ≡ run_of payload.now course.now (world self buffer.old work.old flash.old) }
     {
         match course::admit(flash.len(), course) {
-            Admitted::Refused(answer) => self.refused(answer),
-            Admitted::Yes => {
+            Ok(()) => {
                 let link = self.drive(payload, buffer, work, flash, course);
                 link.ended(payload.len(), buffer.len(), work.len())
             }
+            Err(answer) => self.refused(answer),
         }
     }
 }

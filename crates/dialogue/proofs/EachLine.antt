@@ -1,5 +1,7 @@
 -- What holds of every line that a call can print holds of every line of a run: by induction over the lines that it is given.
 -- Assumes nothing.
+use Rattle.engine.specs.Bus.{Reported}
+use Rattle.std.specs.Prelude.{Err, Ok}
 use Prim.Native.Nat.{ℕ}
 use mathlib.Core.List.{List, [], ◌∷◌}
 use lib.ListN.{length, drop}
@@ -7,8 +9,6 @@ use Rattle.protocol.specs.declared.error.Answer.TheVariants as answer
 use Rattle.engine.specs.declared.bus.Outcome.{Outcome}
 use Rattle.calls.specs.Call.{report_of, buffer_after, tally_of}
 use Rattle.calls.specs.declared.call.Call.{Call}
-use Rattle.calls.specs.declared.call.Reported.{Reported}
-use Rattle.calls.specs.declared.call.Reported.TheVariants as reported
 use Rattle.requests.specs.Outcome.{outcome_line}
 use Rattle.requests.specs.declared.outcome.Told.{Told}
 use Rattle.requests.specs.declared.outcome.Told.TheVariants as told
@@ -25,9 +25,9 @@ All P (s ∷ more) = P s × All P more
 -- P of a line, and of a call and its buffer what P of all its lines follows from
 module _ (P : List ℕ → Type 0) (Good : Call → List ℕ → Type 0) (payload : List ℕ) where
   -- what came of a report is as good: the call goes on, or the line that stops the run
-  abbrev pub GoodAfter : Reported → List ℕ → Type 0
-  GoodAfter (reported.Refused a c) buffer = P (end_said a (tally_of c) buffer)
-  GoodAfter (reported.Taken c) buffer = Good c buffer
+  abbrev pub GoodAfter : Reported Call → List ℕ → Type 0
+  GoodAfter (Err (a, c)) buffer = P (end_said a (tally_of c) buffer)
+  GoodAfter (Ok c) buffer = Good c buffer
 
   each_then : (s : Saying) (more : List (List ℕ)) → P (bytes_said s) → All P more → All P (then_say s more)
   unfolding then_say bytes_said
@@ -41,10 +41,10 @@ module _ (P : List ℕ → Type 0) (Good : Call → List ℕ → Type 0) (payloa
       → GoodAfter (report_of c o reply (length payload) (length buffer) 39) (buffer_after c o reply buffer 39)) where
     -- what follows a report or an outcome line, where it is so whatever call and buffer go on
     module _ (next : Call → List ℕ → List (List ℕ)) (all : (c : Call) (after : List ℕ) → Good c after → All P (next c after)) where
-      each_report : (u : Reported) (buffer : List ℕ) → GoodAfter u buffer → All P (report_then u buffer next)
+      each_report : (u : Reported Call) (buffer : List ℕ) → GoodAfter u buffer → All P (report_then u buffer next)
       unfolding report_then
-      each_report (reported.Refused a c) buffer h = (h, tt)
-      each_report (reported.Taken c) buffer h = all c buffer h
+      each_report (Err (a, c)) buffer h = (h, tt)
+      each_report (Ok c) buffer h = all c buffer h
 
       each_told : (t : Told) (c : Call) (buffer bytes : List ℕ) → Good c buffer → All P (told_then t c payload buffer bytes next)
       unfolding told_then

@@ -1,5 +1,6 @@
 -- A step of a run put together from what its calls gave.
 -- Assumes nothing.
+use Rattle.engine.specs.Bus.{Reported}
 use Prim.Native.Nat.{ℕ, ◌<◌, min}
 use mathlib.Core.Path.{◌≡◌, refl, sym, ap, ◌∙◌}
 use mathlib.Core.Bool.{Bool, true, false}
@@ -15,7 +16,6 @@ use Rattle.protocol.specs.declared.common.Config.{Config}
 use Rattle.calls.specs.Call.{start_of}
 use Rattle.calls.specs.declared.kind.Kind.{Kind}
 use Rattle.calls.specs.declared.call.Call.{Call}
-use Rattle.calls.specs.declared.call.Reported.{Reported}
 use Rattle.dialogue.specs.Dialogue.{filled, byte_count, bytes_in, say_of, room_for, open_of, hear_of, hear_buffer, payload_in, go_on, go_buffer}
 use Rattle.dialogue.specs.declared.Place.{Place}
 use Rattle.dialogue.proofs.Kept.{length_filled, length_heard}
@@ -37,7 +37,7 @@ drop_short k l = by (leb k (length l)) refl
         rw n (drop-length l ∙ sym (drop_of_length-le l {i = k} (omega arith)))
 
 -- a call that was started
-pub opened : (kind : Kind) (config : Config) (at n : ℕ) (line buffer after payload own : List ℕ) (call : Call) (rep : Reported)
+pub opened : (kind : Kind) (config : Config) (at n : ℕ) (line buffer after payload own : List ℕ) (call : Call) (rep : Reported Call)
     → after ≡ filled n buffer → payload ≡ drop at line → own ≡ take n after
     → call ≡ start_of kind config (length payload) (length own) 39 → rep ≡ room_for call n (length after)
     → say_of rep (record { at = at; payload = length payload; buffer = n }) payload own ≡ open_of kind config at n line buffer
@@ -48,7 +48,7 @@ opened kind config at n line buffer after payload own call rep a p o s r =
     rw (r, s, k, m, p, o, a)
 
 -- a call that goes on, whose buffer is the first k bytes of those that are lent
-pub went_on : (call : Call) (place : Place) (line request buffer payload front ys : List ℕ) (rep : Reported) (k : ℕ)
+pub went_on : (call : Call) (place : Place) (line request buffer payload front ys : List ℕ) (rep : Reported Call) (k : ℕ)
     → payload ≡ payload_in place request → k ≡ min place.buffer (length buffer) → rep ≡ hear_of call line (length payload) (length (take k buffer))
     → ys ≡ hear_buffer call line (take k buffer) → front ≡ take k (ys ++ drop k buffer)
     → (say_of rep place payload front ≡ go_on call place line request buffer) × (ys ++ drop k buffer ≡ go_buffer call place line buffer)

@@ -1,5 +1,7 @@
 -- Every line of the bench has room where the longest has, so that it is printed whole.
 -- Assumes nothing.
+use Rattle.engine.specs.Bus.{Reported}
+use Rattle.std.specs.Prelude.{Err, Ok}
 use Prim.Native.Nat.{ℕ, ◌+◌, ◌*◌, ◌≤◌}
 use mathlib.Core.Path.{◌≡◌, refl, sym, subst}
 use mathlib.Core.Bool.{Bool, true, false}
@@ -24,8 +26,6 @@ use Rattle.reading.proofs.Shown.{read_work}
 use Rattle.calls.specs.Call.{next_of, work_after, part_of, report_of, buffer_after, tally_of}
 use Rattle.calls.specs.declared.call.Call.{Call}
 use Rattle.calls.specs.declared.call.Call.TheVariants as call
-use Rattle.calls.specs.declared.call.Reported.{Reported}
-use Rattle.calls.specs.declared.call.Reported.TheVariants as reported
 use Rattle.requests.specs.Request.{request_line}
 use Rattle.requests.specs.Retired.{retired_kind}
 use Rattle.requests.specs.declared.request.Request.{Request}
@@ -102,9 +102,9 @@ short_line c payload buffer p b =
     (length_part c payload (work_after c payload (length buffer) zeros) (size_of (next_of c payload (length buffer) 39)) p (length_work c payload (length buffer))) b
 
 -- a report leaves the buffer as long as it was
-short_after : (payload : List ℕ) (u : Reported) (buffer : List ℕ) → length buffer ≤ 8192 → GoodAfter Short (λ c after. length after ≤ 8192) payload u buffer
-short_after payload (reported.Refused a c) buffer b = short_end a (tally_of c) buffer b
-short_after payload (reported.Taken c) buffer b = b
+short_after : (payload : List ℕ) (u : Reported Call) (buffer : List ℕ) → length buffer ≤ 8192 → GoodAfter Short (λ c after. length after ≤ 8192) payload u buffer
+short_after payload (Err (a, c)) buffer b = short_end a (tally_of c) buffer b
+short_after payload (Ok c) buffer b = b
 
 short_run : (payload : List ℕ) → length payload ≤ 8192 → (lines : List (List ℕ)) (c : Call) (buffer rest : List ℕ) → length buffer ≤ 8192
     → AllShort (call_run c payload buffer lines rest)

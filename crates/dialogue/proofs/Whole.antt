@@ -1,5 +1,7 @@
 -- What the proved functions print for a list of lines is what the definition of the whole bench says.
 -- Assumes nothing.
+use Rattle.engine.specs.Bus.{Reported}
+use Rattle.std.specs.Prelude.{Err, Ok}
 use Prim.Native.Nat.{ℕ, ◌≤◌, min}
 use mathlib.Core.Path.{◌≡◌, refl, sym, ap, ◌∙◌}
 use mathlib.Core.Bool.{Bool, true, false}
@@ -13,8 +15,6 @@ use Rattle.hexadecimal.specs.Hex.{out_decoded}
 use Rattle.protocol.specs.Pick.{when◌then◌else◌}
 use Rattle.calls.specs.Call as calls
 use Rattle.calls.specs.declared.call.Call.{Call}
-use Rattle.calls.specs.declared.call.Reported.{Reported}
-use Rattle.calls.specs.declared.call.Reported.TheVariants as reported
 use Rattle.requests.specs.Outcome.{outcome_line}
 use Rattle.requests.specs.Request.{bad, longest_request, request_line}
 use Rattle.requests.specs.Retired.{retired_kind}
@@ -53,11 +53,11 @@ module _ (R Y B : List ℕ) (place : Place) (lines : List (List ℕ)) (rest : Li
   abbrev next : Call → List ℕ → List (List ℕ)
   next call after = then_say (dialogue.line_shown call (dialogue.payload_in place R) after) (call_lines call (dialogue.payload_in place R) after lines rest)
 
-  reported_on : (u : Reported) (H : List ℕ) → length H ≡ place.buffer
+  reported_on : (u : Reported Call) (H : List ℕ) → length H ≡ place.buffer
       → onward (dialogue.say_of u place (dialogue.payload_in place R) H) R Y (H ++ drop place.buffer B) lines rest ≡ report_then u H next
   unfolding onward dialogue.say_of dialogue.show_of then_say report_then
-  reported_on (reported.Refused a call) H k = refl
-  reported_on (reported.Taken call) H k =
+  reported_on (Err (a, call)) H k = refl
+  reported_on (Ok call) H k =
       let w : length (H ++ drop place.buffer B) ≡ length B = rw (length-append, k, length-drop) (omega arith) in
       let m = more (H ++ drop place.buffer B) call w in
       ap (then_say (dialogue.line_shown call (dialogue.payload_in place R) H)) (m ∙ rw (take_at H (drop place.buffer B) place.buffer k))
@@ -104,7 +104,7 @@ asked_line line R h =
     (λ p. inr (ap request_line p.0 ∙ empty_request, long_request (line_bytes line) (omega (arith, p.1))))
     (decoded_line line R)
 
-room_enough : (call : Call) (n room : ℕ) → n ≤ room → dialogue.room_for call n room ≡ reported.Taken call
+room_enough : (call : Call) (n room : ℕ) → n ≤ room → dialogue.room_for call n room ≡ Ok call
 unfolding dialogue.room_for when◌then◌else◌
 room_enough call n room h = rw (le-leb n room h)
 

@@ -1,5 +1,7 @@
 -- The whole bench: from the lines of the input, and what follows its last line feed, to the lines that are printed. (01, The bench program)
 -- Assumes nothing.
+use Rattle.engine.specs.Bus.{Reported}
+use Rattle.std.specs.Prelude.{Err, Ok}
 use Rattle.std.specs.Prelude.{ℕ, List, [], ◌∷◌, length, drop, replicate}
 use Rattle.hexadecimal.specs.Line.{line_bytes}
 use Rattle.protocol.specs.Pick.{when◌then◌else◌}
@@ -7,8 +9,6 @@ use Rattle.protocol.specs.declared.error.Answer.TheVariants as answer
 use Rattle.engine.specs.Budget.{nothing}
 use Rattle.calls.specs.Call.{start_of, report_of, buffer_after, tally_of}
 use Rattle.calls.specs.declared.call.Call.{Call}
-use Rattle.calls.specs.declared.call.Reported.{Reported}
-use Rattle.calls.specs.declared.call.Reported.TheVariants as reported
 use Rattle.requests.specs.Outcome.{outcome_line}
 use Rattle.requests.specs.Request.{request_line}
 use Rattle.requests.specs.Retired.{retired_kind}
@@ -25,9 +25,9 @@ then_say (asked s) more = s ∷ more
 then_say (last s) more = s ∷ []
 
 -- what a report leads to, with `next` for the call and the buffer that go on
-unfoldable pub report_then : Reported → List ℕ → (Call → List ℕ → List (List ℕ)) → List (List ℕ)
-report_then (reported.Refused a call) buffer next = end_said a (tally_of call) buffer ∷ []
-report_then (reported.Taken call) buffer next = next call buffer
+unfoldable pub report_then : Reported Call → List ℕ → (Call → List ℕ → List (List ℕ)) → List (List ℕ)
+report_then (Err (a, call)) buffer next = end_said a (tally_of call) buffer ∷ []
+report_then (Ok call) buffer next = next call buffer
 
 -- what an outcome line leads to
 unfoldable pub told_then : Told → Call → List ℕ → List ℕ → List ℕ → (Call → List ℕ → List (List ℕ)) → List (List ℕ)

@@ -1,5 +1,7 @@
 -- A run of the bench program, line by line: what a line leads to, and the line that answers it. (01, The bench program)
 -- Assumes nothing.
+use Rattle.engine.specs.Bus.{Reported}
+use Rattle.std.specs.Prelude.{Err, Ok}
 use Rattle.std.specs.Prelude.{ℕ, min, List, [], ◌++◌, length, take, drop, replicate, leb, eqb}
 use Rattle.hexadecimal.specs.Hex.{decoded_of, out_decoded}
 use Rattle.hexadecimal.specs.declared.Decoded.{Decoded}
@@ -16,8 +18,6 @@ use Rattle.engine.specs.declared.bus.Transfer.TheVariants as transfer
 use Rattle.calls.specs.Call as calls
 use Rattle.calls.specs.declared.kind.Kind.{Kind}
 use Rattle.calls.specs.declared.call.Call.{Call}
-use Rattle.calls.specs.declared.call.Reported.{Reported}
-use Rattle.calls.specs.declared.call.Reported.TheVariants as reported
 use Rattle.requests.specs.Outcome.{outcome_line}
 use Rattle.requests.specs.Request.{request_line}
 use Rattle.requests.specs.Retired.{retired_kind}
@@ -101,13 +101,13 @@ unfoldable pub show_of : Call → Place → List ℕ → List ℕ → Spoken
 show_of call place payload buffer = record { run = run.Call call place; saying = line_shown call payload buffer }
 
 -- what came of a start or a report: the next transfer or the end of the call, or why the run is stopped
-unfoldable pub say_of : Reported → Place → List ℕ → List ℕ → Spoken
-say_of (reported.Refused a call) place payload buffer = record { run = run.Call call place; saying = last (end_said a (calls.tally_of call) buffer) }
-say_of (reported.Taken call) place payload buffer = show_of call place payload buffer
+unfoldable pub say_of : Reported Call → Place → List ℕ → List ℕ → Spoken
+say_of (Err (a, call)) place payload buffer = record { run = run.Call call place; saying = last (end_said a (calls.tally_of call) buffer) }
+say_of (Ok call) place payload buffer = show_of call place payload buffer
 
 -- 8 where less is lent than a buffer of n bytes
-unfoldable pub room_for : Call → ℕ → ℕ → Reported
-room_for call n room = when leb n room then reported.Taken call else reported.Refused answer.WrongBuffer call
+unfoldable pub room_for : Call → ℕ → ℕ → Reported Call
+room_for call n room = when leb n room then Ok call else Err (answer.WrongBuffer, call)
 
 -- a call starts, with the rest of the line as its payload and a buffer of n bytes of those that are lent
 unfoldable pub open_of : Kind → Config → ℕ → ℕ → List ℕ → List ℕ → Spoken
@@ -144,16 +144,16 @@ first_request line request = when retired_kind line then request else out_decode
 unfoldable pub first_buffer : List ℕ → List ℕ → List ℕ → List ℕ
 first_buffer line request buffer = when retired_kind line then buffer else begin_buffer (bytes_in line request) buffer
 
-unfoldable pub hear_by : Told → Call → List ℕ → ℕ → ℕ → Reported
+unfoldable pub hear_by : Told → Call → List ℕ → ℕ → ℕ → Reported Call
 hear_by (told.Outcome o) call line p n = calls.report_of call o (drop 1 line) p n 39
-hear_by told.Bad call line p n = reported.Refused answer.BadLine call
+hear_by told.Bad call line p n = Err (answer.BadLine, call)
 
 unfoldable pub hear_buffer_by : Told → Call → List ℕ → List ℕ → List ℕ
 hear_buffer_by (told.Outcome o) call line buffer = calls.buffer_after call o (drop 1 line) buffer 39
 hear_buffer_by told.Bad call line buffer = buffer
 
 -- the bytes of an outcome line go to a call with a payload of p bytes and a buffer of n
-unfoldable pub hear_of : Call → List ℕ → ℕ → ℕ → Reported
+unfoldable pub hear_of : Call → List ℕ → ℕ → ℕ → Reported Call
 hear_of call line p n = hear_by (outcome_line line) call line p n
 
 unfoldable pub hear_buffer : Call → List ℕ → List ℕ → List ℕ

@@ -2,12 +2,11 @@
 -- Assumes nothing.
 use Prim.Native.Nat.{ℕ}
 use mathlib.Core.Path.{◌≡◌}
-use Rattle.protocol.proofs.Cases.{yes_lt, not_lt, yes_le, not_le, yes_eq, not_eq, yes_eq_of, not_eq_of, is_true, is_false, flag_true, flag_false}
+use Rattle.std.specs.Prelude.{Option, Some, None}
+use Rattle.protocol.proofs.Cases.{yes_lt, not_lt, yes_le, not_le, yes_eq, not_eq, yes_eq_of, not_eq_of, is_true, is_false, flag_true, flag_false, negated}
 use Rattle.protocol.specs.declared.error.Answer.{Answer}
 use Rattle.engine.specs.Pick.{case◌waiting◌ended◌, case◌acknowledged◌error◌timeout◌, case◌retry◌spent◌}
 use Rattle.engine.specs.declared.budget.Budget.{Budget}
-use Rattle.engine.specs.declared.budget.Failed.{Failed}
-use Rattle.engine.specs.declared.budget.Failed.TheVariants as failed
 use Rattle.engine.specs.declared.bus.Outcome.{Outcome}
 use Rattle.engine.specs.declared.bus.Outcome.TheVariants as outcome
 use Rattle.engine.specs.declared.bus.Phase.{Phase}
@@ -35,12 +34,12 @@ module _ {A : Type 0} where
   at_timeout o x a b f e q = rw e q
 
   -- of what a failed attempt came to, as a call gave it
-  pub at_retry : (u v : Failed) (x y : A) (f : Budget → ℕ → A) (b : Budget) (ms : ℕ) → u ≡ v → u ≡ failed.Retry b ms → x ≡ f b ms → x ≡ case◌retry◌spent◌ v f y
+  pub at_retry : (u v : Option (Budget × ℕ)) (x y : A) (f : Budget → ℕ → A) (b : Budget) (ms : ℕ) → u ≡ v → u ≡ Some (b, ms) → x ≡ f b ms → x ≡ case◌retry◌spent◌ v f y
   unfolding case◌retry◌spent◌
   at_retry u v x y f b ms p e q = rw (← p, e) q
 
-  pub at_spent : (u v : Failed) (x y : A) (f : Budget → ℕ → A) → u ≡ v → u ≡ failed.Spent → x ≡ y → x ≡ case◌retry◌spent◌ v f y
+  pub at_spent : (u v : Option (Budget × ℕ)) (x y : A) (f : Budget → ℕ → A) → u ≡ v → u ≡ None → x ≡ y → x ≡ case◌retry◌spent◌ v f y
   unfolding case◌retry◌spent◌
   at_spent u v x y f p e q = rw (← p, e) q
 
-pub ruleset cases = (yes_lt, not_lt, yes_le, not_le, yes_eq, not_eq, yes_eq_of, not_eq_of, is_true, is_false, flag_true, flag_false, at_waiting, at_ended, at_ack, at_error, at_timeout, at_retry, at_spent)
+pub ruleset cases = (yes_lt, not_lt, yes_le, not_le, yes_eq, not_eq, yes_eq_of, not_eq_of, is_true, is_false, flag_true, flag_false, negated, at_waiting, at_ended, at_ack, at_error, at_timeout, at_retry, at_spent)

@@ -3,20 +3,20 @@
 use Prim.Native.Nat.{ℕ, suc, ◌-◌, ◌≤◌}
 use mathlib.Core.Path.{◌≡◌, refl, ap}
 use mathlib.Core.Bool.{Bool, true}
+use Rattle.std.specs.Prelude.{Some}
 use native.Mathlib.Omega.{arith}
 use borrow.Author.Tests.{ne_eqb}
 use Rattle.protocol.specs.Pick.{when◌then◌else◌}
 use Rattle.engine.specs.Budget.{wait_of, failed}
 use Rattle.engine.specs.Bus.{write_of}
 use Rattle.engine.specs.Laws.{Laws}
-use Rattle.engine.specs.declared.budget.Failed.TheVariants.{Retry}
 
-retries : (r n : ℕ) (growing : Bool) → failed r growing (record { left = suc n }) ≡ Retry (record { left = n }) (wait_of growing (r - suc n))
+retries : (r n : ℕ) (growing : Bool) → failed r growing (record { left = suc n }) ≡ Some (record { left = n }, wait_of growing (r - suc n))
 unfolding failed when◌then◌else◌
 retries r n growing =
     let some : suc n ≡ 0 → ⊥ = λ e. omega arith in
     let less : suc n - 1 ≡ n = omega arith in
-    rw (ne_eqb (suc n) 0 some) (ap (λ (k : ℕ). Retry (record { left = k }) (wait_of growing (r - suc n))) less)
+    rw (ne_eqb (suc n) 0 some) (ap (λ (k : ℕ). Some (record { left = k }, wait_of growing (r - suc n))) less)
 
 for_good : (k : ℕ) → 3 ≤ k → wait_of true k ≡ 80
 unfolding wait_of when◌then◌else◌

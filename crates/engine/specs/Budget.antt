@@ -1,11 +1,9 @@
 -- What a failed attempt costs, and what a call counts. (01, Frames and retries: with r retries, r + 1 failures end a budget; each retried failure is one wait;
 -- 02, W-203: waits that grow; W-208: a call counts its transfers)
 -- Assumes nothing.
-use Rattle.std.specs.Prelude.{ℕ, ◌+◌, ◌-◌, min, Bool, eqb}
+use Rattle.std.specs.Prelude.{ℕ, ◌+◌, ◌-◌, min, Bool, eqb, Option, Some, None}
 use Rattle.protocol.specs.Pick.{when◌then◌else◌}
 use Rattle.engine.specs.declared.budget.Budget.{Budget}
-use Rattle.engine.specs.declared.budget.Failed.{Failed}
-use Rattle.engine.specs.declared.budget.Failed.TheVariants.{Retry, Spent}
 use Rattle.engine.specs.declared.budget.Tally.{Tally}
 
 -- the wait after a failure, in milliseconds, where k of the same budget went before it: 10; where waits grow, 10, 20, 40, then 80 for good
@@ -14,8 +12,8 @@ wait_of growing k = when growing then (when eqb k 0 then 10 else when eqb k 1 th
 
 -- a failure of a budget that began with r retries takes one of them, and another attempt comes after a wait; or none is left. As many failures went before it as retries
 -- are gone
-unfoldable pub failed : (r : ℕ) (growing : Bool) → Budget → Failed
-failed r growing b = when eqb b.left 0 then Spent else Retry (record { left = b.left - 1 }) (wait_of growing (r - b.left))
+unfoldable pub failed : (r : ℕ) (growing : Bool) → Budget → Option (Budget × ℕ)
+failed r growing b = when eqb b.left 0 then None else Some (record { left = b.left - 1 }, wait_of growing (r - b.left))
 
 -- so many more; a count stays at the largest number
 abbrev pub plus_of : ℕ → ℕ → ℕ

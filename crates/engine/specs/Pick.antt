@@ -1,10 +1,8 @@
 -- The choice by an enum of the engines, in the words of the code. Each stays shut: proofs take it apart by the laws of `proofs/Cases.antt`.
 -- Assumes nothing.
-use Rattle.std.specs.Prelude.{ℕ}
+use Rattle.std.specs.Prelude.{ℕ, Option, Some, None}
 use Rattle.protocol.specs.declared.error.Answer.{Answer}
 use Rattle.engine.specs.declared.budget.Budget.{Budget}
-use Rattle.engine.specs.declared.budget.Failed.{Failed}
-use Rattle.engine.specs.declared.budget.Failed.TheVariants as failed
 use Rattle.engine.specs.declared.bus.Outcome.{Outcome}
 use Rattle.engine.specs.declared.bus.Outcome.TheVariants as outcome
 use Rattle.engine.specs.declared.bus.Phase.{Phase}
@@ -22,6 +20,6 @@ case outcome.Acknowledged acknowledged x error f timeout y = x
 case outcome.BusError code acknowledged x error f timeout y = f code
 case outcome.Timeout acknowledged x error f timeout y = y
 
-unfoldable pub case◌retry◌spent◌ : {A : Type 0} → Failed → (Budget → ℕ → A) → A → A
-case failed.Retry b ms retry f spent x = f b ms
-case failed.Spent retry f spent x = x
+unfoldable pub case◌retry◌spent◌ : {A : Type 0} → Option (Budget × ℕ) → (Budget → ℕ → A) → A → A
+case Some (b, ms) retry f spent x = f b ms
+case None retry f spent x = x

@@ -1,12 +1,11 @@
 // What passes between a call and the bus.
 ghost use Rattle.std.specs.Prelude.{◌≡◌};
-ghost use Rattle.engine.specs.Bus.{write_of, phase_after, fits_of};
+ghost use Rattle.engine.specs.Bus.{write_of, sent_by, phase_after, fits_of};
 
 use protocol::error::Answer;
-use protocol::frame::Laid;
 
 // What the bus made of a transfer.
-#[derive(Clone, Copy)]
+#[derive(Clone, Copy, Debug, PartialEq, Eq)]
 pub enum Outcome {
     // Acknowledged; of a read, the reply is lent beside it.
     Acknowledged,
@@ -17,7 +16,7 @@ pub enum Outcome {
 }
 
 // What a call shows.
-#[derive(Clone, Copy)]
+#[derive(Clone, Copy, Debug, PartialEq, Eq)]
 pub enum Transfer {
     // A write of so many bytes, which `to_send` hands out.
     Write(usize),
@@ -29,8 +28,12 @@ pub enum Transfer {
     Ended(Answer),
 }
 
+// What came of a report: the new call, or why it was refused and the call as it was.
+pub type Reported<C> = Result<C, (Answer, C)>;
+
 // Where a call stands.
-#[derive(Clone, Copy)]
+// Stays: an enum of its own, since `None` and `Some` would not say that a call waits or has ended.
+#[derive(Clone, Copy, Debug, PartialEq, Eq)]
 pub enum Phase {
     Waiting,
     Ended(Answer),
@@ -38,12 +41,22 @@ pub enum Phase {
 
 impl Transfer {
     // A frame that was laid is to be sent; one that has no room is refused.
-    pub fn write(laid: Laid) -> Transfer
+    pub fn write(laid: Option<usize>) -> Transfer
         ensures { result ≡ write_of laid }
     {
         match laid {
-            Laid::Frame(n) => Transfer::Write(n),
-            Laid::NoRoom => Transfer::Refused(Answer::WrongBuffer),
+            Some(n) => Transfer::Write(n),
+            None => Transfer::Refused(Answer::WrongBuffer),
+        }
+    }
+
+    // How many bytes it sends: none where it is no write.
+    pub fn sent(self) -> usize
+        ensures { result ≡ sent_by self }
+    {
+        match self {
+            Transfer::Write(n) => n,
+            _ => 0,
         }
     }
 }
@@ -62,7 +75,7 @@ impl Phase {
 }
 
 // The lengths of what was lent at the start: payload or buffer, and work buffer.
-#[derive(Clone, Copy)]
+#[derive(Clone, Copy, Debug, PartialEq, Eq)]
 pub struct Lent {
     pub length: usize,
     pub work: usize,
@@ -73,10 +86,13 @@ impl Lent {
     pub fn fits(self, length: usize, work: usize) -> bool
         ensures { result ≡ fits_of self length work }
     {
-        if length == self.length {
-            work == self.work
-        } else {
-            false
-        }
+        length == self.length && work == self.work
     }
+}
+
+// What does not change while a call runs: its plan, and the lengths of what was lent at the start.
+#[derive(Clone, Copy, Debug, PartialEq, Eq)]
+pub struct Task<P> {
+    pub plan: P,
+    pub lent: Lent,
 }

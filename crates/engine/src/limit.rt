@@ -8,7 +8,7 @@ use protocol::error::Answer;
 use protocol::window;
 
 // What a call asks of the length of the payload or buffer that is lent.
-#[derive(Clone, Copy)]
+#[derive(Clone, Copy, Debug, PartialEq, Eq)]
 pub enum Limit {
     // Nothing.
     Free,

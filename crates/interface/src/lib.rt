@@ -60,7 +60,8 @@ fn command_reads(config: Config, address: u32, output: usize) -> Reads
     if output == 0 {
         Reads::Nothing
     } else {
-        Reads::Once(Ask::mac((address / 65536 % 256) as u8, output, config.pec_read))
+        let [_, _, first, _] = address.to_le_bytes();
+        Reads::Once(Ask::mac(first, output, config.pec_read))
     }
 }
 

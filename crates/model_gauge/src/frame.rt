@@ -7,7 +7,7 @@ use protocol::bytes;
 use protocol::consts::{BQ_ADDR, MAC_CMD};
 
 // What a frame says.
-#[derive(Clone, Copy)]
+#[derive(Clone, Copy, Debug, PartialEq, Eq)]
 pub enum Form {
     // Store so many bytes, the frame's fifth and on, from this address on.
     BlockWrite { address: u16, count: usize },
@@ -28,7 +28,7 @@ pub(crate) fn check_byte(opening: &[u8], bytes: &[u8]) -> u8
 fn word(low: u8, high: u8) -> u16
     ensures { result ≡ high * 256 + low }
 {
-    (high as u16) * 256 + (low as u16)
+    u16::from_le_bytes([low, high])
 }
 
 // Whether a frame is as long as its count says, or has one byte more that is its PEC.
@@ -40,8 +40,7 @@ fn whole(frame: &[u8], count: u8) -> bool
         return true;
     }
     if frame.len() == size + 1 {
-        let opening = [BQ_ADDR * 2];
-        check_byte(&opening, bytes::front(frame, size)) == frame[size]
+        check_byte(&[BQ_ADDR * 2], bytes::front(frame, size)) == frame[size]
     } else {
         false
     }
@@ -51,18 +50,13 @@ fn whole(frame: &[u8], count: u8) -> bool
 fn form_of(count: u8, address: u16) -> Form
     ensures { result ≡ form_of count address }
 {
-    if count == 2 {
-        return Form::Address(address);
-    }
-    if count < 3 {
-        return Form::Other;
-    }
-    if 34 < count {
-        return Form::Other;
-    }
-    Form::BlockWrite {
-        address,
-        count: count as usize - 2,
+    match count {
+        2 => Form::Address(address),
+        3..=34 => Form::BlockWrite {
+            address,
+            count: count as usize - 2,
+        },
+        _ => Form::Other,
     }
 }
 
@@ -73,14 +67,9 @@ pub(crate) fn read_frame(frame: &[u8]) -> Form
     if frame.len() < 4 {
         return Form::Other;
     }
-    let command = frame[0];
     let count = frame[1];
-    if command == MAC_CMD {
-        if whole(frame, count) {
-            form_of(count, word(frame[2], frame[3]))
-        } else {
-            Form::Other
-        }
+    if frame[0] == MAC_CMD && whole(frame, count) {
+        form_of(count, word(frame[2], frame[3]))
     } else {
         Form::Other
     }

@@ -19,7 +19,7 @@ pub const FLASH_BYTES: usize = DF_SIZE_BYTES;
 pub const REPLY_BYTES: usize = 36;
 
 // What becomes of a transfer on its way.
-#[derive(Clone, Copy)]
+#[derive(Clone, Copy, Debug, PartialEq, Eq)]
 pub enum Fate {
     // It is heard, and so is what the gauge makes of it.
     Heard,
@@ -30,13 +30,13 @@ pub enum Fate {
 }
 
 // The gauge's read pointer.
-#[derive(Clone, Copy)]
+#[derive(Clone, Copy, Debug, PartialEq, Eq)]
 pub struct Gauge {
     pub pointer: u16,
 }
 
 // What a transfer comes to, beside what it leaves in the lent bytes.
-#[derive(Clone, Copy)]
+#[derive(Clone, Copy, Debug, PartialEq, Eq)]
 pub struct Effect {
     pub outcome: Outcome,
     // How many bytes of a reply reach the host.
@@ -59,22 +59,14 @@ fn onward(address: u16) -> u16
 fn offset(address: u16) -> usize
     ensures { result ≡ offset_of address }
 {
-    if address < DF_FIRST_ADDRESS {
-        0
-    } else {
-        (address - DF_FIRST_ADDRESS) as usize
-    }
+    address.saturating_sub(DF_FIRST_ADDRESS) as usize
 }
 
 // Whether the gauge replies to a read: of the command 44, and of at most a whole reply.
 fn replies(command: u8, count: usize) -> bool
     ensures { result ≡ replies_to command count }
 {
-    if command == MAC_CMD {
-        count <= REPLY_BYTES
-    } else {
-        false
-    }
+    command == MAC_CMD && count <= REPLY_BYTES
 }
 
 // The 32 bytes from an offset on, FF past the end.
@@ -95,11 +87,10 @@ impl Effect {
     fn unheard(self) -> Effect
         ensures { result ≡ handed_back (lost self.gauge []) }
     {
-        let gauge = self.gauge;
         Effect {
             outcome: Outcome::Timeout,
             replied: 0,
-            gauge,
+            ..self
         }
     }
 }
@@ -159,14 +150,14 @@ impl Gauge {
     }
 
     // The whole reply to a read: 22 hex, the pointer, 32 bytes from there on, the PEC.
-    fn reply(self, flash: &[u8]) -> [u8; 36]
+    fn reply(self, flash: &[u8]) -> [u8; REPLY_BYTES]
         ensures { result ≡ reply_of self flash.now }
     {
-        let pointer = self.pointer;
-        let lead = [0x22, (pointer % 256) as u8, (pointer / 256) as u8];
-        let data = block_at(flash, offset(pointer));
+        let [low, high] = self.pointer.to_le_bytes();
+        let lead = [0x22, low, high];
+        let data = block_at(flash, offset(self.pointer));
         let opening = [BQ_ADDR * 2, MAC_CMD, BQ_ADDR * 2 + 1];
-        let mut reply = [0u8; 36];
+        let mut reply = [0u8; REPLY_BYTES];
         bytes::store_block(&mut reply, 0, &lead, 3);
         bytes::store_block(&mut reply, 3, &data, 32);
         reply[35] = frame::check_byte(&opening, bytes::front(&reply, 35));

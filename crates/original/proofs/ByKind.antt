@@ -1,5 +1,7 @@
 -- Each kind: its call is that of one engine, fed the same, and that is the Rust's.
 -- Assumes nothing.
+use Rattle.engine.specs.Bus.{Reported}
+use Rattle.std.specs.Prelude.{Err, Ok}
 use Prim.Native.Nat.{ℕ, ◌≤◌}
 use mathlib.Core.Path.{◌≡◌, refl, sym, ap, ◌∙◌}
 use mathlib.Core.List.{List, [], ◌∷◌, ◌++◌}
@@ -19,14 +21,10 @@ use Rattle.writing.specs.Frames as frames
 use Rattle.writing.specs.Writing as writing
 use Rattle.writing.specs.declared.call.WritePlan.{WritePlan}
 use Rattle.writing.specs.declared.call.WriteCall.{WriteCall}
-use Rattle.writing.specs.declared.call.WriteReported.{WriteReported}
-use Rattle.writing.specs.declared.call.WriteReported.TheVariants as written
 use Rattle.reading.specs.Parts as parts
 use Rattle.reading.specs.Reading as reading
 use Rattle.reading.specs.declared.call.ReadPlan.{ReadPlan}
 use Rattle.reading.specs.declared.call.ReadCall.{ReadCall}
-use Rattle.reading.specs.declared.call.ReadReported.{ReadReported}
-use Rattle.reading.specs.declared.call.ReadReported.TheVariants as got
 use Rattle.r5.specs.Plans.{mac_read, mac_write, send_access_key, write_charging_voltage_override}
 use Rattle.r5.specs.Voltage.{override_of}
 use Rattle.r5.proofs.Back.{both_ways}
@@ -59,15 +57,15 @@ module _ (payload buffer : List ℕ) (lent : ℕ → Lending) where
       shown : List ℕ
       shown = writing.work_after c payload (lent (length done)).work
 
-      after : ((next : WriteCall) (done : List Made) → fed (call.Write next) payload buffer lent done os ≡ (fed_write next payload lent done os leaving buffer)) → (t : Made) (r : WriteReported) → writing.report_of c (told o) (length (reply t (lent (length done)).beside o)) (length payload) (length shown) ≡ r
+      after : ((next : WriteCall) (done : List Made) → fed (call.Write next) payload buffer lent done os ≡ (fed_write next payload lent done os leaving buffer)) → (t : Made) (r : Reported WriteCall) → writing.report_of c (told o) (length (reply t (lent (length done)).beside o)) (length payload) (length shown) ≡ r
           → (came report_of (call.Write c) (told o) (reply t (lent (length done)).beside o) (length payload) (length buffer) (length shown)
           taken (λ next. fed next payload buffer lent (done ++ (t ∷ [])) os)
           refused (λ a. answered a (record { transfers = done ++ (t ∷ []); waits = c.tally.waits }) os leaving buffer))
           ≡ ((wrote writing.report_of c (told o) (length (reply t (lent (length done)).beside o)) (length payload) (length shown)
           taken (λ next. fed_write next payload lent (done ++ (t ∷ [])) os)
           refused (λ a. answered a (record { transfers = done ++ (t ∷ []); waits = c.tally.waits }) os)) leaving buffer)
-      after on t (written.Taken next) e = rw e (on next (done ++ (t ∷ [])))
-      after on t (written.Refused a same) e = rw e
+      after on t (Ok next) e = rw e (on next (done ++ (t ∷ [])))
+      after on t (Err (a, same)) e = rw e
 
       by : ((next : WriteCall) (done : List Made) → fed (call.Write next) payload buffer lent done os ≡ (fed_write next payload lent done os leaving buffer)) → (t : Transfer) → writing.next_of c payload (length (lent (length done)).work) ≡ t → fed (call.Write c) payload buffer lent done (o ∷ os) ≡ (fed_write c payload lent done (o ∷ os) leaving buffer)
       by on (transfer.Write n) e = rw e (after on (write (writing.part_of c payload shown n)) _ refl)
@@ -91,15 +89,15 @@ module _ (payload : List ℕ) (lent : ℕ → Lending) where
       shown : List ℕ
       shown = reading.work_after c (length buffer) (lent (length done)).work
 
-      after : ((next : ReadCall) (buffer : List ℕ) (done : List Made) → fed (call.Read next) payload buffer lent done os ≡ fed_read next buffer lent done os) → (t : Made) (r : ReadReported) → reading.report_of c (told o) (reply t (lent (length done)).beside o) (length buffer) (length shown) ≡ r
+      after : ((next : ReadCall) (buffer : List ℕ) (done : List Made) → fed (call.Read next) payload buffer lent done os ≡ fed_read next buffer lent done os) → (t : Made) (r : Reported ReadCall) → reading.report_of c (told o) (reply t (lent (length done)).beside o) (length buffer) (length shown) ≡ r
           → (came report_of (call.Read c) (told o) (reply t (lent (length done)).beside o) (length payload) (length buffer) (length shown)
           taken (λ next. fed next payload (reading.buffer_after c (told o) (reply t (lent (length done)).beside o) buffer (length shown)) lent (done ++ (t ∷ [])) os)
           refused (λ a. answered a (record { transfers = done ++ (t ∷ []); waits = c.tally.waits }) os leaving buffer))
           ≡ (heard reading.report_of c (told o) (reply t (lent (length done)).beside o) (length buffer) (length shown)
           taken (λ next. fed_read next (reading.buffer_after c (told o) (reply t (lent (length done)).beside o) buffer (length shown)) lent (done ++ (t ∷ [])) os)
           refused (λ a. answered a (record { transfers = done ++ (t ∷ []); waits = c.tally.waits }) os leaving buffer))
-      after on t (got.Taken next) e = rw e (on next _ (done ++ (t ∷ [])))
-      after on t (got.Refused a same) e = rw e
+      after on t (Ok next) e = rw e (on next _ (done ++ (t ∷ [])))
+      after on t (Err (a, same)) e = rw e
 
       by : ((next : ReadCall) (buffer : List ℕ) (done : List Made) → fed (call.Read next) payload buffer lent done os ≡ fed_read next buffer lent done os) → (t : Transfer) → reading.next_of c (length buffer) (length (lent (length done)).work) ≡ t → fed (call.Read c) payload buffer lent done (o ∷ os) ≡ fed_read c buffer lent done (o ∷ os)
       by on (transfer.Write n) e = rw e (after on (write (take n shown)) _ refl)

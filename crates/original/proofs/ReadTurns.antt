@@ -1,5 +1,6 @@
 -- A reading call, fed, turn by turn: a head that goes out, a read, a failed attempt.
 -- Assumes nothing.
+use Rattle.std.specs.Prelude.{Err, Ok}
 use Prim.Native.Nat.{ℕ, suc, ◌-◌, ◌≤◌, ◌<◌}
 use mathlib.Core.Path.{◌≡◌, refl, sym, ◌∙◌}
 use mathlib.Core.List.{List, [], ◌∷◌, ◌++◌}
@@ -16,7 +17,7 @@ use Rattle.protocol.proofs.Laws.{take_over, length_over, length_sealed}
 use Rattle.protocol.specs.declared.error.Answer.{Answer}
 use Rattle.protocol.specs.declared.error.Answer.TheVariants as answer
 use Rattle.protocol.specs.declared.reply.Ask.{Ask}
-use Rattle.protocol.specs.declared.reply.Heard.TheVariants as heard
+use Rattle.protocol.specs.declared.reply.Unheard.TheVariants as unheard
 use Rattle.engine.specs.Pick.{case◌waiting◌ended◌, case◌acknowledged◌error◌timeout◌, case◌retry◌spent◌}
 use Rattle.engine.specs.Budget.{failed, more_of, nothing, waited, tallied}
 use Rattle.engine.specs.Bus.{write_of, phase_after, fits_of}
@@ -123,7 +124,7 @@ module _ (plan : ReadPlan) (n w : ℕ) where
   judged_read i left tally beside (Acknowledged bytes) m v e q =
       rw (fits m v e q, eq-eqb (bytes_asked (ask_at i)) (length (brought i bytes)) (sym (length_delivered (bytes_asked (ask_at i)) bytes))) (by (ask_at i).pec (checked_of (ask_at i).covered (brought i bytes)))
     where
-      by : (pec good : Bool) → reading.verdict_of (when pec then (when good then heard.Good else heard.WrongPec) else heard.Good) ≡ (when (when pec then good else true) then verdict.Block else verdict.Failed answer.Pec)
+      by : (pec good : Bool) → reading.verdict_of (when pec then (when good then (Ok tt) else (Err unheard.WrongPec)) else (Ok tt)) ≡ (when (when pec then good else true) then verdict.Block else verdict.Failed answer.Pec)
       by true true = refl
       by true false = refl
       by false good = refl

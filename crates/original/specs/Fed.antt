@@ -1,5 +1,7 @@
 -- A call of the step machine and its host: the call shows a transfer, the host makes it and reports what the bus did, until the call ends or the outcomes run out.
 -- Assumes nothing.
+use Rattle.engine.specs.Bus.{Reported}
+use Rattle.std.specs.Prelude.{Err, Ok}
 use Rattle.std.specs.Prelude.{ℕ, suc, ◌≡◌, List, [], ◌∷◌, ◌++◌, length, take, eqb}
 use Rattle.protocol.specs.Pick.{when◌then◌else◌}
 use Rattle.protocol.specs.Answer.{number_of}
@@ -8,18 +10,12 @@ use Rattle.engine.specs.declared.bus.Transfer.{Transfer}
 use Rattle.engine.specs.declared.bus.Transfer.TheVariants as transfer
 use Rattle.calls.specs.Call.{next_of, work_after, part_of, report_of, buffer_after, tally_of}
 use Rattle.calls.specs.declared.call.Call.{Call}
-use Rattle.calls.specs.declared.call.Reported.{Reported}
-use Rattle.calls.specs.declared.call.Reported.TheVariants as call-reported
 use Rattle.writing.specs.Writing as writing
 use Rattle.writing.specs.declared.call.WritePlan.{WritePlan}
 use Rattle.writing.specs.declared.call.WriteCall.{WriteCall}
-use Rattle.writing.specs.declared.call.WriteReported.{WriteReported}
-use Rattle.writing.specs.declared.call.WriteReported.TheVariants as written
 use Rattle.reading.specs.Reading as reading
 use Rattle.reading.specs.declared.call.ReadPlan.{ReadPlan}
 use Rattle.reading.specs.declared.call.ReadCall.{ReadCall}
-use Rattle.reading.specs.declared.call.ReadReported.{ReadReported}
-use Rattle.reading.specs.declared.call.ReadReported.TheVariants as reported
 unfoldable pub use Rattle.original.specs.Bus.{told}
 use Rattle.original.specs.Bus.{BusOutcome, Acknowledged, BusError, Timeout, delivered, Made, write, read, brings, Log, Came, Ok, Err, Waiting, Read, ◌leaving◌}
 
@@ -52,9 +48,9 @@ shows transfer.Ended a sending part transfer f answer g = g a
 
 -- what a report comes to: the call goes on, or the report is refused
 infixr 10 wrote◌taken◌refused◌
-unfoldable pub wrote◌taken◌refused◌ : {A : Type 0} → WriteReported → (WriteCall → A) → (Answer → A) → A
-wrote written.Taken call taken f refused g = f call
-wrote written.Refused a call taken f refused g = g a
+unfoldable pub wrote◌taken◌refused◌ : {A : Type 0} → Reported WriteCall → (WriteCall → A) → (Answer → A) → A
+wrote Ok call taken f refused g = f call
+wrote Err (a, call) taken f refused g = g a
 
 -- a writing call, fed: `done` are its transfers so far, the next is step number `length done`, `shown` is that step's work buffer once it has shown it,
 -- and its waits are those that it counts; nothing of a work buffer is kept for the next step
@@ -78,9 +74,9 @@ fed_write call payload lent done (o ∷ outcomes) =
     answer (λ a. answered a (record { transfers = done; waits = waits }) (o ∷ outcomes))
 
 infixr 10 heard◌taken◌refused◌
-unfoldable pub heard◌taken◌refused◌ : {A : Type 0} → ReadReported → (ReadCall → A) → (Answer → A) → A
-heard reported.Taken call taken f refused g = f call
-heard reported.Refused a call taken f refused g = g a
+unfoldable pub heard◌taken◌refused◌ : {A : Type 0} → Reported ReadCall → (ReadCall → A) → (Answer → A) → A
+heard Ok call taken f refused g = f call
+heard Err (a, call) taken f refused g = g a
 
 -- a reading call, fed: its head goes out from the front of the work buffer
 unfoldable pub fed_read : ReadCall → List ℕ → (ℕ → Lending) → List Made → List BusOutcome → Read
@@ -111,9 +107,9 @@ abbrev pub reads : ReadPlan → List ℕ → ℕ → (ℕ → Lending) → List 
 reads plan buffer w lent outcomes = fed_read (reading.start_of plan (length buffer) w) buffer lent [] outcomes
 
 infixr 10 came◌taken◌refused◌
-unfoldable pub came◌taken◌refused◌ : {A : Type 0} → Reported → (Call → A) → (Answer → A) → A
-came call-reported.Taken call taken f refused g = f call
-came call-reported.Refused a call taken f refused g = g a
+unfoldable pub came◌taken◌refused◌ : {A : Type 0} → Reported Call → (Call → A) → (Answer → A) → A
+came Ok call taken f refused g = f call
+came Err (a, call) taken f refused g = g a
 
 -- a call, fed, as its engine is: what a host has
 unfoldable pub fed : Call → (payload buffer : List ℕ) → (ℕ → Lending) → List Made → List BusOutcome → Read

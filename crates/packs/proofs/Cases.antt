@@ -4,7 +4,7 @@ use Prim.Native.Nat.{ℕ, ◌≤◌, ◌<◌}
 use mathlib.Core.Path.{◌≡◌, subst}
 use lib.Dec.{leb}
 use Rattle.protocol.specs.Pick.{when◌then◌else◌}
-use Rattle.protocol.proofs.Cases.{is_true, is_false, yes_lt, not_lt, yes_le, not_le, yes_eq, not_eq, yes_eq_of, not_eq_of, flag_true, flag_false}
+use Rattle.protocol.proofs.Cases.{is_true, is_false, yes_lt, not_lt, yes_le, not_le, yes_eq, not_eq, yes_eq_of, not_eq_of, flag_true, flag_false, negated}
 use Rattle.hexadecimal.proofs.Cases.{yes_lt_of, not_lt_of}
 
 pub yes_le_of : {A : Type 0} (m r n : ℕ) (x a b : A) → r ≡ n → m ≤ r → x ≡ a → x ≡ when◌then◌else◌ (leb m n) a b

@@ -1,5 +1,7 @@
 -- A run is refused for its flash, its course or the lengths lent to it; a run that is not can only give what a report to its call gives.
 -- Assumes nothing.
+use Rattle.engine.specs.Bus.{Reported}
+use Rattle.std.specs.Prelude.{Err, Ok}
 use Prim.Native.Nat.{ℕ}
 use mathlib.Core.Path.{◌≡◌, refl, sym, ap, subst, ◌∙◌}
 use mathlib.Core.Bool.{true}
@@ -12,15 +14,13 @@ use Rattle.engine.specs.declared.bus.Phase.TheVariants as phase
 use Rattle.engine.specs.declared.bus.Transfer.{Transfer}
 use Rattle.engine.specs.declared.bus.Transfer.TheVariants as transfer
 use Rattle.writing.specs.Writing as writing
-use Rattle.writing.specs.declared.call.WriteTask.{WriteTask}
+use Rattle.engine.specs.declared.bus.Task.{Task}
+use Rattle.writing.specs.declared.call.WritePlan.{WritePlan}
 use Rattle.writing.specs.declared.call.WriteCall.{WriteCall}
-use Rattle.writing.specs.declared.call.WriteReported.{WriteReported}
-use Rattle.writing.specs.declared.call.WriteReported.TheVariants as wrote
 use Rattle.reading.specs.Reading as reading
-use Rattle.reading.specs.declared.call.ReadTask.{ReadTask}
+use Rattle.engine.specs.declared.bus.Task.{Task}
+use Rattle.reading.specs.declared.call.ReadPlan.{ReadPlan}
 use Rattle.reading.specs.declared.call.ReadCall.{ReadCall}
-use Rattle.reading.specs.declared.call.ReadReported.{ReadReported}
-use Rattle.reading.specs.declared.call.ReadReported.TheVariants as got
 use Rattle.calls.specs.Call.{next_of, work_after, wrote_of, got_of, report_of, buffer_after, phase_of, fits_of}
 use Rattle.calls.specs.declared.call.Call.{Call}
 use Rattle.calls.specs.declared.call.Call.TheVariants as call
@@ -65,16 +65,16 @@ begins (call.Write c) waits = (rw waits tt, refl)
 begins (call.Read c) waits = (rw waits tt, refl)
 
 -- a report leaves the call as it was, or waiting, or ended with an answer of its own
-wrote_follows : (c d : WriteCall) (r : WriteReported) → SortW d r → (call_w r).task ≡ d.task → Follows (call.Write c) (call.Write d) → Follows (call.Write c) (taken_of (wrote_of r))
+wrote_follows : (c d : WriteCall) (r : Reported WriteCall) → SortW d r → (call_w r).task ≡ d.task → Follows (call.Write c) (call.Write d) → Follows (call.Write c) (taken_of (wrote_of r))
 unfolding taken_of wrote_of
-wrote_follows c d (wrote.Refused a same) s task k = subst (λ (e : WriteCall). Follows (call.Write c) (call.Write e)) (sym s.1) k
-wrote_follows c d (wrote.Taken next) s task k = (s.1, ap (λ (t : WriteTask). t.lent) task ∙ k.1)
+wrote_follows c d (Err (a, same)) s task k = subst (λ (e : WriteCall). Follows (call.Write c) (call.Write e)) (sym s.1) k
+wrote_follows c d (Ok next) s task k = (s.1, ap (λ (t : Task WritePlan). t.lent) task ∙ k.1)
 
-got_follows : (c d : ReadCall) (before after : List ℕ) (r : ReadReported) → SortR d before after r → (call_r r).task ≡ d.task → Follows (call.Read c) (call.Read d)
+got_follows : (c d : ReadCall) (before after : List ℕ) (r : Reported ReadCall) → SortR d before after r → (call_r r).task ≡ d.task → Follows (call.Read c) (call.Read d)
     → Follows (call.Read c) (taken_of (got_of r))
 unfolding taken_of got_of
-got_follows c d before after (got.Refused a same) s task k = subst (λ (e : ReadCall). Follows (call.Read c) (call.Read e)) (sym s.1) k
-got_follows c d before after (got.Taken next) s task k = (s.1, ap (λ (t : ReadTask). t.lent) task ∙ k.1)
+got_follows c d before after (Err (a, same)) s task k = subst (λ (e : ReadCall). Follows (call.Read c) (call.Read e)) (sym s.1) k
+got_follows c d before after (Ok next) s task k = (s.1, ap (λ (t : Task ReadPlan). t.lent) task ∙ k.1)
 
 module _ (o : Outcome) (reply : List ℕ) (p : ℕ) (buffer : List ℕ) (w : ℕ) where
   report_follows : (c d : Call) → Follows c d → Follows c (taken_of (report_of d o reply p (length buffer) w))

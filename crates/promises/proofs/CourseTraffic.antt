@@ -1,5 +1,7 @@
 -- A call that is run over a course: each byte is a transfer whose outcome is taken, or the call shows none and stays as it is.
 -- Assumes nothing.
+use Rattle.engine.specs.Bus.{Reported}
+use Rattle.std.specs.Prelude.{Ok}
 use Prim.Native.Nat.{ℕ, zero, suc, ◌+◌, ◌≤◌, ◌<◌}
 use mathlib.Core.Path.{◌≡◌, refl, sym, ap, subst, ◌∙◌}
 use mathlib.Core.Bool.{Bool, true, false, false≢true}
@@ -26,8 +28,6 @@ use Rattle.calls.specs.Sides.{budget_of}
 use Rattle.calls.specs.Call.{next_of, work_after, buffer_after, phase_of, tally_of, fits_of}
 use Rattle.calls.specs.declared.call.Call.{Call}
 use Rattle.calls.specs.declared.call.Call.TheVariants as call
-use Rattle.calls.specs.declared.call.Reported.{Reported}
-use Rattle.calls.specs.declared.call.Reported.TheVariants as reported
 use Rattle.calls.specs.declared.kind.Kind.{Kind}
 use Rattle.ceilings.specs.Reports.{call_after}
 use Rattle.ceilings.specs.Ceilings.{CeilingOf}
@@ -152,11 +152,11 @@ module _ (config : Config) (few : TwoByteBudgets config) (payload old : List ℕ
       let e = effect_of f made w.link.gauge w.flash in
       let laid = work_after w.link.call payload (length w.buffer) w.work in
       let t = takes c payload w.buffer w.work made shown e.outcome e.reply (all_brought f made w.link.gauge w.flash) in
-      let l : Follows m v (reported.Taken t.0) = subst (Follows m v) t.1 (follows m v c good e.outcome e.reply (length payload) (length w.buffer) (length laid)) in
+      let l : Follows m v (Ok t.0) = subst (Follows m v) t.1 (follows m v c good e.outcome e.reply (length payload) (length w.buffer) (length laid)) in
       let one = counts m v c t.0 good e.outcome e.reply (length payload) (length w.buffer) (length laid) t.1 in
       let later : World = world (record { call = t.0; gauge = e.gauge }) (buffer_after c e.outcome e.reply w.buffer (length laid)) laid e.flash in
       let goes : step_of payload f w ≡ later = steps payload w.buffer w.work w.flash c w.link.gauge f made shown ∙ rw t.1 in
-      let lives-on : Live config payload old n t.0 later.buffer = subst (λ (r : Reported). Live config payload old n (call_after r) later.buffer) t.1 (lives config payload old n c w.buffer lively e.outcome e.reply (length laid)) in
+      let lives-on : Live config payload old n t.0 later.buffer = subst (λ (r : Reported Call). Live config payload old n (call_after r) later.buffer) t.1 (lives config payload old n c w.buffer lively e.outcome e.reply (length laid)) in
       let next = rest l.0 v later l.2 lives-on in
       let ahead : drive_of payload (f ∷ fs) w ≡ drive_of payload fs later = ap (drive_of payload fs) goes in
       record {

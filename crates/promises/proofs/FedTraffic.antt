@@ -1,5 +1,7 @@
 -- A call that is fed: each outcome is taken and counted, so that it makes at most as many transfers as it can accept outcomes, and ends.
 -- Assumes nothing.
+use Rattle.engine.specs.Bus.{Reported}
+use Rattle.std.specs.Prelude.{Err, Ok}
 use Prim.Native.Nat.{ℕ, suc, ◌+◌, ◌*◌, ◌≤◌}
 use mathlib.Core.Path.{◌≡◌, refl, ap, subst, ◌∙◌}
 use mathlib.Core.Bool.{Bool, true, false}
@@ -22,8 +24,6 @@ use Rattle.calls.specs.Kind.{plan_of}
 use Rattle.calls.specs.Sides.{budget_of}
 use Rattle.calls.specs.Call.{start_of, next_of, work_after, part_of, report_of, buffer_after, phase_of, tally_of}
 use Rattle.calls.specs.declared.call.Call.{Call}
-use Rattle.calls.specs.declared.call.Reported.{Reported}
-use Rattle.calls.specs.declared.call.Reported.TheVariants as reported
 use Rattle.calls.specs.declared.kind.Kind.{Kind}
 use Rattle.ceilings.specs.Reports.{call_after, feed, accepted}
 use Rattle.ceilings.specs.Ceilings.{CeilingOf}
@@ -105,7 +105,7 @@ module _ (payload : List ℕ) (lent : ℕ → Lending) where
 
   -- the outcome of a transfer that is shown is taken
   going : (call : Call) (buffer work : List ℕ) (t : Made) → Shows call payload buffer work t → (o : BusOutcome) (beside : List ℕ)
-      → (next : Call) × (report_of call (told o) (reply t beside o) (length payload) (length buffer) (length (work_after call payload (length buffer) work)) ≡ reported.Taken next)
+      → (next : Call) × (report_of call (told o) (reply t beside o) (length payload) (length buffer) (length (work_after call payload (length buffer) work)) ≡ Ok next)
   going call buffer work t s o beside = takes call payload buffer work t s (told o) (reply t beside o) (brings_all t beside o)
 
   -- one of them is taken, and the rest is fed on
@@ -127,10 +127,10 @@ module _ (payload : List ℕ) (lent : ℕ → Lending) where
       after t = buffer_after call (told o) (bytes t) buffer (length shown)
 
       -- with a transfer more done
-      taken_on : (t : Made) (next : Call) → report_of call (told o) (bytes t) (length payload) (length buffer) (length shown) ≡ reported.Taken next
+      taken_on : (t : Made) (next : Call) → report_of call (told o) (bytes t) (length payload) (length buffer) (length shown) ≡ Ok next
           → Runs m v (length done) (suc (length os)) (tally_of call).transfers (tally_of (fed_call next payload (after t) lent (suc (length done)) os)) (fed next payload (after t) lent (done ++ (t ∷ [])) os)
       taken_on t next e =
-          let f : Follows m v (reported.Taken next) = subst (Follows m v) e (follows m v call good (told o) (bytes t) (length payload) (length buffer) (length shown)) in
+          let f : Follows m v (Ok next) = subst (Follows m v) e (follows m v call good (told o) (bytes t) (length payload) (length buffer) (length shown)) in
           let one = counts m v call next good (told o) (bytes t) (length payload) (length buffer) (length shown) e in
           let long = one_out done t in
           let ran = subst (λ (i : ℕ). Runs f.0 v i (length os) (tally_of next).transfers (tally_of (fed_call next payload (after t) lent i os)) (fed next payload (after t) lent (done ++ (t ∷ [])) os)) long (rest f.0 v next f.2 (after t) (done ++ (t ∷ []))) in
@@ -174,11 +174,11 @@ module _ (payload : List ℕ) (lent : ℕ → Lending) where
         after : Made → List ℕ
         after t = buffer_after call (told o) (bytes t) buffer (length shown)
 
-        taken_on : (t : Made) (next : Call) → report_of call (told o) (bytes t) (length payload) (length buffer) (length shown) ≡ reported.Taken next
+        taken_on : (t : Made) (next : Call) → report_of call (told o) (bytes t) (length payload) (length buffer) (length shown) ≡ Ok next
             → phase_of (fed_call next payload (after t) lent (suc i) os) ≡ phase.Waiting → ⊥
         taken_on t next e =
-            let f : Follows m v (reported.Taken next) = subst (Follows m v) e (follows m v call good (told o) (bytes t) (length payload) (length buffer) (length shown)) in
-            let lives-on = subst (λ (r : Reported). Live config payload old w (call_after r) (after t)) e (lives config payload old w call buffer lively (told o) (bytes t) (length shown)) in
+            let f : Follows m v (Ok next) = subst (Follows m v) e (follows m v call good (told o) (bytes t) (length payload) (length buffer) (length shown)) in
+            let lives-on = subst (λ (r : Reported Call). Live config payload old w (call_after r) (after t)) e (lives config payload old w call buffer lively (told o) (bytes t) (length shown)) in
             rest f.0 v next f.2 (after t) lives-on (buffer_size (told o) (bytes t) (length payload) buffer (length shown) call ∙ size) (suc i) (omega (arith, enough, f.1))
 
         -- a call that waits shows a transfer

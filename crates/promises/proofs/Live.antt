@@ -1,5 +1,7 @@
 -- A call that was started by its kind and fed any reports: while it waits, it shows a transfer to whoever lends the lengths of its start.
 -- Assumes nothing.
+use Rattle.engine.specs.Bus.{Reported}
+use Rattle.std.specs.Prelude.{Err, Ok}
 use Prim.Native.Nat.{ℕ}
 use mathlib.Core.Path.{◌≡◌, refl, sym, ap, subst, ◌∙◌}
 use mathlib.Core.Bool.{Bool, true, false}
@@ -15,13 +17,9 @@ use Rattle.engine.specs.declared.bus.Transfer.TheVariants as transfer
 use Rattle.writing.specs.Writing as writing
 use Rattle.writing.specs.declared.call.WritePlan.{WritePlan}
 use Rattle.writing.specs.declared.call.WriteCall.{WriteCall}
-use Rattle.writing.specs.declared.call.WriteReported.{WriteReported}
-use Rattle.writing.specs.declared.call.WriteReported.TheVariants as wrote
 use Rattle.reading.specs.Reading as reading
 use Rattle.reading.specs.declared.call.ReadPlan.{ReadPlan}
 use Rattle.reading.specs.declared.call.ReadCall.{ReadCall}
-use Rattle.reading.specs.declared.call.ReadReported.{ReadReported}
-use Rattle.reading.specs.declared.call.ReadReported.TheVariants as got
 use Rattle.calls.specs.Kind.{plan_of}
 use Rattle.calls.specs.Call.{start_with, start_of, next_of, work_after, part_of, wrote_of, got_of, report_of, buffer_after, phase_of, fits_of}
 use Rattle.calls.specs.declared.call.Call.{Call}
@@ -78,15 +76,15 @@ unfolding feed_r
 feed_r_lem [] e r = refl
 feed_r_lem (x ∷ es) e r = feed_r_lem es e (reported_r r x)
 
-wrote_after : (r : WriteReported) → call_after (wrote_of r) ≡ call.Write (call_w r)
+wrote_after : (r : Reported WriteCall) → call_after (wrote_of r) ≡ call.Write (call_w r)
 unfolding wrote_of
-wrote_after (wrote.Refused a c) = refl
-wrote_after (wrote.Taken c) = refl
+wrote_after (Err (a, c)) = refl
+wrote_after (Ok c) = refl
 
-got_after : (r : ReadReported) → call_after (got_of r) ≡ call.Read (call_r r)
+got_after : (r : Reported ReadCall) → call_after (got_of r) ≡ call.Read (call_r r)
 unfolding got_of
-got_after (got.Refused a c) = refl
-got_after (got.Taken c) = refl
+got_after (Err (a, c)) = refl
+got_after (Ok c) = refl
 
 module _ (config : Config) (payload old : List ℕ) (w : ℕ) where
   -- a reading call and its buffer at the start

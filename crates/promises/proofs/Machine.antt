@@ -1,5 +1,6 @@
 -- What one event does to a data-flash write that waits: the frame of the block that is due goes out, and the call is where its outcome leads.
 -- Assumes nothing.
+use Rattle.std.specs.Prelude.{Ok}
 use Prim.Native.Nat.{ℕ, suc, ◌+◌, ◌*◌, ◌≤◌, ◌<◌, min}
 use mathlib.Core.Path.{◌≡◌, refl, sym, ◌∙◌}
 use mathlib.Core.Bool.{Bool, true, false}
@@ -29,9 +30,9 @@ use Rattle.engine.specs.declared.bus.Transfer.TheVariants as transfer
 use Rattle.writing.specs.Frames.{is_plain, frame_count, block_bytes, bytes_at}
 use Rattle.writing.specs.Writing.{plan_of, own_bytes, due_bytes, shown_of, work_shown, next_of, work_after, part_of, advance_of, fail_of, settle_of, replied_of, counted_of, report_of}
 use Rattle.writing.specs.declared.call.WriteCall.{WriteCall}
-use Rattle.writing.specs.declared.call.WriteTask.{WriteTask}
+use Rattle.engine.specs.declared.bus.Task.{Task}
+use Rattle.writing.specs.declared.call.WritePlan.{WritePlan}
 use Rattle.r5.specs.Plans.{write_dataflash}
-use Rattle.writing.specs.declared.call.WriteReported.TheVariants as reported
 use Rattle.promises.specs.Events.{Cause, bus_error, timed_out, Event, acknowledged, failed, unheard, cause_of, heard_as, lent_of, flash_after, acked_after}
 use Rattle.promises.specs.Host.{makes}
 use Rattle.promises.specs.Writes.{WriteWorld, sent, transfer_made, step}
@@ -70,7 +71,7 @@ sealed_short true f h = simp length-append (omega arith)
 sealed_short false f h = omega arith
 
 module _ (config : Config) (address : ℕ) (payload : List ℕ) (n : ℕ) where
-  abbrev pub task_of : WriteTask
+  abbrev pub task_of : Task WritePlan
   task_of = record { plan = write_dataflash config address; lent = record { length = length payload; work = n } }
 
   -- the call with i blocks acknowledged
@@ -112,7 +113,7 @@ module _ (config : Config) (address : ℕ) (payload : List ℕ) (n : ℕ) where
     laid_long = length_over (frame_of i) work (omega (arith, frame_short i)) ∙ long
 
     -- a report that brings no bytes where it acknowledges is taken
-    pub is_taken : (o : Outcome) (r : ℕ) → replied_of o r ≡ false → report_of (call_at phase.Waiting i b t) o r (length payload) n ≡ reported.Taken (settle_of (call_at phase.Waiting i b (tallied t)) o)
+    pub is_taken : (o : Outcome) (r : ℕ) → replied_of o r ≡ false → report_of (call_at phase.Waiting i b t) o r (length payload) n ≡ Ok (settle_of (call_at phase.Waiting i b (tallied t)) o)
     unfolding report_of counted_of case◌waiting◌ended◌ fits_of when◌then◌else◌
     is_taken o r bare = rw (eq-eqb (length payload) (length payload) refl, eq-eqb n n refl, bare)
 

@@ -1,5 +1,8 @@
 -- Reads over the model's courses are reads over events: the gauge takes every head and replies to every read, so a transfer of the course is one of the events.
 -- Assumes nothing.
+use Rattle.engine.specs.Bus.{Reported}
+use Rattle.std.specs.Prelude.{Err, Ok}
+use Rattle.reading.specs.declared.call.ReadCall.{ReadCall}
 use Prim.Native.Nat.{ℕ, ◌+◌, ◌*◌, ◌-◌, ◌≤◌, ◌<◌}
 use mathlib.Core.Path.{◌≡◌, refl, sym, ap, ◌∙◌}
 use mathlib.Core.Bool.{Bool, true, false}
@@ -23,8 +26,6 @@ use Rattle.engine.specs.declared.budget.Tally.{Tally}
 use Rattle.engine.specs.declared.bus.Phase.{Phase}
 use Rattle.engine.specs.declared.bus.Phase.TheVariants as phase
 use Rattle.reading.specs.Reading as reading
-use Rattle.reading.specs.declared.call.ReadReported.{ReadReported}
-use Rattle.reading.specs.declared.call.ReadReported.TheVariants as got
 use Rattle.calls.specs.Call.{start_with, start_of, next_of, work_after, part_of, got_of, report_of, buffer_after, phase_of, fits_of}
 use Rattle.calls.specs.Kind.{plan_of}
 use Rattle.calls.specs.declared.call.Call.TheVariants as call
@@ -53,10 +54,10 @@ use Rattle.promises.proofs.Reading.{Kept, Reading, buffer_long, reading_step}
 use Rattle.promises.proofs.ReadStopped.{start, read_empty, reading}
 
 -- the call after a report, by either name
-got_taken : (r : ReadReported) → taken_of (got_of r) ≡ call.Read (call_r r)
+got_taken : (r : Reported ReadCall) → taken_of (got_of r) ≡ call.Read (call_r r)
 unfolding taken_of got_of
-got_taken (got.Refused a same) = refl
-got_taken (got.Taken next) = refl
+got_taken (Err (a, same)) = refl
+got_taken (Ok next) = refl
 
 -- a read does not look at the payload
 module _ (payload : List ℕ) (config : Config) (address size n : ℕ) where

@@ -1,5 +1,6 @@
 -- What one event does to a data-flash read that waits: the head or the read that is due goes out, and the call is where its outcome leads.
 -- Assumes nothing.
+use Rattle.std.specs.Prelude.{Err, Ok}
 use Prim.Native.Nat.{ℕ, zero, suc, ◌+◌, ◌*◌, ◌-◌, ◌≤◌, ◌<◌, min}
 use mathlib.Core.Path.{◌≡◌, refl, sym, ap, ◌∙◌}
 use mathlib.Core.Bool.{Bool, true, false}
@@ -17,7 +18,7 @@ use Rattle.protocol.specs.Reply.{mac_ask, bytes_asked, heard_of, data_of}
 use Rattle.protocol.specs.declared.common.Config.{Config}
 use Rattle.protocol.specs.declared.error.Answer.{Answer}
 use Rattle.protocol.specs.declared.error.Answer.TheVariants as answer
-use Rattle.protocol.specs.declared.reply.Heard.TheVariants as reply
+use Rattle.protocol.specs.declared.reply.Unheard.TheVariants as unheard
 use Rattle.protocol.proofs.Laws.{take_over, length_over, take_min, laid_more}
 use Rattle.engine.specs.Pick.{case◌waiting◌ended◌, case◌acknowledged◌error◌timeout◌}
 use Rattle.engine.specs.Budget.{tallied}
@@ -34,7 +35,8 @@ use Rattle.reading.specs.Parts.{head_bytes, block_ask, ask_of, most_of}
 use Rattle.reading.specs.Parts as parts
 use Rattle.reading.specs.Reading.{due_ask, shown_head, work_head, shown_of, work_shown, next_of, work_after, headed_of, advance_of, fail_of, heard_head, verdict_of, heard_block, acknowledged_of, weigh_of, judge_of, stored_of, counted_of, report_of, buffer_after}
 use Rattle.reading.specs.declared.call.ReadCall.{ReadCall}
-use Rattle.reading.specs.declared.call.ReadTask.{ReadTask}
+use Rattle.engine.specs.declared.bus.Task.{Task}
+use Rattle.reading.specs.declared.call.ReadPlan.{ReadPlan}
 use Rattle.r5.specs.Plans.{read_dataflash}
 use Rattle.model_gauge.specs.Gauge.{reply_of, moved_of, taken, acts, effect_of}
 use Rattle.model_gauge.specs.declared.gauge.Gauge.{Gauge}
@@ -86,7 +88,7 @@ unfolding effect_of moved_of
 read_acts count g flash few = replied.asked count g flash few
 
 module _ (config : Config) (address size n : ℕ) where
-  abbrev pub read_task : ReadTask
+  abbrev pub read_task : Task ReadPlan
   read_task = record { plan = read_dataflash config address; lent = record { length = size; work = n } }
 
   -- the call with i blocks received
@@ -186,7 +188,7 @@ module _ (config : Config) (address size n : ℕ) where
     unfolding buffer_after judge_of weigh_of acknowledged_of heard_head case◌waiting◌ended◌ case◌acknowledged◌error◌timeout◌ case◌refused◌fault◌headed◌block◌ fits_of when◌then◌else◌
     head_heard_buffer = rw (eq-eqb (length buffer) size fits, eq-eqb n n refl)
 
-    module _ (bytes : List ℕ) (good : heard_of (block_ask (size - i * 32) config.pec_read) bytes ≡ reply.Good) where
+    module _ (bytes : List ℕ) (good : heard_of (block_ask (size - i * 32) config.pec_read) bytes ≡ (Ok tt)) where
       pub received : i < 4294967295 → call_r (report_of (read_at phase.Waiting false i b t) outcome.Acknowledged bytes size n) ≡ read_at (phase_after (blocks_of size) (suc i)) false (suc i) b (tallied t)
       unfolding report_of counted_of judge_of weigh_of acknowledged_of heard_block verdict_of due_ask ask_of advance_of parts.read_count read_dataflash case◌waiting◌ended◌ case◌acknowledged◌error◌timeout◌ case◌refused◌fault◌headed◌block◌ fits_of when◌then◌else◌
       received h =
@@ -205,7 +207,7 @@ module _ (config : Config) (address size n : ℕ) where
     unfolding read_over read_made makes
     damaged_head front last = rw shows_head
 
-    module _ (bytes : List ℕ) (wrong : heard_of (block_ask (size - i * 32) config.pec_read) bytes ≡ reply.WrongPec) where
+    module _ (bytes : List ℕ) (wrong : heard_of (block_ask (size - i * 32) config.pec_read) bytes ≡ (Err unheard.WrongPec)) where
       disbelieved : call_r (report_of (read_at phase.Waiting false i b t) outcome.Acknowledged bytes size n) ≡ fail_of (read_at phase.Waiting false i b (tallied t)) answer.Pec
       unfolding report_of counted_of judge_of weigh_of acknowledged_of heard_block verdict_of due_ask ask_of read_dataflash case◌waiting◌ended◌ case◌acknowledged◌error◌timeout◌ case◌refused◌fault◌headed◌block◌ fits_of when◌then◌else◌
       disbelieved = rw (eq-eqb size size refl, eq-eqb n n refl, wrong)
@@ -219,7 +221,7 @@ module _ (config : Config) (address size n : ℕ) where
         ≡ record { call = fail_of (read_at phase.Waiting false i b (tallied t)) answer.Pec; gauge = moved_of g; buffer = buffer; work = work; flash = flash; got = i }
     unfolding read_over makes heard when◌then◌else◌
     made_damaged pec front last full other =
-        let wrong : heard_of (block_ask (size - i * 32) config.pec_read) (front ++ (last ∷ [])) ≡ reply.WrongPec = rw pec (reply_damaged (size - i * 32) front last full other) in
+        let wrong : heard_of (block_ask (size - i * 32) config.pec_read) (front ++ (last ∷ [])) ≡ (Err unheard.WrongPec) = rw pec (reply_damaged (size - i * 32) front last full other) in
         let asks : count_at ≡ 36 = rw pec (count_of true (size - i * 32)) in
         rw (shows_read, lays_none, asks, read_acts 36 g flash (omega arith), long, disbelieved_buffer (front ++ (last ∷ [])) wrong, fits, disbelieved (front ++ (last ∷ [])) wrong)
 

@@ -1,5 +1,6 @@
 -- The gauge's reply, as the reading call hears it: of the number asked, believed with a PEC or without, and its data is the flash's.
 -- Assumes nothing.
+use Rattle.std.specs.Prelude.{Err, Ok}
 use Prim.Native.Nat.{ℕ, suc, ◌+◌, ◌-◌, ◌≤◌, min}
 use mathlib.Core.Path.{◌≡◌, refl, sym, ap, subst, ◌∙◌}
 use mathlib.Core.Bool.{Bool, true, false}
@@ -11,7 +12,7 @@ use borrow.Author.Tests.{eq-eqb, ne_eqb}
 use Rattle.smbus_pec.specs.Pec.{pec_of}
 use Rattle.protocol.specs.Pick.{when◌then◌else◌}
 use Rattle.protocol.specs.Reply.{mac_ask, lead_of, around_of, bytes_asked, checked_of, heard_of, data_of}
-use Rattle.protocol.specs.declared.reply.Heard.TheVariants as heard
+use Rattle.protocol.specs.declared.reply.Unheard.TheVariants as unheard
 use Rattle.protocol.proofs.Cases.{not_eq}
 use Rattle.protocol.proofs.Shared.{laws}
 use Rattle.reading.specs.Parts.{block_ask}
@@ -51,7 +52,7 @@ module _ (gauge : Gauge) (flash : List ℕ) (pec : Bool) (left : ℕ) where
   cut_reply = take (bytes_asked (block_ask left pec)) (reply_of gauge flash)
 
 -- a reply that the gauge gives is believed
-pub reply_good : (gauge : Gauge) (flash : List ℕ) (pec : Bool) (left : ℕ) → heard_of (block_ask left pec) (cut_reply gauge flash pec left) ≡ heard.Good
+pub reply_good : (gauge : Gauge) (flash : List ℕ) (pec : Bool) (left : ℕ) → heard_of (block_ask left pec) (cut_reply gauge flash pec left) ≡ (Ok tt)
 unfolding heard_of block_ask mac_ask bytes_asked around_of lead_of when◌then◌else◌
 reply_good gauge flash true left =
     let whole : take 36 (reply_of gauge flash) ≡ reply_of gauge flash = take_all 36 (reply_of gauge flash) (omega (arith, reply_long gauge flash)) in
@@ -62,7 +63,7 @@ reply_good gauge flash false left =
 
 -- a reply of the number asked whose last byte is not its PEC is not
 pub reply_damaged : (left : ℕ) (front : List ℕ) (last : ℕ) → length front ≡ 35 → (pec_of 0 (0x16 ∷ 0x44 ∷ 0x17 ∷ front) ≡ last → ⊥)
-    → heard_of (block_ask left true) (front ++ (last ∷ [])) ≡ heard.WrongPec
+    → heard_of (block_ask left true) (front ++ (last ∷ [])) ≡ (Err unheard.WrongPec)
 unfolding block_ask mac_ask when◌then◌else◌
 reply_damaged left front last full other =
     let long : length (front ++ (last ∷ [])) ≡ 36 = length-append front (last ∷ []) ∙ rw full refl in

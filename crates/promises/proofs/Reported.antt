@@ -1,5 +1,7 @@
 -- A call that is fed is one that is reported to: each outcome is reported as the host lends it, until the call shows its answer or refuses the report.
 -- Assumes nothing.
+use Rattle.engine.specs.Bus.{Reported}
+use Rattle.std.specs.Prelude.{Err, Ok}
 use Prim.Native.Nat.{ℕ, suc, ◌+◌}
 use mathlib.Core.Path.{◌≡◌, refl, ap, ◌∙◌}
 use mathlib.Core.List.{List, [], ◌∷◌, map}
@@ -11,8 +13,6 @@ use Rattle.engine.specs.declared.bus.Transfer.{Transfer}
 use Rattle.engine.specs.declared.bus.Transfer.TheVariants as transfer
 use Rattle.calls.specs.Call.{next_of, work_after, part_of, report_of, buffer_after}
 use Rattle.calls.specs.declared.call.Call.{Call}
-use Rattle.calls.specs.declared.call.Reported.{Reported}
-use Rattle.calls.specs.declared.call.Reported.TheVariants as reported
 use Rattle.ceilings.specs.Reports.{Report, feed, accepted}
 use Rattle.waits.specs.Waits.{outcomes_of}
 use Rattle.original.specs.Bus.{BusOutcome, told}
@@ -49,9 +49,9 @@ module _ (payload : List ℕ) (lent : ℕ → Lending) where
           ≡ (came report_of call (told o) (bytes t) (length payload) (length buffer) (length shown)
           taken (λ next. fed_call next payload (buffer_after call (told o) (bytes t) buffer (length shown)) lent (suc i) os)
           refused (λ a. call))
-          → (u : Reported) → report_of call (told o) (bytes t) (length payload) (length buffer) (length shown) ≡ u → From payload lent (o ∷ os) call buffer i
-      on t made (reported.Refused a same) e = stops (o ∷ os) call buffer i (made ∙ rw e)
-      on t made (reported.Taken next) e =
+          → (u : Reported Call) → report_of call (told o) (bytes t) (length payload) (length buffer) (length shown) ≡ u → From payload lent (o ∷ os) call buffer i
+      on t made (Err (a, same)) e = stops (o ∷ os) call buffer i (made ∙ rw e)
+      on t made (Ok next) e =
           let on = rest next (buffer_after call (told o) (bytes t) buffer (length shown)) (suc i) in
           record {
             reports = record { outcome = told o; reply = bytes t; payload = length payload; buffer = length buffer; work = length shown } ∷ on.reports;

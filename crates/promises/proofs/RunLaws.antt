@@ -1,5 +1,7 @@
 -- A run over a course is a step for its first byte and a run over the rest: a step is one transfer, and keeps the flash's length.
 -- Assumes nothing.
+use Rattle.engine.specs.Bus.{Reported}
+use Rattle.std.specs.Prelude.{Err, Ok}
 use Prim.Native.Nat.{ℕ}
 use mathlib.Core.Path.{◌≡◌, refl, sym, ap, ◌∙◌}
 use mathlib.Core.Bool.{Bool, true, false}
@@ -17,8 +19,6 @@ use Rattle.engine.specs.declared.bus.Transfer.{Transfer}
 use Rattle.engine.specs.declared.bus.Transfer.TheVariants as transfer
 use Rattle.calls.specs.Call.{next_of, work_after, part_of, phase_of}
 use Rattle.calls.specs.declared.call.Call.{Call}
-use Rattle.calls.specs.declared.call.Reported.{Reported}
-use Rattle.calls.specs.declared.call.Reported.TheVariants as reported
 use Rattle.model_gauge.specs.Frame.{read_frame}
 use Rattle.model_gauge.specs.Gauge.{offset_of, Effect, heard_frame, acts, effect_of}
 use Rattle.model_gauge.specs.declared.frame.Form.{Form}
@@ -80,10 +80,10 @@ none_sound = refl
 
 -- ---- a step
 
-pub is_taken_so : (r : Reported) → taken_of r ≡ call_after r
+pub is_taken_so : (r : Reported Call) → taken_of r ≡ call_after r
 unfolding taken_of
-is_taken_so (reported.Refused a call) = refl
-is_taken_so (reported.Taken call) = refl
+is_taken_so (Err (a, call)) = refl
+is_taken_so (Ok call) = refl
 
 is_cut : (payload buffer work flash : List ℕ) (link : Link) → length flash ≡ 8192 → phase_of link.call ≡ phase.Waiting
     → LentAgain link.call (length payload) (length buffer) (length work)

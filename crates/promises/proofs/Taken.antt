@@ -1,5 +1,6 @@
 -- A call takes the outcome of the transfer that it shows, whatever it is, with as many bytes as were asked.
 -- Assumes nothing.
+use Rattle.std.specs.Prelude.{Ok}
 use Prim.Native.Nat.{ℕ}
 use mathlib.Core.Path.{◌≡◌, refl, sym, ap, subst, ◌∙◌}
 use mathlib.Core.Bool.{Bool, true, false}
@@ -19,15 +20,12 @@ use Rattle.engine.specs.declared.bus.Transfer.{Transfer}
 use Rattle.engine.specs.declared.bus.Transfer.TheVariants as transfer
 use Rattle.writing.specs.Writing as writing
 use Rattle.writing.specs.declared.call.WriteCall.{WriteCall}
-use Rattle.writing.specs.declared.call.WriteReported.TheVariants as wrote
 use Rattle.reading.specs.Pick.{case◌refused◌fault◌headed◌block◌}
 use Rattle.reading.specs.Reading as reading
 use Rattle.reading.specs.declared.call.ReadCall.{ReadCall}
-use Rattle.reading.specs.declared.call.ReadReported.TheVariants as got
 use Rattle.calls.specs.Call.{next_of, work_after, wrote_of, got_of, report_of, phase_of}
 use Rattle.calls.specs.declared.call.Call.{Call}
 use Rattle.calls.specs.declared.call.Call.TheVariants as call
-use Rattle.calls.specs.declared.call.Reported.TheVariants as reported
 use Rattle.original.specs.Bus.{brings}
 use Rattle.answers.specs.Rows.{Same, asked}
 use Rattle.answers.specs.Steps.{Shown, AsksNothing, AsksOf}
@@ -47,7 +45,7 @@ shown_w c payload work t e =
     ((again.writing c payload work).0 ∙ e) (shows_w c payload (writing.work_after c payload work))
 
 taken_w : (c : WriteCall) (o : Outcome) (r n w : ℕ) → c.phase ≡ phase.Waiting → Same c.task.lent n w → (o ≡ outcome.Acknowledged → r ≡ 0)
-    → writing.report_of c o r n w ≡ wrote.Taken (writing.settle_of (writing.counted_of c) o)
+    → writing.report_of c o r n w ≡ Ok (writing.settle_of (writing.counted_of c) o)
 unfolding writing.report_of writing.replied_of case◌waiting◌ended◌ case◌acknowledged◌error◌timeout◌ when◌then◌else◌
 taken_w c outcome.Acknowledged r n w p s h = rw (p, same_fits c.task.lent n w s, eq-eqb r 0 (h refl))
 taken_w c (outcome.BusError code) r n w p s h = rw (p, same_fits c.task.lent n w s)
@@ -63,7 +61,7 @@ shown_r c n work t e =
     ((again.reading c n work).0 ∙ e) (shows_r c n (reading.work_after c n work))
 
 module _ (c : ReadCall) (n w : ℕ) (p : c.phase ≡ phase.Waiting) (s : Same c.task.lent n w) where
-  fine : (bytes : List ℕ) → length bytes ≡ asked c → (next : ReadCall) × (reading.report_of c outcome.Acknowledged bytes n w ≡ got.Taken next)
+  fine : (bytes : List ℕ) → length bytes ≡ asked c → (next : ReadCall) × (reading.report_of c outcome.Acknowledged bytes n w ≡ Ok next)
   unfolding reading.report_of reading.judge_of reading.weigh_of reading.acknowledged_of reading.heard_head reading.heard_block reading.verdict_of reply.heard_of asked case◌waiting◌ended◌ case◌acknowledged◌error◌timeout◌ case◌refused◌fault◌headed◌block◌ when◌then◌else◌
   fine bytes long = by c.heading refl (reading.due_ask c).pec refl (reply.checked_of (reading.due_ask c).covered bytes) refl
     where
@@ -71,7 +69,7 @@ module _ (c : ReadCall) (n w : ℕ) (p : c.phase ≡ phase.Waiting) (s : Same c.
       asks heading = when heading then 0 else reply.bytes_asked (reading.due_ask c)
 
       by : (h : Bool) → c.heading ≡ h → (k : Bool) → (reading.due_ask c).pec ≡ k → (g : Bool) → reply.checked_of (reading.due_ask c).covered bytes ≡ g
-          → (next : ReadCall) × (reading.report_of c outcome.Acknowledged bytes n w ≡ got.Taken next)
+          → (next : ReadCall) × (reading.report_of c outcome.Acknowledged bytes n w ≡ Ok next)
       by true h k x g y =
           let none : length bytes ≡ 0 = long ∙ ap asks h in
           (reading.headed_of (reading.counted_of c), rw (none, same_fits c.task.lent n w s, h, p))
@@ -85,7 +83,7 @@ module _ (c : ReadCall) (n w : ℕ) (p : c.phase ≡ phase.Waiting) (s : Same c.
           let all : eqb (reply.bytes_asked (reading.due_ask c)) (length bytes) ≡ true = eq-eqb _ _ (sym (long ∙ ap asks h)) in
           (reading.fail_of (reading.counted_of c) answer.Pec, rw (all, x, y, same_fits c.task.lent n w s, h, p))
 
-  taken_r : (o : Outcome) (bytes : List ℕ) → (o ≡ outcome.Acknowledged → length bytes ≡ asked c) → (next : ReadCall) × (reading.report_of c o bytes n w ≡ got.Taken next)
+  taken_r : (o : Outcome) (bytes : List ℕ) → (o ≡ outcome.Acknowledged → length bytes ≡ asked c) → (next : ReadCall) × (reading.report_of c o bytes n w ≡ Ok next)
   unfolding reading.report_of reading.judge_of reading.weigh_of case◌waiting◌ended◌ case◌acknowledged◌error◌timeout◌ case◌refused◌fault◌headed◌block◌ when◌then◌else◌
   taken_r outcome.Acknowledged bytes long = fine bytes (long refl)
   taken_r (outcome.BusError code) bytes long = (reading.fail_of (reading.counted_of c) (answer.I2c code), rw (p, same_fits c.task.lent n w s))
@@ -103,7 +101,7 @@ shows_waits (call.Read c) payload buffer work made (shows_read command count sho
 
 -- and takes what becomes of it
 pub takes : (c : Call) (payload buffer work : List ℕ) (made : Made) → Shows c payload buffer work made → (o : Outcome) (bytes : List ℕ) → (o ≡ outcome.Acknowledged → length bytes ≡ brings made)
-    → (next : Call) × (report_of c o bytes (length payload) (length buffer) (length (work_after c payload (length buffer) work)) ≡ reported.Taken next)
+    → (next : Call) × (report_of c o bytes (length payload) (length buffer) (length (work_after c payload (length buffer) work)) ≡ Ok next)
 unfolding next_of work_after report_of wrote_of got_of brings asked when◌then◌else◌
 takes (call.Write c) payload buffer work made (shows_write n shows) o bytes long =
     let s = shown_w c payload work (transfer.Write n) shows in

@@ -1,8 +1,8 @@
 -- The case of a contract from the test that the code made: for each test, its two arms. `search cases` closes a return with them.
 -- Assumes nothing.
 use Prim.Native.Nat.{ℕ, ◌≤◌, ◌<◌}
-use mathlib.Core.Path.{◌≡◌, sym, ◌∙◌}
-use mathlib.Core.Bool.{Bool, true, false}
+use mathlib.Core.Path.{◌≡◌, refl, sym, ◌∙◌}
+use mathlib.Core.Bool.{Bool, true, false, not}
 use lib.Dec.{ltb, leb, eqb}
 use borrow.Author.Tests.{lt-ltb, le-ltb, le-leb, lt-leb, eq-eqb, ne_eqb}
 use Rattle.protocol.specs.Pick.{when◌then◌else◌}
@@ -48,8 +48,14 @@ module _ {A : Type 0} where
   pub flag_false : (f t : Bool) (x a b : A) → f ≡ t → f ≡ false → x ≡ b → x ≡ when◌then◌else◌ t a b
   flag_false f t x a b p e q = is_false t x a b (sym p ∙ e) q
 
+-- a test turned round
+pub negated : (t : Bool) → not t ≡ when◌then◌else◌ t false true
+unfolding when◌then◌else◌
+negated true = refl
+negated false = refl
+
 -- a test by itself
 pub ruleset tests = (lt-ltb, le-ltb, le-leb, lt-leb, eq-eqb, ne_eqb)
 
 -- a choice by a test
-pub ruleset cases = (yes_lt, not_lt, yes_le, not_le, yes_eq, not_eq, yes_eq_of, not_eq_of, is_true, is_false, flag_true, flag_false)
+pub ruleset cases = (yes_lt, not_lt, yes_le, not_le, yes_eq, not_eq, yes_eq_of, not_eq_of, is_true, is_false, flag_true, flag_false, negated)

@@ -17,9 +17,9 @@ use Rattle.protocol.specs.Laws.{Laws}
 use Rattle.protocol.specs.declared.common.Side.{Side}
 use Rattle.protocol.specs.declared.common.Side.TheVariants as side
 use Rattle.protocol.specs.declared.common.Config.{Config}
-use Rattle.protocol.specs.declared.frame.Laid.TheVariants.{Frame, NoRoom}
+use Rattle.std.specs.Prelude.{Some, None, Ok, Err}
 use Rattle.protocol.specs.declared.reply.Ask.{Ask}
-use Rattle.protocol.specs.declared.reply.Heard.TheVariants.{WrongLength, WrongPec, Good}
+use Rattle.protocol.specs.declared.reply.Unheard.TheVariants.{WrongLength, WrongPec}
 use Rattle.protocol.proofs.WindowLaws.{by_last}
 
 copies : (most k : ℕ) (block buffer : List ℕ) → k ≡ min most (min (length block) (length buffer)) → block_in most block buffer ≡ take k block ++ drop k buffer
@@ -42,27 +42,27 @@ unfolding send_of when◌then◌else◌
 sends payload work n = (refl, refl)
 
 lays : (pec : Bool) (frame work : List ℕ) → length frame < length work
-    → (laid_of pec frame (length work) ≡ Frame (length (sealed pec frame))) × (work_laid pec frame work ≡ sealed pec frame ++ drop (length (sealed pec frame)) work)
+    → (laid_of pec frame (length work) ≡ Some (length (sealed pec frame))) × (work_laid pec frame work ≡ sealed pec frame ++ drop (length (sealed pec frame)) work)
 unfolding laid_of work_laid over when◌then◌else◌
 lays pec frame work h = (rw (lt-ltb (length frame) (length work) h), rw (lt-ltb (length frame) (length work) h))
 
-no_room : (pec : Bool) (frame work : List ℕ) → length work ≤ length frame → (laid_of pec frame (length work) ≡ NoRoom) × (work_laid pec frame work ≡ work)
+no_room : (pec : Bool) (frame work : List ℕ) → length work ≤ length frame → (laid_of pec frame (length work) ≡ None) × (work_laid pec frame work ≡ work)
 unfolding laid_of work_laid when◌then◌else◌
 no_room pec frame work h = (rw (le-ltb (length frame) (length work) h), rw (le-ltb (length frame) (length work) h))
 
-wrong_length : (ask : Ask) (reply : List ℕ) → (bytes_asked ask ≡ length reply → ⊥) → heard_of ask reply ≡ WrongLength
+wrong_length : (ask : Ask) (reply : List ℕ) → (bytes_asked ask ≡ length reply → ⊥) → heard_of ask reply ≡ Err WrongLength
 unfolding heard_of when◌then◌else◌
 wrong_length ask reply h = rw (ne_eqb (bytes_asked ask) (length reply) h)
 
-wrong_pec : (ask : Ask) (reply : List ℕ) → bytes_asked ask ≡ length reply → ask.pec ≡ true → checked_of ask.covered reply ≡ false → heard_of ask reply ≡ WrongPec
+wrong_pec : (ask : Ask) (reply : List ℕ) → bytes_asked ask ≡ length reply → ask.pec ≡ true → checked_of ask.covered reply ≡ false → heard_of ask reply ≡ Err WrongPec
 unfolding heard_of when◌then◌else◌
 wrong_pec ask reply h p c = rw (eq-eqb (bytes_asked ask) (length reply) h, p, c)
 
-good : (ask : Ask) (reply : List ℕ) → bytes_asked ask ≡ length reply → (ask.pec ≡ true → checked_of ask.covered reply ≡ true) → heard_of ask reply ≡ Good
+good : (ask : Ask) (reply : List ℕ) → bytes_asked ask ≡ length reply → (ask.pec ≡ true → checked_of ask.covered reply ≡ true) → heard_of ask reply ≡ Ok tt
 unfolding heard_of when◌then◌else◌
 good ask reply h c = by ask.pec refl
   where
-    by : (t : Bool) → ask.pec ≡ t → heard_of ask reply ≡ Good
+    by : (t : Bool) → ask.pec ≡ t → heard_of ask reply ≡ Ok tt
     by true p = rw (eq-eqb (bytes_asked ask) (length reply) h, p, c p)
     by false p = rw (eq-eqb (bytes_asked ask) (length reply) h, p)
 

@@ -1,13 +1,11 @@
 -- The bytes of every frame. (01, Frames and retries)
 -- Assumes nothing.
-use Rattle.std.specs.Prelude.{ℕ, ◌+◌, ◌/◌, ◌%◌, Bool, List, [], ◌∷◌, ◌++◌, length, ltb}
+use Rattle.std.specs.Prelude.{ℕ, ◌+◌, ◌/◌, ◌%◌, Bool, List, [], ◌∷◌, ◌++◌, length, ltb, Option, Some, None}
 use Rattle.smbus_pec.specs.Pec.{pec_of}
 use Rattle.protocol.specs.Pick.{when◌then◌else◌}
 use Rattle.protocol.specs.Bytes.{over}
 use Rattle.protocol.specs.declared.frame.MacCommand.{MacCommand}
 use Rattle.protocol.specs.declared.frame.MacCommand.TheVariants.{SecurityKeys, AuthenticationKey, ChargingVoltageOverride, MfgInfoC}
-use Rattle.protocol.specs.declared.frame.Laid.{Laid}
-use Rattle.protocol.specs.declared.frame.Laid.TheVariants.{Frame, NoRoom}
 
 -- the PEC of a write covers 16 hex and the frame
 unfoldable pub sealed : Bool → List ℕ → List ℕ
@@ -40,9 +38,9 @@ register_bytes address bytes = address ∷ bytes
 unfoldable pub info_bytes : List ℕ → List ℕ
 info_bytes bytes = 0x70 ∷ length bytes % 256 ∷ bytes
 
--- a work buffer of w bytes takes a frame where the frame and a PEC have room
-unfoldable pub laid_of : Bool → List ℕ → ℕ → Laid
-laid_of pec f w = when ltb (length f) w then Frame (length (sealed pec f)) else NoRoom
+-- a work buffer of w bytes takes a frame where the frame and a PEC have room; how long it is then
+unfoldable pub laid_of : Bool → List ℕ → ℕ → Option ℕ
+laid_of pec f w = when ltb (length f) w then Some (length (sealed pec f)) else None
 
 unfoldable pub work_laid : Bool → List ℕ → List ℕ → List ℕ
 work_laid pec f work = when ltb (length f) (length work) then over (sealed pec f) work else work

@@ -1,7 +1,7 @@
 -- What the parts that all calls share come to, in plain lists and numbers: the window, the block copier, how many blocks there are, the part to send, the one
 -- builder, the fixed pairs, when a reply is believed; and what the settings have on each side. (01, The step machine; Frames and retries; 02, W-211)
 -- Assumes nothing.
-use Rattle.std.specs.Prelude.{ℕ, ◌+◌, ◌*◌, ◌≤◌, ◌<◌, min, ◌≡◌, Bool, true, false, List, [], ◌∷◌, ◌++◌, length, take, drop}
+use Rattle.std.specs.Prelude.{ℕ, ◌+◌, ◌*◌, ◌≤◌, ◌<◌, min, ◌≡◌, Bool, true, false, List, [], ◌∷◌, ◌++◌, length, take, drop, Some, None, Ok, Err}
 use Rattle.smbus_pec.specs.Pec.{pec_of}
 use Rattle.protocol.specs.Common.{retries_on, pec_on}
 use Rattle.protocol.specs.Bytes.{block_in, stored_at, blocks_of, send_of}
@@ -10,10 +10,9 @@ use Rattle.protocol.specs.Reply.{bytes_asked, checked_of, heard_of}
 use Rattle.protocol.specs.Window.{window_first, window_last, window_size, window_end, in_window, in_window_by_last}
 use Rattle.protocol.specs.declared.common.Side.TheVariants as side
 use Rattle.protocol.specs.declared.common.Config.{Config}
-use Rattle.protocol.specs.declared.frame.Laid.TheVariants.{Frame, NoRoom}
 use Rattle.protocol.specs.declared.frame.MacCommand.TheVariants.{SecurityKeys, AuthenticationKey, ChargingVoltageOverride, MfgInfoC}
 use Rattle.protocol.specs.declared.reply.Ask.{Ask}
-use Rattle.protocol.specs.declared.reply.Heard.TheVariants.{WrongLength, WrongPec, Good}
+use Rattle.protocol.specs.declared.reply.Unheard.TheVariants.{WrongLength, WrongPec}
 
 pub record Laws : Type 0 where
   -- 6000 hex is the first address plus the size, and the address after the last
@@ -33,16 +32,16 @@ pub record Laws : Type 0 where
   pub seals : (frame : List ℕ) → (sealed true frame ≡ frame ++ (pec_of 0 (0x16 ∷ frame) ∷ [])) × (sealed false frame ≡ frame)
   -- a frame that has room beside a PEC is laid over the front of the work buffer; one that has none is not
   pub lays : (pec : Bool) (frame work : List ℕ) → length frame < length work
-      → (laid_of pec frame (length work) ≡ Frame (length (sealed pec frame))) × (work_laid pec frame work ≡ sealed pec frame ++ drop (length (sealed pec frame)) work)
-  pub no_room : (pec : Bool) (frame work : List ℕ) → length work ≤ length frame → (laid_of pec frame (length work) ≡ NoRoom) × (work_laid pec frame work ≡ work)
+      → (laid_of pec frame (length work) ≡ Some (length (sealed pec frame))) × (work_laid pec frame work ≡ sealed pec frame ++ drop (length (sealed pec frame)) work)
+  pub no_room : (pec : Bool) (frame work : List ℕ) → length work ≤ length frame → (laid_of pec frame (length work) ≡ None) × (work_laid pec frame work ≡ work)
   -- the fixed pairs
   pub pairs :
       (fixed_pair SecurityKeys ≡ 0x35 ∷ 0x00 ∷ []) × (fixed_pair AuthenticationKey ≡ 0x37 ∷ 0x00 ∷ [])
       × (fixed_pair ChargingVoltageOverride ≡ 0xB0 ∷ 0x00 ∷ []) × (fixed_pair MfgInfoC ≡ 0x7B ∷ 0x00 ∷ [])
   -- a reply of another length than was asked, one of that length whose PEC differs, and any other
-  pub wrong_length : (ask : Ask) (reply : List ℕ) → (bytes_asked ask ≡ length reply → ⊥) → heard_of ask reply ≡ WrongLength
-  pub wrong_pec : (ask : Ask) (reply : List ℕ) → bytes_asked ask ≡ length reply → ask.pec ≡ true → checked_of ask.covered reply ≡ false → heard_of ask reply ≡ WrongPec
-  pub good : (ask : Ask) (reply : List ℕ) → bytes_asked ask ≡ length reply → (ask.pec ≡ true → checked_of ask.covered reply ≡ true) → heard_of ask reply ≡ Good
+  pub wrong_length : (ask : Ask) (reply : List ℕ) → (bytes_asked ask ≡ length reply → ⊥) → heard_of ask reply ≡ Err WrongLength
+  pub wrong_pec : (ask : Ask) (reply : List ℕ) → bytes_asked ask ≡ length reply → ask.pec ≡ true → checked_of ask.covered reply ≡ false → heard_of ask reply ≡ Err WrongPec
+  pub good : (ask : Ask) (reply : List ℕ) → bytes_asked ask ≡ length reply → (ask.pec ≡ true → checked_of ask.covered reply ≡ true) → heard_of ask reply ≡ Ok tt
   -- a side has its own budget and its own PEC, as they stand in the settings
   pub sides : (config : Config)
       → (retries_on config side.Write ≡ config.max_write_retries) × (retries_on config side.Read ≡ config.max_read_retries)

@@ -1,11 +1,11 @@
 -- What a read asks for, and what its reply must look like. (01, Frames and retries)
 -- Assumes nothing.
-use Rattle.std.specs.Prelude.{ℕ, ◌+◌, ◌-◌, min, Bool, true, false, List, ◌∷◌, length, take, drop, get_or, eqb}
+use Rattle.std.specs.Prelude.{ℕ, ◌+◌, ◌-◌, min, Bool, true, false, List, ◌∷◌, length, take, drop, get_or, eqb, Result, Ok, Err}
 use Rattle.smbus_pec.specs.Pec.{pec_of}
 use Rattle.protocol.specs.Pick.{when◌then◌else◌}
 use Rattle.protocol.specs.declared.reply.Ask.{Ask}
-use Rattle.protocol.specs.declared.reply.Heard.{Heard}
-use Rattle.protocol.specs.declared.reply.Heard.TheVariants.{WrongLength, WrongPec, Good}
+use Rattle.protocol.specs.declared.reply.Unheard.{Unheard}
+use Rattle.protocol.specs.declared.reply.Unheard.TheVariants.{WrongLength, WrongPec}
 
 -- a plain read: the reply is data, and the PEC covers the command that was sent
 unfoldable pub plain_ask : ℕ → ℕ → Bool → Ask
@@ -34,11 +34,11 @@ checked_of covered reply =
     else eqb (pec_of 0 (0x16 ∷ covered ∷ 0x17 ∷ take (length reply - 1) reply)) (get_or reply (length reply - 1) 0)
 
 -- a reply is of the number asked, and then believed where its PEC agrees or none was asked
-unfoldable pub heard_of : Ask → List ℕ → Heard
+unfoldable pub heard_of : Ask → List ℕ → Result (Unit {0}) Unheard
 heard_of ask reply =
     when eqb (bytes_asked ask) (length reply) then
-    (when ask.pec then (when checked_of ask.covered reply then Good else WrongPec) else Good)
-    else WrongLength
+    (when ask.pec then (when checked_of ask.covered reply then Ok tt else Err WrongPec) else Ok tt)
+    else Err WrongLength
 
 -- the data of a reply
 unfoldable pub data_of : Ask → List ℕ → List ℕ

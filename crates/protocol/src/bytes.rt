@@ -1,25 +1,14 @@
 // Parts of slices, and what is copied from one to another.
-ghost use Rattle.std.specs.Prelude.{◌≡◌, ◌≤◌, min, length, take, drop};
+ghost use Rattle.std.specs.Prelude.{◌≡◌, ◌≤◌, length, take, drop};
 ghost use Rattle.protocol.specs.Bytes.{over, block_in, stored_at, send_of, blocks_of, block_start};
 
 use crate::consts::LARGEST_DF_BLOCK_SIZE_BYTES;
-
-// The smaller of two numbers.
-pub fn least(a: usize, b: usize) -> usize
-    ensures { result ≡ min a b }
-{
-    if a < b { a } else { b }
-}
 
 // How many blocks of 32 so many bytes have, the last perhaps short.
 pub fn blocks(len: usize) -> usize
     ensures { result ≡ blocks_of len }
 {
-    if len % LARGEST_DF_BLOCK_SIZE_BYTES == 0 {
-        len / LARGEST_DF_BLOCK_SIZE_BYTES
-    } else {
-        len / LARGEST_DF_BLOCK_SIZE_BYTES + 1
-    }
+    len.div_ceil(LARGEST_DF_BLOCK_SIZE_BYTES)
 }
 
 // Where block i of 32 bytes starts.
@@ -33,29 +22,28 @@ pub fn block_start(i: u32) -> usize
 pub fn front(s: &[u8], n: usize) -> &[u8]
     ensures { result.now ≡ take n s.now }
 {
-    if n < s.len() { &s[..n] } else { s }
+    &s[..n.min(s.len())]
+}
+
+// What follows the first `at` bytes of a slice.
+pub fn rest(s: &[u8], at: usize) -> &[u8]
+    ensures { result.now ≡ drop at s.now }
+{
+    &s[at.min(s.len())..]
 }
 
 // Up to `most` bytes of a slice from `at` on.
 pub fn block(s: &[u8], at: usize, most: usize) -> &[u8]
     ensures { result.now ≡ take most (drop at s.now) }
 {
-    if s.len() <= at {
-        return &s[..0];
-    }
-    let end = at + least(most, s.len() - at);
-    &s[at..end]
+    front(rest(s, at), most)
 }
 
 // The part to send, n bytes long: what was built in the work buffer, or, of a plain write with `pec_write` off, the caller's own bytes.
 pub fn to_send<'a>(payload: &'a [u8], work: &'a [u8], built: bool, n: usize) -> &'a [u8]
     ensures { result.now ≡ send_of payload.now work.now built n }
 {
-    if built {
-        front(work, n)
-    } else {
-        front(payload, n)
-    }
+    front(if built { work } else { payload }, n)
 }
 
 // All of src over the front of dst.
@@ -63,18 +51,14 @@ pub(crate) fn copy(dst: &mut [u8], src: &[u8])
     requires { length src.now ≤ length dst.old }
     ensures { dst.new ≡ over src.now dst.old }
 {
-    let mut i = 0;
-    while i < src.len() {
-        dst[i] = src[i];
-        i += 1;
-    }
+    dst[..src.len()].copy_from_slice(src);
 }
 
 // A block over the front of what is lent: at most `most` bytes of it, and no more than there is room for.
 pub fn copy_block(buf: &mut [u8], block: &[u8], most: usize)
     ensures { buf.new ≡ block_in most block.now buf.old }
 {
-    let n = least(most, least(block.len(), buf.len()));
+    let n = most.min(block.len().min(buf.len()));
     copy(buf, front(block, n));
 }
 

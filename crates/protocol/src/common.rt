@@ -5,7 +5,7 @@ ghost use Rattle.protocol.specs.Common.{default_config, retries_on, pec_on};
 use crate::consts::DEFAULT_BUS_RETRIES;
 
 // The side of the settings that a call goes by, with all its frames.
-#[derive(Clone, Copy)]
+#[derive(Clone, Copy, Debug, PartialEq, Eq)]
 pub enum Side {
     // What writes, and reads nothing.
     Write,
@@ -14,7 +14,7 @@ pub enum Side {
 }
 
 // What the driver is set to: on each side the retries after a failed attempt and whether a PEC is carried, and whether the waits between attempts grow.
-#[derive(Clone, Copy)]
+#[derive(Clone, Copy, Debug, PartialEq, Eq)]
 pub struct Config {
     pub max_write_retries: u16,
     pub max_read_retries: u16,

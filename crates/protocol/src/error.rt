@@ -3,7 +3,7 @@ ghost use Rattle.std.specs.Prelude.{◌≡◌};
 ghost use Rattle.protocol.specs.Answer.{number_of, detail_of};
 
 // How a call ended, or why it or a line was refused: a variant for each row of the table, under the Rust's name where it has one.
-#[derive(Clone, Copy)]
+#[derive(Clone, Copy, Debug, PartialEq, Eq)]
 pub enum Answer {
     // The call ended well.
     Done,
@@ -45,7 +45,7 @@ impl Answer {
             Answer::Pec => 3,
             Answer::DataTooLarge => 4,
             Answer::DataFlashAddressOutOfRange => 5,
-            Answer::PartialDataFlashWrite { committed: _ } => 6,
+            Answer::PartialDataFlashWrite { .. } => 6,
             Answer::NotACommand => 7,
             Answer::WrongBuffer => 8,
             Answer::WrongReply => 9,
@@ -62,17 +62,7 @@ impl Answer {
         match self {
             Answer::I2c(code) => code as usize,
             Answer::PartialDataFlashWrite { committed } => committed,
-            Answer::Done => 0,
-            Answer::Timeout => 0,
-            Answer::Pec => 0,
-            Answer::DataTooLarge => 0,
-            Answer::DataFlashAddressOutOfRange => 0,
-            Answer::NotACommand => 0,
-            Answer::WrongBuffer => 0,
-            Answer::WrongReply => 0,
-            Answer::NothingOutstanding => 0,
-            Answer::BadLine => 0,
-            Answer::RetiredKind => 0,
+            _ => 0,
         }
     }
 }

@@ -1,4 +1,5 @@
-// Frames, each laid at the front of a lent work buffer with nothing else changed there. One builder serves them all.
+// Frames, each laid at the front of a lent work buffer with nothing else changed there. One builder serves them all. What comes back is the frame's length,
+// or none where the work buffer has no room for it.
 ghost use Rattle.std.specs.Prelude.{◌≡◌, ◌++◌, ◌+◌, ◌<◌, ◌≤◌, length, take, drop, ltb};
 ghost use Rattle.protocol.specs.Bytes.{over};
 ghost use Rattle.protocol.specs.Frame.{sealed, laid_of, work_laid, pair_of, mac_bytes, command_bytes, register_bytes, info_bytes, fixed_pair};
@@ -8,13 +9,6 @@ use crate::consts::{
     AUTH_KEY_CMD, CHRG_VOLTAGE_OVERRIDE_CMD, MAC_CMD, MAC_CMD_ADDR_SIZE_BYTES, MFG_INFO_C_CMD,
     MFG_INFO_CMD, SECURITY_KEYS_CMD,
 };
-
-// What came of laying a frame: its length, or that the work buffer has no room for it.
-#[derive(Clone, Copy)]
-pub enum Laid {
-    Frame(usize),
-    NoRoom,
-}
 
 // The PEC of the byte 16 hex, with which every write opens.
 const PEC_OF_WRITE_ADDRESS: u8 = 0x62;
@@ -34,8 +28,7 @@ fn seal(work: &mut [u8], n: usize, pec: bool) -> usize
     ensures { (result ≡ length (sealed pec (take n work.old))) × (work.new ≡ over (sealed pec (take n work.old)) work.old) }
 {
     if pec {
-        let check = smbus_pec::pec(PEC_OF_WRITE_ADDRESS, &work[..n]);
-        work[n] = check;
+        work[n] = smbus_pec::pec(PEC_OF_WRITE_ADDRESS, &work[..n]);
         n + 1
     } else {
         n
@@ -57,63 +50,63 @@ fn build(work: &mut [u8], lead: &[u8], pair: &[u8], body: &[u8], pec: bool) -> u
 fn room(work: usize, lead: usize, pair: usize, body: usize) -> bool
     ensures { result ≡ ltb (lead + pair + body) work }
 {
-    if work <= lead {
-        return false;
-    }
-    if work - lead <= pair {
-        return false;
-    }
-    if work - lead - pair <= body {
-        return false;
-    }
-    true
+    lead.saturating_add(pair).saturating_add(body) < work
 }
 
 // The one builder: a lead, a pair and the body, each perhaps empty, and the PEC where it is on.
-fn lay(work: &mut [u8], lead: &[u8], pair: &[u8], body: &[u8], pec: bool) -> Laid
+fn lay(work: &mut [u8], lead: &[u8], pair: &[u8], body: &[u8], pec: bool) -> Option<usize>
     ensures { (result ≡ laid_of pec (lead.now ++ pair.now ++ body.now) (length work.old)) × (work.new ≡ work_laid pec (lead.now ++ pair.now ++ body.now) work.old) }
 {
     if room(work.len(), lead.len(), pair.len(), body.len()) {
-        Laid::Frame(build(work, lead, pair, body, pec))
+        Some(build(work, lead, pair, body, pec))
     } else {
-        Laid::NoRoom
+        None
     }
 }
 
 // A frame that the caller built: its bytes as they are.
-pub fn lay_plain(work: &mut [u8], body: &[u8], pec: bool) -> Laid
+pub fn lay_plain(work: &mut [u8], body: &[u8], pec: bool) -> Option<usize>
     ensures { (result ≡ laid_of pec body.now (length work.old)) × (work.new ≡ work_laid pec body.now work.old) }
 {
     lay(work, b"", b"", body, pec)
 }
 
 // A register or buffer write: its address, then the data.
-pub fn lay_register(work: &mut [u8], address: u8, body: &[u8], pec: bool) -> Laid
+pub fn lay_register(work: &mut [u8], address: u8, body: &[u8], pec: bool) -> Option<usize>
     ensures { (result ≡ laid_of pec (register_bytes address body.now) (length work.old)) × (work.new ≡ work_laid pec (register_bytes address body.now) work.old) }
 {
-    let lead = [address];
-    lay(work, &lead, b"", body, pec)
+    lay(work, &[address], b"", body, pec)
 }
 
 // Manufacturer info: its command, the length, the data.
-pub fn lay_info(work: &mut [u8], body: &[u8], pec: bool) -> Laid
+pub fn lay_info(work: &mut [u8], body: &[u8], pec: bool) -> Option<usize>
     ensures { (result ≡ laid_of pec (info_bytes body.now) (length work.old)) × (work.new ≡ work_laid pec (info_bytes body.now) work.old) }
 {
-    let lead = [MFG_INFO_CMD, (body.len() % 256) as u8];
-    lay(work, &lead, b"", body, pec)
+    lay(
+        work,
+        &[MFG_INFO_CMD, (body.len() % 256) as u8],
+        b"",
+        body,
+        pec,
+    )
 }
 
 // A command: bits 23..16 of its address, the count 2, bits 15..8, bits 7..0.
-pub fn lay_command(work: &mut [u8], address: u32, pec: bool) -> Laid
+pub fn lay_command(work: &mut [u8], address: u32, pec: bool) -> Option<usize>
     ensures { (result ≡ laid_of pec (command_bytes address) (length work.old)) × (work.new ≡ work_laid pec (command_bytes address) work.old) }
 {
-    let lead = [(address / 65536 % 256) as u8, MAC_CMD_ADDR_SIZE_BYTES];
-    let pair = [(address / 256 % 256) as u8, (address % 256) as u8];
-    lay(work, &lead, &pair, b"", pec)
+    let [low, middle, high, _] = address.to_le_bytes();
+    lay(
+        work,
+        &[high, MAC_CMD_ADDR_SIZE_BYTES],
+        &[middle, low],
+        b"",
+        pec,
+    )
 }
 
 // A MAC frame: 44, the count of what follows, a command pair, the data.
-fn lay_mac(work: &mut [u8], pair: &[u8], body: &[u8], pec: bool) -> Laid
+fn lay_mac(work: &mut [u8], pair: &[u8], body: &[u8], pec: bool) -> Option<usize>
     ensures { (result ≡ laid_of pec (mac_bytes pair.now body.now) (length work.old)) × (work.new ≡ work_laid pec (mac_bytes pair.now body.now) work.old) }
 {
     let lead = [MAC_CMD, ((body.len() + 2) % 256) as u8];
@@ -121,15 +114,14 @@ fn lay_mac(work: &mut [u8], pair: &[u8], body: &[u8], pec: bool) -> Laid
 }
 
 // A MAC frame whose pair is a number, low byte first: a data-flash block at its address, the address alone, or half of an access key.
-pub fn lay_number(work: &mut [u8], number: usize, body: &[u8], pec: bool) -> Laid
+pub fn lay_number(work: &mut [u8], number: usize, body: &[u8], pec: bool) -> Option<usize>
     ensures { (result ≡ laid_of pec (mac_bytes (pair_of number) body.now) (length work.old)) × (work.new ≡ work_laid pec (mac_bytes (pair_of number) body.now) work.old) }
 {
-    let pair = [(number % 256) as u8, (number / 256 % 256) as u8];
-    lay_mac(work, &pair, body, pec)
+    lay_mac(work, &number.to_le_bytes()[..2], body, pec)
 }
 
 // The MAC commands that have a fixed pair.
-#[derive(Clone, Copy)]
+#[derive(Clone, Copy, Debug, PartialEq, Eq)]
 pub enum MacCommand {
     SecurityKeys,
     AuthenticationKey,
@@ -137,16 +129,23 @@ pub enum MacCommand {
     MfgInfoC,
 }
 
-// A MAC frame of such a command: its pair is a fixed string.
-pub fn lay_fixed(work: &mut [u8], command: MacCommand, body: &[u8], pec: bool) -> Laid
+impl MacCommand {
+    // The command's pair, a fixed string.
+    fn pair(self) -> [u8; 2]
+        ensures { result ≡ fixed_pair self }
+    {
+        match self {
+            MacCommand::SecurityKeys => SECURITY_KEYS_CMD,
+            MacCommand::AuthenticationKey => AUTH_KEY_CMD,
+            MacCommand::ChargingVoltageOverride => CHRG_VOLTAGE_OVERRIDE_CMD,
+            MacCommand::MfgInfoC => MFG_INFO_C_CMD,
+        }
+    }
+}
+
+// A MAC frame of such a command.
+pub fn lay_fixed(work: &mut [u8], command: MacCommand, body: &[u8], pec: bool) -> Option<usize>
     ensures { (result ≡ laid_of pec (mac_bytes (fixed_pair command) body.now) (length work.old)) × (work.new ≡ work_laid pec (mac_bytes (fixed_pair command) body.now) work.old) }
 {
-    match command {
-        MacCommand::SecurityKeys => lay_mac(work, &SECURITY_KEYS_CMD, body, pec),
-        MacCommand::AuthenticationKey => lay_mac(work, &AUTH_KEY_CMD, body, pec),
-        MacCommand::ChargingVoltageOverride => {
-            lay_mac(work, &CHRG_VOLTAGE_OVERRIDE_CMD, body, pec)
-        }
-        MacCommand::MfgInfoC => lay_mac(work, &MFG_INFO_C_CMD, body, pec),
-    }
+    lay_mac(work, &command.pair(), body, pec)
 }

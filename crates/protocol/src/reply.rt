@@ -1,12 +1,12 @@
 // What a read asks for, and what its reply must look like, for all reads.
-ghost use Rattle.std.specs.Prelude.{◌≡◌, ◌+◌, min};
+ghost use Rattle.std.specs.Prelude.{◌≡◌};
 ghost use Rattle.protocol.specs.Reply.{plain_ask, mac_ask, lead_of, around_of, bytes_asked, checked_of, heard_of, data_of};
 
 use crate::bytes;
 use crate::consts::{BQ_ADDR, MAC_CMD};
 
 // A read as it goes out, and how its reply is laid out.
-#[derive(Clone, Copy)]
+#[derive(Clone, Copy, Debug, PartialEq, Eq)]
 pub struct Ask {
     // The command byte that is sent.
     pub command: u8,
@@ -20,38 +20,24 @@ pub struct Ask {
     pub pec: bool,
 }
 
-// What a reply comes to.
-#[derive(Clone, Copy)]
-pub enum Heard {
+// Why a reply is not believed.
+#[derive(Clone, Copy, Debug, PartialEq, Eq)]
+pub enum Unheard {
     // Its length is not the number asked.
     WrongLength,
     // Its PEC differs.
     WrongPec,
-    // It is believed.
-    Good,
-}
-
-// A sum that stays at the largest number.
-fn plus(n: usize, more: usize) -> usize
-    ensures { result ≡ min (n + more) 18446744073709551615 }
-{
-    if n < 18446744073709551615 - more {
-        n + more
-    } else {
-        18446744073709551615
-    }
 }
 
 // Whether the last byte of a reply is the PEC of 16, the command, 17 and what came before it.
 fn checked(covered: u8, reply: &[u8]) -> bool
     ensures { result ≡ checked_of covered reply.now }
 {
-    if reply.len() == 0 {
+    let Some((&last, data)) = reply.split_last() else {
         return false;
-    }
-    let last = reply.len() - 1;
+    };
     let opening = [BQ_ADDR * 2, covered, BQ_ADDR * 2 + 1];
-    smbus_pec::pec(smbus_pec::pec(0, &opening), &reply[..last]) == reply[last]
+    smbus_pec::pec(smbus_pec::pec(0, &opening), data) == last
 }
 
 impl Ask {
@@ -103,26 +89,20 @@ impl Ask {
     pub fn count(self) -> usize
         ensures { result ≡ bytes_asked self }
     {
-        plus(self.wanted, self.around())
+        self.wanted.saturating_add(self.around())
     }
 
     // Whether a reply is believed.
-    pub fn hear(self, reply: &[u8]) -> Heard
+    pub fn hear(self, reply: &[u8]) -> Result<(), Unheard>
         ensures { result ≡ heard_of self reply.now }
     {
-        if self.count() == reply.len() {
-            if self.pec {
-                if checked(self.covered, reply) {
-                    Heard::Good
-                } else {
-                    Heard::WrongPec
-                }
-            } else {
-                Heard::Good
-            }
-        } else {
-            Heard::WrongLength
+        if self.count() != reply.len() {
+            return Err(Unheard::WrongLength);
         }
+        if self.pec && !checked(self.covered, reply) {
+            return Err(Unheard::WrongPec);
+        }
+        Ok(())
     }
 
     // The data of a reply.

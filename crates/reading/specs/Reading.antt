@@ -1,6 +1,6 @@
 -- A reading call, step by step. (01, The step machine; Frames and retries)
 -- Assumes nothing.
-use Rattle.std.specs.Prelude.{ℕ, false, List, length, eqb}
+use Rattle.std.specs.Prelude.{ℕ, false, List, length, eqb, Result, Ok, Err}
 use Rattle.protocol.specs.Pick.{when◌then◌else◌}
 use Rattle.protocol.specs.Common.{retries_on, pec_on}
 use Rattle.protocol.specs.Bytes.{stored_at, block_start}
@@ -11,11 +11,11 @@ use Rattle.protocol.specs.declared.error.Answer.{Answer}
 use Rattle.protocol.specs.declared.error.Answer.TheVariants as answer
 use Rattle.protocol.specs.declared.frame.MacCommand.{MacCommand}
 use Rattle.protocol.specs.declared.reply.Ask.{Ask}
-use Rattle.protocol.specs.declared.reply.Heard.{Heard}
-use Rattle.protocol.specs.declared.reply.Heard.TheVariants as heard
+use Rattle.protocol.specs.declared.reply.Unheard.{Unheard}
+use Rattle.protocol.specs.declared.reply.Unheard.TheVariants as unheard
 use Rattle.engine.specs.Pick.{case◌waiting◌ended◌, case◌acknowledged◌error◌timeout◌, case◌retry◌spent◌}
 use Rattle.engine.specs.Budget.{failed, more_of, nothing, waited, tallied}
-use Rattle.engine.specs.Bus.{write_of, phase_after, fits_of}
+use Rattle.engine.specs.Bus.{Reported, write_of, phase_after, fits_of}
 use Rattle.engine.specs.Limit.{admitted}
 use Rattle.engine.specs.declared.budget.Budget.{Budget}
 use Rattle.engine.specs.declared.bus.Outcome.{Outcome}
@@ -33,8 +33,6 @@ use Rattle.reading.specs.declared.call.ReadPlan.{ReadPlan}
 use Rattle.reading.specs.declared.call.ReadCall.{ReadCall}
 use Rattle.reading.specs.declared.call.Verdict.{Verdict}
 use Rattle.reading.specs.declared.call.Verdict.TheVariants as verdict
-use Rattle.reading.specs.declared.call.ReadReported.{ReadReported}
-use Rattle.reading.specs.declared.call.ReadReported.TheVariants as reported
 
 -- by the settings' waits and, on the side of its reads, their retries and PEC: its head goes by the budget of its reads (02, W-211)
 abbrev pub plan_of : Config → Limit → Head → Reads → ReadPlan
@@ -153,10 +151,10 @@ unfoldable pub heard_head : ℕ → Verdict
 heard_head r = when eqb r 0 then verdict.Head else verdict.Refused answer.WrongReply
 
 -- an acknowledged read: 9, a failed attempt with 3, or a block
-unfoldable pub verdict_of : Heard → Verdict
-verdict_of heard.WrongLength = verdict.Refused answer.WrongReply
-verdict_of heard.WrongPec = verdict.Failed answer.Pec
-verdict_of heard.Good = verdict.Block
+unfoldable pub verdict_of : Result (Unit {0}) Unheard → Verdict
+verdict_of (Err unheard.WrongLength) = verdict.Refused answer.WrongReply
+verdict_of (Err unheard.WrongPec) = verdict.Failed answer.Pec
+verdict_of (Ok done) = verdict.Block
 
 unfoldable pub heard_block : Ask → List ℕ → Verdict
 heard_block ask reply = verdict_of (heard_of ask reply)
@@ -196,13 +194,13 @@ counted_of call = record {
 }
 
 -- refused, or taken and counted
-unfoldable pub report_of : ReadCall → Outcome → List ℕ → ℕ → ℕ → ReadReported
+unfoldable pub report_of : ReadCall → Outcome → List ℕ → ℕ → ℕ → Reported ReadCall
 report_of call o reply n w =
     case judge_of call o reply n w
-    refused (λ why. reported.Refused why call)
-    fault (λ why. reported.Taken (fail_of (counted_of call) why))
-    headed reported.Taken (headed_of (counted_of call))
-    block reported.Taken (advance_of (counted_of call))
+    refused (λ why. Err (why, call))
+    fault (λ why. Ok (fail_of (counted_of call) why))
+    headed Ok (headed_of (counted_of call))
+    block Ok (advance_of (counted_of call))
 
 -- only a block that is believed changes the buffer
 unfoldable pub buffer_after : ReadCall → Outcome → List ℕ → List ℕ → ℕ → List ℕ

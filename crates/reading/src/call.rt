@@ -1,21 +1,22 @@
 // The call itself: start, next transfer, report of an outcome.
 ghost use Rattle.std.specs.Prelude.{◌≡◌, length, take};
+ghost use Rattle.engine.specs.Bus.{phase_after};
+ghost use Rattle.reading.specs.Parts.{read_count};
 ghost use Rattle.reading.specs.Reading.{plan_of, plain_plan, mac_plan, start_of, due_ask, shown_head, work_head, shown_of, work_shown, next_of, work_after, headed_of, advance_of, retry_of, end_of, fail_of, heard_head, heard_block, acknowledged_of, weigh_of, judge_of, stored_of, counted_of, report_of, buffer_after};
 
 use crate::parts::{Head, Reads};
-use engine::budget;
-use engine::budget::{Budget, Failed, Tally};
-use engine::bus::{Lent, Outcome, Phase, Transfer};
+use engine::budget::{Budget, Tally};
+use engine::bus::{Lent, Outcome, Phase, Reported, Task, Transfer};
 use engine::limit::Limit;
 use protocol::bytes;
 use protocol::common::Config;
 use protocol::consts::MAC_CMD;
 use protocol::error::Answer;
 use protocol::frame::MacCommand;
-use protocol::reply::{Ask, Heard};
+use protocol::reply::{Ask, Unheard};
 
 // What a reading call is: its retries and whether its waits grow, what it asks of the buffer's length, its head and whether that carries a PEC, and its reads.
-#[derive(Clone, Copy)]
+#[derive(Clone, Copy, Debug, PartialEq, Eq)]
 pub struct ReadPlan {
     pub retries: u16,
     pub growing: bool,
@@ -61,17 +62,11 @@ impl ReadPlan {
     }
 }
 
-// What does not change while a reading call runs: the plan, and the lengths of buffer and work buffer at the start.
-#[derive(Clone, Copy)]
-pub struct ReadTask {
-    pub plan: ReadPlan,
-    pub lent: Lent,
-}
-
 // A reading call. It goes in by value and comes back.
-#[derive(Clone, Copy)]
+#[derive(Clone, Copy, Debug, PartialEq, Eq)]
 pub struct ReadCall {
-    pub task: ReadTask,
+    // The plan, and the lengths of buffer and work buffer at the start.
+    pub task: Task<ReadPlan>,
     pub phase: Phase,
     // Whether the head is due, and not a read.
     pub heading: bool,
@@ -83,7 +78,7 @@ pub struct ReadCall {
 }
 
 // What a reported outcome comes to, before anything is changed.
-#[derive(Clone, Copy)]
+#[derive(Clone, Copy, Debug, PartialEq, Eq)]
 pub enum Verdict {
     // Refused: the call stays as it is.
     Refused(Answer),
@@ -93,15 +88,6 @@ pub enum Verdict {
     Head,
     // A reply that is believed.
     Block,
-}
-
-// What came of a report.
-#[derive(Clone, Copy)]
-pub enum ReadReported {
-    // Refused, with the call as it was.
-    Refused(Answer, ReadCall),
-    // Taken, with the new call.
-    Taken(ReadCall),
 }
 
 // What an acknowledged head comes to: a write brings no reply.
@@ -120,9 +106,9 @@ fn heard_block(ask: Ask, reply: &[u8]) -> Verdict
     ensures { result ≡ heard_block ask reply.now }
 {
     match ask.hear(reply) {
-        Heard::WrongLength => Verdict::Refused(Answer::WrongReply),
-        Heard::WrongPec => Verdict::Failed(Answer::Pec),
-        Heard::Good => Verdict::Block,
+        Ok(()) => Verdict::Block,
+        Err(Unheard::WrongLength) => Verdict::Refused(Answer::WrongReply),
+        Err(Unheard::WrongPec) => Verdict::Failed(Answer::Pec),
     }
 }
 
@@ -131,17 +117,16 @@ impl ReadCall {
     pub fn start(plan: ReadPlan, buffer: &[u8], work: &[u8]) -> ReadCall
         ensures { result ≡ start_of plan (length buffer.now) (length work.now) }
     {
-        let limit = plan.limit;
-        let head = plan.head;
         let lent = Lent {
             length: buffer.len(),
             work: work.len(),
         };
-        let task = ReadTask { plan, lent };
         ReadCall {
-            task,
-            phase: limit.admit(head.first_address(), buffer.len(), work.len()),
-            heading: head.some(),
+            task: Task { plan, lent },
+            phase: plan
+                .limit
+                .admit(plan.head.first_address(), lent.length, lent.work),
+            heading: plan.head.some(),
             received: 0,
             budget: Budget { left: plan.retries },
             tally: Tally::new(),
@@ -152,21 +137,18 @@ impl ReadCall {
     fn due(self) -> Ask
         ensures { result ≡ due_ask self }
     {
-        let task = self.task;
-        let plan = task.plan;
-        let reads = plan.reads;
-        let lent = task.lent;
-        reads.ask(lent.length, self.received)
+        self.task
+            .plan
+            .reads
+            .ask(self.task.lent.length, self.received)
     }
 
     // The head, laid in the work buffer.
     fn show_head(self, work: &mut [u8]) -> Transfer
         ensures { (result ≡ shown_head self (length work.old)) × (work.new ≡ work_head self work.old) }
     {
-        let task = self.task;
-        let plan = task.plan;
-        let head = plan.head;
-        Transfer::write(head.lay(self.received, work, plan.head_pec))
+        let plan = self.task.plan;
+        Transfer::write(plan.head.lay(self.received, work, plan.head_pec))
     }
 
     // The head or the read that is due.
@@ -185,18 +167,13 @@ impl ReadCall {
     pub fn next(self, buffer: &[u8], work: &mut [u8]) -> Transfer
         ensures { (result ≡ next_of self (length buffer.now) (length work.old)) × (work.new ≡ work_after self (length buffer.now) work.old) }
     {
-        let phase = self.phase;
-        let task = self.task;
-        let lent = task.lent;
-        match phase {
-            Phase::Ended(answer) => Transfer::Ended(answer),
-            Phase::Waiting => {
-                if lent.fits(buffer.len(), work.len()) {
-                    self.show(work)
-                } else {
-                    Transfer::Refused(Answer::WrongBuffer)
-                }
-            }
+        if let Phase::Ended(answer) = self.phase {
+            return Transfer::Ended(answer);
+        }
+        if self.task.lent.fits(buffer.len(), work.len()) {
+            self.show(work)
+        } else {
+            Transfer::Refused(Answer::WrongBuffer)
         }
     }
 
@@ -207,23 +184,22 @@ impl ReadCall {
         bytes::front(work, n)
     }
 
+    // Where the call stands once so many blocks were handed over.
+    fn after(self, received: u32) -> Phase
+        ensures { result ≡ phase_after (read_count self.task.plan.reads self.task.lent.length) received }
+    {
+        let Task { plan, lent } = self.task;
+        Phase::after(plan.reads.count(lent.length), received)
+    }
+
     // The head was heard: a read is due, or the call is done where there is none.
     fn headed(self) -> ReadCall
         ensures { result ≡ headed_of self }
     {
-        let task = self.task;
-        let plan = task.plan;
-        let reads = plan.reads;
-        let lent = task.lent;
-        let budget = self.budget;
-        let tally = self.tally;
         ReadCall {
-            task,
-            phase: Phase::after(reads.count(lent.length), self.received),
+            phase: self.after(self.received),
             heading: false,
-            received: self.received,
-            budget,
-            tally,
+            ..self
         }
     }
 
@@ -231,20 +207,12 @@ impl ReadCall {
     fn advance(self) -> ReadCall
         ensures { result ≡ advance_of self }
     {
-        let task = self.task;
-        let plan = task.plan;
-        let reads = plan.reads;
-        let lent = task.lent;
-        let left = self.budget;
-        let tally = self.tally;
-        let received = budget::more(self.received);
+        let received = self.received.saturating_add(1);
         ReadCall {
-            task,
-            phase: Phase::after(reads.count(lent.length), received),
+            phase: self.after(received),
             heading: false,
             received,
-            budget: left,
-            tally,
+            ..self
         }
     }
 
@@ -252,17 +220,12 @@ impl ReadCall {
     fn retry(self, budget: Budget, ms: u32) -> ReadCall
         ensures { result ≡ retry_of self budget ms }
     {
-        let task = self.task;
-        let plan = task.plan;
-        let head = plan.head;
-        let tally = self.tally;
         ReadCall {
-            task,
             phase: Phase::Waiting,
-            heading: head.some(),
-            received: self.received,
+            heading: self.task.plan.head.some(),
             budget,
-            tally: tally.wait(ms),
+            tally: self.tally.wait(ms),
+            ..self
         }
     }
 
@@ -270,16 +233,9 @@ impl ReadCall {
     fn end(self, why: Answer) -> ReadCall
         ensures { result ≡ end_of self why }
     {
-        let task = self.task;
-        let budget = self.budget;
-        let tally = self.tally;
         ReadCall {
-            task,
             phase: Phase::Ended(why),
-            heading: self.heading,
-            received: self.received,
-            budget,
-            tally,
+            ..self
         }
     }
 
@@ -287,12 +243,10 @@ impl ReadCall {
     fn fail(self, why: Answer) -> ReadCall
         ensures { result ≡ fail_of self why }
     {
-        let task = self.task;
-        let plan = task.plan;
-        let budget = self.budget;
-        match budget.fail(plan.retries, plan.growing) {
-            Failed::Retry(left, ms) => self.retry(left, ms),
-            Failed::Spent => self.end(why),
+        let plan = self.task.plan;
+        match self.budget.fail(plan.retries, plan.growing) {
+            Some((left, ms)) => self.retry(left, ms),
+            None => self.end(why),
         }
     }
 
@@ -322,18 +276,13 @@ impl ReadCall {
     fn judge(self, outcome: Outcome, reply: &[u8], buffer: usize, work: usize) -> Verdict
         ensures { result ≡ judge_of self outcome reply.now buffer work }
     {
-        let phase = self.phase;
-        let task = self.task;
-        let lent = task.lent;
-        match phase {
-            Phase::Ended(_) => Verdict::Refused(Answer::NothingOutstanding),
-            Phase::Waiting => {
-                if lent.fits(buffer, work) {
-                    self.weigh(outcome, reply)
-                } else {
-                    Verdict::Refused(Answer::WrongBuffer)
-                }
-            }
+        if let Phase::Ended(_) = self.phase {
+            return Verdict::Refused(Answer::NothingOutstanding);
+        }
+        if self.task.lent.fits(buffer, work) {
+            self.weigh(outcome, reply)
+        } else {
+            Verdict::Refused(Answer::WrongBuffer)
         }
     }
 
@@ -341,30 +290,23 @@ impl ReadCall {
     fn store(self, reply: &[u8], buffer: &mut [u8])
         ensures { buffer.new ≡ stored_of self reply.now buffer.old }
     {
-        let task = self.task;
-        let plan = task.plan;
-        let reads = plan.reads;
-        let lent = task.lent;
-        let ask = self.due();
+        let Task { plan, lent } = self.task;
         let at = bytes::block_start(self.received);
-        bytes::store_block(buffer, at, ask.data_of(reply), reads.most(lent.length));
+        bytes::store_block(
+            buffer,
+            at,
+            self.due().data_of(reply),
+            plan.reads.most(lent.length),
+        );
     }
 
     // The same call with one transfer more.
     fn counted(self) -> ReadCall
         ensures { result ≡ counted_of self }
     {
-        let task = self.task;
-        let phase = self.phase;
-        let budget = self.budget;
-        let tally = self.tally;
         ReadCall {
-            task,
-            phase,
-            heading: self.heading,
-            received: self.received,
-            budget,
-            tally: tally.transfer(),
+            tally: self.tally.transfer(),
+            ..self
         }
     }
 
@@ -375,18 +317,17 @@ impl ReadCall {
         reply: &[u8],
         buffer: &mut [u8],
         work: &[u8],
-    ) -> ReadReported
+    ) -> Reported<ReadCall>
         ensures { (result ≡ report_of self outcome reply.now (length buffer.old) (length work.now)) × (buffer.new ≡ buffer_after self outcome reply.now buffer.old (length work.now)) }
     {
-        let verdict = self.judge(outcome, reply, buffer.len(), work.len());
         let counted = self.counted();
-        match verdict {
-            Verdict::Refused(why) => ReadReported::Refused(why, self),
-            Verdict::Failed(why) => ReadReported::Taken(counted.fail(why)),
-            Verdict::Head => ReadReported::Taken(counted.headed()),
+        match self.judge(outcome, reply, buffer.len(), work.len()) {
+            Verdict::Refused(why) => Err((why, self)),
+            Verdict::Failed(why) => Ok(counted.fail(why)),
+            Verdict::Head => Ok(counted.headed()),
             Verdict::Block => {
                 self.store(reply, buffer);
-                ReadReported::Taken(counted.advance())
+                Ok(counted.advance())
             }
         }
     }

@@ -5,12 +5,12 @@ ghost use Rattle.reading.specs.Parts.{has_head, head_bytes, first_address, reads
 
 use protocol::common::Side;
 use protocol::consts::{LARGEST_DF_BLOCK_SIZE_BYTES, MAC_CMD};
-use protocol::frame::{Laid, MacCommand};
+use protocol::frame::MacCommand;
 use protocol::reply::Ask;
 use protocol::{bytes, frame};
 
 // The frame that opens a reading call, and opens it again after a failure.
-#[derive(Clone, Copy)]
+#[derive(Clone, Copy, Debug, PartialEq, Eq)]
 pub enum Head {
     // None: a plain read.
     Bare,
@@ -29,9 +29,7 @@ impl Head {
     {
         match self {
             Head::Bare => false,
-            Head::Command(_) => true,
-            Head::Mac(_) => true,
-            Head::DataFlash(_) => true,
+            _ => true,
         }
     }
 
@@ -40,15 +38,13 @@ impl Head {
         ensures { result ≡ first_address self }
     {
         match self {
-            Head::Bare => 0,
-            Head::Command(_) => 0,
-            Head::Mac(_) => 0,
             Head::DataFlash(start) => start,
+            _ => 0,
         }
     }
 
     // The frame, laid at the front of the work buffer; that of data flash for block i.
-    pub(crate) fn lay(self, i: u32, work: &mut [u8], pec: bool) -> Laid
+    pub(crate) fn lay(self, i: u32, work: &mut [u8], pec: bool) -> Option<usize>
         ensures { (result ≡ laid_of pec (head_bytes self i) (length work.old)) × (work.new ≡ work_laid pec (head_bytes self i) work.old) }
     {
         match self {
@@ -63,7 +59,7 @@ impl Head {
 }
 
 // The reads of a call.
-#[derive(Clone, Copy)]
+#[derive(Clone, Copy, Debug, PartialEq, Eq)]
 pub enum Reads {
     // None: a command with no output.
     Nothing,
@@ -77,8 +73,7 @@ pub enum Reads {
 fn left(len: usize, i: u32) -> usize
     ensures { result ≡ left_of len i }
 {
-    let at = bytes::block_start(i);
-    if at < len { len - at } else { 0 }
+    len.saturating_sub(bytes::block_start(i))
 }
 
 // What a block of data flash asks for where so many bytes are left.
@@ -88,11 +83,7 @@ fn block_ask(left: usize, pec: bool) -> Ask
     if pec {
         Ask::mac(MAC_CMD, LARGEST_DF_BLOCK_SIZE_BYTES, true)
     } else {
-        Ask::mac(
-            MAC_CMD,
-            bytes::least(LARGEST_DF_BLOCK_SIZE_BYTES, left),
-            false,
-        )
+        Ask::mac(MAC_CMD, LARGEST_DF_BLOCK_SIZE_BYTES.min(left), false)
     }
 }
 
@@ -103,8 +94,7 @@ impl Reads {
     {
         match self {
             Reads::Nothing => Side::Write,
-            Reads::Once(_) => Side::Read,
-            Reads::Blocks(_) => Side::Read,
+            _ => Side::Read,
         }
     }
 

@@ -1,5 +1,7 @@
 -- A call without its total and its setting goes the same way as with them: nothing that it does depends on either.
 -- Assumes nothing.
+use Rattle.engine.specs.Bus.{Reported}
+use Rattle.std.specs.Prelude.{Err, Ok}
 use Prim.Native.Nat.{ℕ}
 use mathlib.Core.Path.{◌≡◌, refl, sym, ap, ◌∙◌}
 use mathlib.Core.Bool.{Bool, true, false}
@@ -20,8 +22,6 @@ use Rattle.engine.specs.declared.bus.Phase.{Phase}
 use Rattle.engine.specs.declared.bus.Phase.TheVariants as phase
 use Rattle.writing.specs.Writing as writing
 use Rattle.writing.specs.declared.call.WriteCall.{WriteCall}
-use Rattle.writing.specs.declared.call.WriteReported.{WriteReported}
-use Rattle.writing.specs.declared.call.WriteReported.TheVariants as wrote
 use Rattle.reading.specs.Pick.{case◌refused◌fault◌headed◌block◌}
 use Rattle.reading.specs.Reading as reading
 use Rattle.reading.specs.declared.call.ReadCall.{ReadCall}
@@ -31,8 +31,6 @@ use Rattle.calls.specs.Kind.{plan_of}
 use Rattle.calls.specs.Call.{start_with, start_of, next_of, work_after, part_of, wrote_of, got_of, report_of, buffer_after, phase_of, tally_of, fits_of}
 use Rattle.calls.specs.declared.call.Call.{Call}
 use Rattle.calls.specs.declared.call.Call.TheVariants as call
-use Rattle.calls.specs.declared.call.Reported.{Reported}
-use Rattle.calls.specs.declared.call.Reported.TheVariants as reported
 use Rattle.calls.specs.declared.kind.Kind.{Kind}
 use Rattle.calls.specs.declared.kind.Plan.{Plan}
 use Rattle.calls.specs.declared.kind.Plan.TheVariants as plan
@@ -68,9 +66,9 @@ abbrev untimed_call : Call → Call
 untimed_call (call.Write c) = call.Write (untimed_w c)
 untimed_call (call.Read c) = call.Read (untimed_r c)
 
-abbrev untimed_in : Reported → Reported
-untimed_in (reported.Refused a c) = reported.Refused a (untimed_call c)
-untimed_in (reported.Taken c) = reported.Taken (untimed_call c)
+abbrev untimed_in : Reported Call → Reported Call
+untimed_in (Err (a, c)) = Err (a, untimed_call c)
+untimed_in (Ok c) = Ok (untimed_call c)
 
 -- ---- a report to a writing call
 
@@ -99,11 +97,11 @@ module _ (c : WriteCall) where
       by phase.Waiting e false f s g = rw (e, f)
       by phase.Waiting e true f true g = rw (e, f, g)
       by phase.Waiting e true f false g =
-          let one : writing.report_of c o r n w ≡ wrote.Taken (writing.settle_of (writing.counted_of c) o) = rw (e, f, g) in
-          let other : writing.report_of (untimed_w c) o r n w ≡ wrote.Taken (writing.settle_of (writing.counted_of (untimed_w c)) o) = rw (e, f, g) in
-          ap (λ (u : WriteReported). untimed_in (wrote_of u)) one
-          ∙ ap (λ (x : WriteCall). reported.Taken (call.Write x)) (settles_w o)
-          ∙ sym (ap (λ (u : WriteReported). untimed_in (wrote_of u)) other)
+          let one : writing.report_of c o r n w ≡ Ok (writing.settle_of (writing.counted_of c) o) = rw (e, f, g) in
+          let other : writing.report_of (untimed_w c) o r n w ≡ Ok (writing.settle_of (writing.counted_of (untimed_w c)) o) = rw (e, f, g) in
+          ap (λ (u : Reported WriteCall). untimed_in (wrote_of u)) one
+          ∙ ap (λ (x : WriteCall). Ok (call.Write x)) (settles_w o)
+          ∙ sym (ap (λ (u : Reported WriteCall). untimed_in (wrote_of u)) other)
 
 -- ---- a report to a reading call
 
@@ -134,9 +132,9 @@ module _ (c : ReadCall) where
     where
       by : (v : Verdict) → reading.judge_of c o reply n w ≡ v → untimed_in (got_of (reading.report_of c o reply n w)) ≡ untimed_in (got_of (reading.report_of (untimed_r c) o reply n w))
       by (verdict.Refused why) e = rw (judged o reply n w, e)
-      by (verdict.Failed why) e = rw (judged o reply n w, e) (ap (λ (x : ReadCall). reported.Taken (call.Read x)) (fails_r why))
-      by verdict.Head e = rw (judged o reply n w, e) (ap (λ (x : ReadCall). reported.Taken (call.Read x)) heads)
-      by verdict.Block e = rw (judged o reply n w, e) (ap (λ (x : ReadCall). reported.Taken (call.Read x)) blocks)
+      by (verdict.Failed why) e = rw (judged o reply n w, e) (ap (λ (x : ReadCall). Ok (call.Read x)) (fails_r why))
+      by verdict.Head e = rw (judged o reply n w, e) (ap (λ (x : ReadCall). Ok (call.Read x)) heads)
+      by verdict.Block e = rw (judged o reply n w, e) (ap (λ (x : ReadCall). Ok (call.Read x)) blocks)
 
 -- ---- any report, and any list of them
 
@@ -145,9 +143,9 @@ unfolding report_of
 same (call.Write c) e = same_w c e.outcome (length e.reply) e.payload e.work
 same (call.Read c) e = same_r c e.outcome e.reply e.buffer e.work
 
-after_untimed : (u : Reported) → untimed_call (call_after u) ≡ call_after (untimed_in u)
-after_untimed (reported.Refused a c) = refl
-after_untimed (reported.Taken c) = refl
+after_untimed : (u : Reported Call) → untimed_call (call_after u) ≡ call_after (untimed_in u)
+after_untimed (Err (a, c)) = refl
+after_untimed (Ok c) = refl
 
 same_after : (c : Call) (e : Report) → untimed_call (call_after (came_of c e)) ≡ untimed_call (call_after (came_of (untimed_call c) e))
 same_after c e = after_untimed (came_of c e) ∙ ap call_after (same c e) ∙ sym (after_untimed (came_of (untimed_call c) e))
@@ -204,9 +202,9 @@ unfolding tally_of
 made (call.Write c) = refl
 made (call.Read c) = refl
 
-refused_untimed : (u : Reported) → refusal (untimed_in u) ≡ refusal u
-refused_untimed (reported.Refused a c) = refl
-refused_untimed (reported.Taken c) = refl
+refused_untimed : (u : Reported Call) → refusal (untimed_in u) ≡ refusal u
+refused_untimed (Err (a, c)) = refl
+refused_untimed (Ok c) = refl
 
 turned_down : (c : Call) (e : Report) → refusal (came_of c e) ≡ refusal (came_of (untimed_call c) e)
 turned_down c e = sym (refused_untimed (came_of c e)) ∙ ap refusal (same c e) ∙ refused_untimed (came_of (untimed_call c) e)

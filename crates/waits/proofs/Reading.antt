@@ -1,5 +1,6 @@
 -- A reading call has one budget: its total is that of all its waits.
 -- Assumes nothing.
+use Rattle.std.specs.Prelude.{Ok}
 use Prim.Native.Nat.{ℕ, suc, ◌+◌, ◌-◌, ◌≤◌}
 use mathlib.Core.Path.{◌≡◌, refl, sym, ◌∙◌}
 use mathlib.Core.Bool.{Bool, true, false, false≢true}
@@ -13,7 +14,6 @@ use Rattle.engine.specs.declared.bus.Outcome.TheVariants as outcome
 use Rattle.engine.specs.declared.bus.Phase.TheVariants as phase
 use Rattle.reading.specs.Reading.{due_ask}
 use Rattle.reading.specs.declared.call.ReadCall.{ReadCall}
-use Rattle.reading.specs.declared.call.ReadReported.TheVariants as read
 use Rattle.answers.specs.Rows.{Damaged}
 use Rattle.answers.specs.Steps.{MissedR, HeardR, CostR}
 use Rattle.waits.specs.Costs.{budget_cost}
@@ -96,7 +96,7 @@ module _ (growing : Bool) (r : ℕ) (call next : ReadCall) (s : Timed growing r 
       by false h true q false d = fails (misses (h, q, d))
 
   -- ANY OUTCOME THAT IS TAKEN
-  pub steps : (o : Outcome) (bytes : List ℕ) → CostR call o bytes (read.Taken next) → Timed growing r next × Growth growing call.tally next.tally
+  pub steps : (o : Outcome) (bytes : List ℕ) → CostR call o bytes (Ok next) → Timed growing r next × Growth growing call.tally next.tally
   steps outcome.Acknowledged bytes (same, count, cost) = replies bytes cost
   steps (outcome.BusError code) bytes (same, count, cost) = fails cost
   steps outcome.Timeout bytes (same, count, cost) = fails cost

@@ -1,5 +1,7 @@
 -- How long a call waits, for each call by its kind and any list of reports.
 -- Assumes nothing.
+use Rattle.engine.specs.Bus.{Reported}
+use Rattle.std.specs.Prelude.{Err, Ok}
 use Prim.Native.Nat.{ℕ, ◌*◌, ◌≤◌, ◌<◌}
 use mathlib.Core.Path.{◌≡◌, refl, ap, subst, ◌∙◌}
 use mathlib.Core.Bool.{Bool}
@@ -13,13 +15,9 @@ use Rattle.calls.specs.Kind.{plan_of}
 use Rattle.writing.specs.Writing as writing
 use Rattle.writing.specs.declared.call.WritePlan.{WritePlan}
 use Rattle.writing.specs.declared.call.WriteCall.{WriteCall}
-use Rattle.writing.specs.declared.call.WriteReported.{WriteReported}
-use Rattle.writing.specs.declared.call.WriteReported.TheVariants as wrote
 use Rattle.reading.specs.Reading as reading
 use Rattle.reading.specs.declared.call.ReadPlan.{ReadPlan}
 use Rattle.reading.specs.declared.call.ReadCall.{ReadCall}
-use Rattle.reading.specs.declared.call.ReadReported.{ReadReported}
-use Rattle.reading.specs.declared.call.ReadReported.TheVariants as got
 use Rattle.calls.specs.Sides.{budget_of}
 use Rattle.calls.specs.Call.{start_with, start_of, wrote_of, got_of, report_of, tally_of}
 use Rattle.calls.specs.declared.call.Call.{Call}
@@ -39,15 +37,15 @@ use Rattle.waits.proofs.Starts.{started}
 
 -- ---- a call stays with its engine
 
-wrote_on : (u : WriteReported) → (d : WriteCall) × (call_after (wrote_of u) ≡ call.Write d)
+wrote_on : (u : Reported WriteCall) → (d : WriteCall) × (call_after (wrote_of u) ≡ call.Write d)
 unfolding wrote_of
-wrote_on (wrote.Refused a c) = (c, refl)
-wrote_on (wrote.Taken c) = (c, refl)
+wrote_on (Err (a, c)) = (c, refl)
+wrote_on (Ok c) = (c, refl)
 
-got_on : (u : ReadReported) → (d : ReadCall) × (call_after (got_of u) ≡ call.Read d)
+got_on : (u : Reported ReadCall) → (d : ReadCall) × (call_after (got_of u) ≡ call.Read d)
 unfolding got_of
-got_on (got.Refused a c) = (c, refl)
-got_on (got.Taken c) = (c, refl)
+got_on (Err (a, c)) = (c, refl)
+got_on (Ok c) = (c, refl)
 
 writes_on : (es : List Report) (c : WriteCall) → (d : WriteCall) × (feed (call.Write c) es ≡ call.Write d)
 unfolding feed report_of

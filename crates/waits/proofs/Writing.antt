@@ -1,5 +1,6 @@
 -- A writing call by the outcomes that it has taken: its total is that of the stretches of failures so far.
 -- Assumes nothing.
+use Rattle.std.specs.Prelude.{Ok}
 use Prim.Native.Nat.{ℕ, suc, ◌+◌, ◌-◌, ◌*◌, ◌≤◌, ◌<◌, min}
 use mathlib.Core.Path.{◌≡◌, refl, sym, ap, ◌∙◌}
 use mathlib.Core.Bool.{Bool}
@@ -14,7 +15,6 @@ use Rattle.engine.specs.declared.bus.Outcome.TheVariants as outcome
 use Rattle.engine.specs.declared.bus.Phase.TheVariants as phase
 use Rattle.writing.specs.Frames.{frame_count}
 use Rattle.writing.specs.declared.call.WriteCall.{WriteCall}
-use Rattle.writing.specs.declared.call.WriteReported.TheVariants as wrote
 use Rattle.answers.specs.Steps.{MissedW, CostW}
 use Rattle.waits.specs.Costs.{budget_cost, frames_cost}
 use Rattle.waits.specs.Waits.{Growth, none}
@@ -123,7 +123,7 @@ module _ (growing : Bool) (r f : ℕ) (os : List Outcome) (call next : WriteCall
       after w (inr (over, last, same)) = absurd (over w)
 
   -- ANY OUTCOME THAT IS TAKEN
-  pub steps : (o : Outcome) → CostW call o (wrote.Taken next) → Timed growing r f (os ++ (o ∷ [])) next × Growth growing call.tally next.tally
+  pub steps : (o : Outcome) → CostW call o (Ok next) → Timed growing r f (os ++ (o ∷ [])) next × Growth growing call.tally next.tally
   unfolding frames_cost
   steps outcome.Acknowledged (same, count, (left, (waits, ms), sent)) = (
     record {

@@ -1,6 +1,8 @@
 -- How long a call waits: the total that its tally carries beside its answer, for each call by its kind and any list of reports to it; and what it is for two calls to differ in that
 -- alone, which demand 2 says of the setting. (02, W-203)
 -- Assumes nothing.
+use Rattle.engine.specs.Bus.{Reported}
+use Rattle.std.specs.Prelude.{Err, Ok}
 use Rattle.std.specs.Prelude.{ℕ, ◌+◌, ◌*◌, ◌≤◌, ◌<◌, ◌≡◌, Bool, true, false, List, [], ◌∷◌}
 use Rattle.protocol.specs.Common.{TwoByteBudgets}
 use Rattle.protocol.specs.declared.common.Config.{Config}
@@ -14,8 +16,6 @@ use Rattle.calls.specs.Kind.{plan_of}
 use Rattle.calls.specs.Sides.{budget_of}
 use Rattle.calls.specs.Call.{start_of, next_of, work_after, part_of, buffer_after, phase_of, tally_of, fits_of}
 use Rattle.calls.specs.declared.call.Call.{Call}
-use Rattle.calls.specs.declared.call.Reported.{Reported}
-use Rattle.calls.specs.declared.call.Reported.TheVariants as reported
 use Rattle.calls.specs.declared.kind.Kind.{Kind}
 use Rattle.calls.specs.declared.kind.Plan.{Plan}
 use Rattle.calls.specs.declared.kind.Plan.TheVariants as plan
@@ -25,9 +25,9 @@ use Rattle.waits.specs.Costs.{budget_cost, frames_cost}
 -- ---- what a call takes of a list of reports
 
 -- the outcome of a report goes in front of others, where it is taken
-abbrev pub takes : Outcome → Reported → List Outcome → List Outcome
-takes o (reported.Refused a call) os = os
-takes o (reported.Taken call) os = o ∷ os
+abbrev pub takes : Outcome → Reported Call → List Outcome → List Outcome
+takes o (Err (a, call)) os = os
+takes o (Ok call) os = o ∷ os
 
 -- the outcomes that it takes, first to last
 unfoldable pub outcomes_of : Call → List Report → List Outcome
@@ -61,9 +61,9 @@ with_growing growing config = record {
 }
 
 -- the answer that a report is refused with; none where it is taken
-abbrev pub refusal : Reported → List Answer
-refusal (reported.Refused a call) = a ∷ []
-refusal (reported.Taken call) = []
+abbrev pub refusal : Reported Call → List Answer
+refusal (Err (a, call)) = a ∷ []
+refusal (Ok call) = []
 
 -- two calls that differ to their host at most in how long they have waited
 pub record AlikeButWaited (a b : Call) : Type 0 where

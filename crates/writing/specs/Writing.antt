@@ -1,6 +1,6 @@
 -- A writing call, step by step. (01, The step machine; Frames and retries)
 -- Assumes nothing.
-use Rattle.std.specs.Prelude.{ℕ, Bool, true, false, List, length, eqb}
+use Rattle.std.specs.Prelude.{ℕ, Bool, true, false, List, length, eqb, Ok, Err}
 use Rattle.protocol.specs.Pick.{when◌then◌else◌}
 use Rattle.protocol.specs.Bytes.{send_of, block_start}
 use Rattle.protocol.specs.Frame.{laid_of, work_laid}
@@ -9,7 +9,7 @@ use Rattle.protocol.specs.declared.error.Answer.{Answer}
 use Rattle.protocol.specs.declared.error.Answer.TheVariants as answer
 use Rattle.engine.specs.Pick.{case◌waiting◌ended◌, case◌acknowledged◌error◌timeout◌, case◌retry◌spent◌}
 use Rattle.engine.specs.Budget.{failed, more_of, nothing, waited, tallied}
-use Rattle.engine.specs.Bus.{write_of, phase_after, fits_of}
+use Rattle.engine.specs.Bus.{Reported, write_of, phase_after, fits_of}
 use Rattle.engine.specs.Limit.{admitted}
 use Rattle.engine.specs.declared.budget.Budget.{Budget}
 use Rattle.engine.specs.declared.bus.Outcome.{Outcome}
@@ -21,8 +21,6 @@ use Rattle.writing.specs.Frames.{is_plain, is_flash, first_address, frame_count,
 use Rattle.writing.specs.declared.frames.Frames.{Frames}
 use Rattle.writing.specs.declared.call.WritePlan.{WritePlan}
 use Rattle.writing.specs.declared.call.WriteCall.{WriteCall}
-use Rattle.writing.specs.declared.call.WriteReported.{WriteReported}
-use Rattle.writing.specs.declared.call.WriteReported.TheVariants as reported
 
 -- by the settings' waits, and by their retries and PEC for what writes
 unfoldable pub plan_of : Config → Limit → Frames → WritePlan
@@ -146,10 +144,10 @@ counted_of call = record {
 }
 
 -- an outcome with a reply of r bytes, a payload of n and a work buffer of w: 10, 8, 9, or taken and counted
-unfoldable pub report_of : WriteCall → Outcome → ℕ → ℕ → ℕ → WriteReported
+unfoldable pub report_of : WriteCall → Outcome → ℕ → ℕ → ℕ → Reported WriteCall
 report_of call o r n w =
     case call.phase
     waiting (when fits_of call.task.lent n w then
-    (when replied_of o r then reported.Refused answer.WrongReply call else reported.Taken (settle_of (counted_of call) o))
-    else reported.Refused answer.WrongBuffer call)
-    ended (λ a. reported.Refused answer.NothingOutstanding call)
+    (when replied_of o r then Err (answer.WrongReply, call) else Ok (settle_of (counted_of call) o))
+    else Err (answer.WrongBuffer, call))
+    ended (λ a. Err (answer.NothingOutstanding, call))

@@ -3,16 +3,15 @@ ghost use Rattle.std.specs.Prelude.{◌≡◌, length};
 ghost use Rattle.writing.specs.Writing.{plan_of, start_of, own_bytes, shown_of, work_shown, next_of, work_after, part_of, advance_of, gave_up, retry_of, end_of, fail_of, settle_of, replied_of, counted_of, report_of};
 
 use crate::frames::Frames;
-use engine::budget;
-use engine::budget::{Budget, Failed, Tally};
-use engine::bus::{Lent, Outcome, Phase, Transfer};
+use engine::budget::{Budget, Tally};
+use engine::bus::{Lent, Outcome, Phase, Reported, Task, Transfer};
 use engine::limit::Limit;
 use protocol::bytes;
 use protocol::common::{Config, Side};
 use protocol::error::Answer;
 
 // What a writing call is: its retries and whether its waits grow, whether its frames carry a PEC, what it asks of the payload's length, and its frames.
-#[derive(Clone, Copy)]
+#[derive(Clone, Copy, Debug, PartialEq, Eq)]
 pub struct WritePlan {
     pub retries: u16,
     pub growing: bool,
@@ -36,17 +35,11 @@ impl WritePlan {
     }
 }
 
-// What does not change while a writing call runs: the plan, and the lengths of payload and work buffer at the start.
-#[derive(Clone, Copy)]
-pub struct WriteTask {
-    pub plan: WritePlan,
-    pub lent: Lent,
-}
-
 // A writing call. It goes in by value and comes back.
-#[derive(Clone, Copy)]
+#[derive(Clone, Copy, Debug, PartialEq, Eq)]
 pub struct WriteCall {
-    pub task: WriteTask,
+    // The plan, and the lengths of payload and work buffer at the start.
+    pub task: Task<WritePlan>,
     pub phase: Phase,
     // Frames acknowledged so far.
     pub sent: u32,
@@ -55,26 +48,13 @@ pub struct WriteCall {
     pub tally: Tally,
 }
 
-// What came of a report.
-#[derive(Clone, Copy)]
-pub enum WriteReported {
-    // Refused, with the call as it was.
-    Refused(Answer, WriteCall),
-    // Taken, with the new call.
-    Taken(WriteCall),
-}
-
 // What a call says that gives up: why, or how much of a data-flash write was acknowledged.
 fn gave_up(frames: Frames, sent: u32, why: Answer) -> Answer
     ensures { result ≡ gave_up frames sent why }
 {
-    if frames.flash() {
-        if sent == 0 {
-            why
-        } else {
-            Answer::PartialDataFlashWrite {
-                committed: bytes::block_start(sent),
-            }
+    if frames.flash() && sent != 0 {
+        Answer::PartialDataFlashWrite {
+            committed: bytes::block_start(sent),
         }
     } else {
         why
@@ -86,16 +66,15 @@ impl WriteCall {
     pub fn start(plan: WritePlan, payload: &[u8], work: &[u8]) -> WriteCall
         ensures { result ≡ start_of plan (length payload.now) (length work.now) }
     {
-        let limit = plan.limit;
-        let frames = plan.frames;
         let lent = Lent {
             length: payload.len(),
             work: work.len(),
         };
-        let task = WriteTask { plan, lent };
         WriteCall {
-            task,
-            phase: limit.admit(frames.first_address(), payload.len(), work.len()),
+            task: Task { plan, lent },
+            phase: plan
+                .limit
+                .admit(plan.frames.first_address(), lent.length, lent.work),
             sent: 0,
             budget: Budget { left: plan.retries },
             tally: Tally::new(),
@@ -106,46 +85,31 @@ impl WriteCall {
     fn own_bytes(self) -> bool
         ensures { result ≡ own_bytes self }
     {
-        let task = self.task;
-        let plan = task.plan;
-        let frames = plan.frames;
-        if frames.plain() {
-            if plan.pec { false } else { true }
-        } else {
-            false
-        }
+        self.task.plan.frames.plain() && !self.task.plan.pec
     }
 
     // The frame that is due, laid in the work buffer.
     fn show(self, payload: &[u8], work: &mut [u8]) -> Transfer
         ensures { (result ≡ shown_of self payload.now (length work.old)) × (work.new ≡ work_shown self payload.now work.old) }
     {
-        let task = self.task;
-        let plan = task.plan;
-        let frames = plan.frames;
-        Transfer::write(frames.lay(payload, self.sent, work, plan.pec))
+        let plan = self.task.plan;
+        Transfer::write(plan.frames.lay(payload, self.sent, work, plan.pec))
     }
 
     // The next transfer, the same if asked again; the answer once the call has ended.
     pub fn next(self, payload: &[u8], work: &mut [u8]) -> Transfer
         ensures { (result ≡ next_of self payload.now (length work.old)) × (work.new ≡ work_after self payload.now work.old) }
     {
-        let phase = self.phase;
-        let task = self.task;
-        let lent = task.lent;
-        match phase {
-            Phase::Ended(answer) => Transfer::Ended(answer),
-            Phase::Waiting => {
-                if lent.fits(payload.len(), work.len()) {
-                    if self.own_bytes() {
-                        Transfer::Write(payload.len())
-                    } else {
-                        self.show(payload, work)
-                    }
-                } else {
-                    Transfer::Refused(Answer::WrongBuffer)
-                }
-            }
+        if let Phase::Ended(answer) = self.phase {
+            return Transfer::Ended(answer);
+        }
+        if !self.task.lent.fits(payload.len(), work.len()) {
+            return Transfer::Refused(Answer::WrongBuffer);
+        }
+        if self.own_bytes() {
+            Transfer::Write(payload.len())
+        } else {
+            self.show(payload, work)
         }
     }
 
@@ -153,30 +117,21 @@ impl WriteCall {
     pub fn to_send<'a>(self, payload: &'a [u8], work: &'a [u8], n: usize) -> &'a [u8]
         ensures { result.now ≡ part_of self payload.now work.now n }
     {
-        if self.own_bytes() {
-            bytes::to_send(payload, work, false, n)
-        } else {
-            bytes::to_send(payload, work, true, n)
-        }
+        bytes::to_send(payload, work, !self.own_bytes(), n)
     }
 
     // The frame was acknowledged: the next one is due, with a budget of its own, or the call is done.
     fn advance(self) -> WriteCall
         ensures { result ≡ advance_of self }
     {
-        let task = self.task;
-        let plan = task.plan;
-        let frames = plan.frames;
-        let lent = task.lent;
-        let tally = self.tally;
-        let retries = plan.retries;
-        let sent = budget::more(self.sent);
+        let Task { plan, lent } = self.task;
+        let sent = self.sent.saturating_add(1);
+        let budget = Budget { left: plan.retries };
         WriteCall {
-            task,
-            phase: Phase::after(frames.count(lent.length), sent),
+            phase: Phase::after(plan.frames.count(lent.length), sent),
             sent,
-            budget: Budget { left: retries },
-            tally,
+            budget,
+            ..self
         }
     }
 
@@ -184,14 +139,11 @@ impl WriteCall {
     fn retry(self, budget: Budget, ms: u32) -> WriteCall
         ensures { result ≡ retry_of self budget ms }
     {
-        let task = self.task;
-        let tally = self.tally;
         WriteCall {
-            task,
             phase: Phase::Waiting,
-            sent: self.sent,
             budget,
-            tally: tally.wait(ms),
+            tally: self.tally.wait(ms),
+            ..self
         }
     }
 
@@ -199,17 +151,9 @@ impl WriteCall {
     fn end(self, why: Answer) -> WriteCall
         ensures { result ≡ end_of self why }
     {
-        let task = self.task;
-        let plan = task.plan;
-        let frames = plan.frames;
-        let budget = self.budget;
-        let tally = self.tally;
         WriteCall {
-            task,
-            phase: Phase::Ended(gave_up(frames, self.sent, why)),
-            sent: self.sent,
-            budget,
-            tally,
+            phase: Phase::Ended(gave_up(self.task.plan.frames, self.sent, why)),
+            ..self
         }
     }
 
@@ -217,12 +161,10 @@ impl WriteCall {
     fn fail(self, why: Answer) -> WriteCall
         ensures { result ≡ fail_of self why }
     {
-        let task = self.task;
-        let plan = task.plan;
-        let budget = self.budget;
-        match budget.fail(plan.retries, plan.growing) {
-            Failed::Retry(left, ms) => self.retry(left, ms),
-            Failed::Spent => self.end(why),
+        let plan = self.task.plan;
+        match self.budget.fail(plan.retries, plan.growing) {
+            Some((left, ms)) => self.retry(left, ms),
+            None => self.end(why),
         }
     }
 
@@ -242,9 +184,8 @@ impl WriteCall {
         ensures { result ≡ replied_of outcome reply }
     {
         match outcome {
-            Outcome::Acknowledged => { if reply == 0 { false } else { true } }
-            Outcome::BusError(_) => false,
-            Outcome::Timeout => false,
+            Outcome::Acknowledged => reply != 0,
+            _ => false,
         }
     }
 
@@ -252,16 +193,9 @@ impl WriteCall {
     fn counted(self) -> WriteCall
         ensures { result ≡ counted_of self }
     {
-        let task = self.task;
-        let phase = self.phase;
-        let budget = self.budget;
-        let tally = self.tally;
         WriteCall {
-            task,
-            phase,
-            sent: self.sent,
-            budget,
-            tally: tally.transfer(),
+            tally: self.tally.transfer(),
+            ..self
         }
     }
 
@@ -272,25 +206,18 @@ impl WriteCall {
         reply: &[u8],
         payload: &[u8],
         work: &[u8],
-    ) -> WriteReported
+    ) -> Reported<WriteCall>
         ensures { result ≡ report_of self outcome (length reply.now) (length payload.now) (length work.now) }
     {
-        let phase = self.phase;
-        let task = self.task;
-        let lent = task.lent;
-        match phase {
-            Phase::Ended(_) => WriteReported::Refused(Answer::NothingOutstanding, self),
-            Phase::Waiting => {
-                if lent.fits(payload.len(), work.len()) {
-                    if WriteCall::replied(outcome, reply.len()) {
-                        WriteReported::Refused(Answer::WrongReply, self)
-                    } else {
-                        WriteReported::Taken(self.counted().settle(outcome))
-                    }
-                } else {
-                    WriteReported::Refused(Answer::WrongBuffer, self)
-                }
-            }
+        if let Phase::Ended(_) = self.phase {
+            return Err((Answer::NothingOutstanding, self));
         }
+        if !self.task.lent.fits(payload.len(), work.len()) {
+            return Err((Answer::WrongBuffer, self));
+        }
+        if WriteCall::replied(outcome, reply.len()) {
+            return Err((Answer::WrongReply, self));
+        }
+        Ok(self.counted().settle(outcome))
     }
 }

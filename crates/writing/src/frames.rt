@@ -4,11 +4,11 @@ ghost use Rattle.protocol.specs.Frame.{laid_of, work_laid};
 ghost use Rattle.writing.specs.Frames.{is_plain, is_flash, first_address, frame_count, half_bytes, block_bytes, info_cbytes, bytes_at};
 
 use protocol::consts::LARGEST_DF_BLOCK_SIZE_BYTES;
-use protocol::frame::{Laid, MacCommand};
+use protocol::frame::MacCommand;
 use protocol::{bytes, frame};
 
 // The frames of a writing call.
-#[derive(Clone, Copy)]
+#[derive(Clone, Copy, Debug, PartialEq, Eq)]
 pub enum Frames {
     // One: the bytes that the caller built.
     Plain,
@@ -27,18 +27,15 @@ pub enum Frames {
 }
 
 // Half i of an access key: the lower one first.
-fn lay_half(work: &mut [u8], lower: u16, upper: u16, i: u32, pec: bool) -> Laid
+fn lay_half(work: &mut [u8], lower: u16, upper: u16, i: u32, pec: bool) -> Option<usize>
     ensures { (result ≡ laid_of pec (half_bytes lower upper i) (length work.old)) × (work.new ≡ work_laid pec (half_bytes lower upper i) work.old) }
 {
-    if i == 0 {
-        frame::lay_number(work, lower as usize, b"", pec)
-    } else {
-        frame::lay_number(work, upper as usize, b"", pec)
-    }
+    let half = if i == 0 { lower } else { upper };
+    frame::lay_number(work, half as usize, b"", pec)
 }
 
 // Block i of a payload, at its own address.
-fn lay_block(work: &mut [u8], start: u16, payload: &[u8], i: u32, pec: bool) -> Laid
+fn lay_block(work: &mut [u8], start: u16, payload: &[u8], i: u32, pec: bool) -> Option<usize>
     ensures { (result ≡ laid_of pec (block_bytes start i payload.now) (length work.old)) × (work.new ≡ work_laid pec (block_bytes start i payload.now) work.old) }
 {
     let at = bytes::block_start(i);
@@ -47,7 +44,14 @@ fn lay_block(work: &mut [u8], start: u16, payload: &[u8], i: u32, pec: bool) -> 
 }
 
 // Frame i of manufacturer info C: a half of its access key, then, past both, its own frame.
-fn lay_info_c(work: &mut [u8], lower: u16, upper: u16, payload: &[u8], i: u32, pec: bool) -> Laid
+fn lay_info_c(
+    work: &mut [u8],
+    lower: u16,
+    upper: u16,
+    payload: &[u8],
+    i: u32,
+    pec: bool,
+) -> Option<usize>
     ensures { (result ≡ laid_of pec (info_cbytes lower upper i payload.now) (length work.old)) × (work.new ≡ work_laid pec (info_cbytes lower upper i payload.now) work.old) }
 {
     if i < 2 {
@@ -62,30 +66,14 @@ impl Frames {
     pub(crate) fn plain(self) -> bool
         ensures { result ≡ is_plain self }
     {
-        match self {
-            Frames::Plain => true,
-            Frames::Register(_) => false,
-            Frames::MfgInfo => false,
-            Frames::Mac(_) => false,
-            Frames::AccessKey { lower: _, upper: _ } => false,
-            Frames::MfgInfoC { lower: _, upper: _ } => false,
-            Frames::DataFlash(_) => false,
-        }
+        matches!(self, Frames::Plain)
     }
 
     // Whether the frames write data flash.
     pub(crate) fn flash(self) -> bool
         ensures { result ≡ is_flash self }
     {
-        match self {
-            Frames::Plain => false,
-            Frames::Register(_) => false,
-            Frames::MfgInfo => false,
-            Frames::Mac(_) => false,
-            Frames::AccessKey { lower: _, upper: _ } => false,
-            Frames::MfgInfoC { lower: _, upper: _ } => false,
-            Frames::DataFlash(_) => true,
-        }
+        matches!(self, Frames::DataFlash(_))
     }
 
     // The first address of the data flash that the frames write; 0 where they write none.
@@ -93,13 +81,8 @@ impl Frames {
         ensures { result ≡ first_address self }
     {
         match self {
-            Frames::Plain => 0,
-            Frames::Register(_) => 0,
-            Frames::MfgInfo => 0,
-            Frames::Mac(_) => 0,
-            Frames::AccessKey { lower: _, upper: _ } => 0,
-            Frames::MfgInfoC { lower: _, upper: _ } => 0,
             Frames::DataFlash(start) => start,
+            _ => 0,
         }
     }
 
@@ -108,18 +91,15 @@ impl Frames {
         ensures { result ≡ frame_count self len }
     {
         match self {
-            Frames::Plain => 1,
-            Frames::Register(_) => 1,
-            Frames::MfgInfo => 1,
-            Frames::Mac(_) => 1,
-            Frames::AccessKey { lower: _, upper: _ } => 2,
-            Frames::MfgInfoC { lower: _, upper: _ } => 3,
+            Frames::AccessKey { .. } => 2,
+            Frames::MfgInfoC { .. } => 3,
             Frames::DataFlash(_) => bytes::blocks(len),
+            _ => 1,
         }
     }
 
     // Frame i, laid at the front of the work buffer.
-    pub(crate) fn lay(self, payload: &[u8], i: u32, work: &mut [u8], pec: bool) -> Laid
+    pub(crate) fn lay(self, payload: &[u8], i: u32, work: &mut [u8], pec: bool) -> Option<usize>
         ensures { (result ≡ laid_of pec (bytes_at self i payload.now) (length work.old)) × (work.new ≡ work_laid pec (bytes_at self i payload.now) work.old) }
     {
         match self {

@@ -10,4 +10,4 @@ returns-then-output-eq0 c = search cases
 
 pub returns-else-output-eq0 : goal.returns-else-output-eq0
 unfolding command_reads
-returns-else-output-eq0 c = rw c.mac.ensures (search cases)
+returns-else-output-eq0 c = rw (c.mac.ensures, c.to_le_bytes.ensures) (search cases)

@@ -2,8 +2,8 @@
 use Rattle.smbus_pec.proofs.Laws.{passed_byte, passed_all}
 use Rattle.smbus_pec.proofs.pec_bitwise.Goals as goal
 
-pub loop-i-preserved : goal.loop-i-preserved
-loop-i-preserved c = passed_byte c.loop-i.invariant c.loop-i-test.true c.update_bitwise-c.ensures
+pub loop-byte-preserved : goal.loop-byte-preserved
+loop-byte-preserved c = passed_byte c.loop-byte.invariant c.loop-byte-test.true c.update_bitwise-c.ensures
 
 pub returns : goal.returns
-returns c = passed_all c.loop-i.invariant c.loop-i-test.false
+returns c = passed_all c.loop-byte.invariant c.loop-byte-test.false

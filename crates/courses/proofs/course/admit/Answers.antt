@@ -4,14 +4,14 @@ use Rattle.engine.proofs.Cases.{cases}
 use Rattle.courses.specs.Course.{admit_of}
 use Rattle.courses.proofs.course.admit.Goals as goal
 
-pub returns-then-sound : goal.returns-then-sound
+pub returns-then-flash-ne-FLASH_BYTES : goal.returns-then-flash-ne-FLASH_BYTES
 unfolding admit_of
-returns-then-sound c = search cases
+returns-then-flash-ne-FLASH_BYTES c = search cases
 
-pub returns-else-sound : goal.returns-else-sound
+pub returns-then-not-sound : goal.returns-then-not-sound
 unfolding admit_of
-returns-else-sound c = search cases
+returns-then-not-sound c = search cases
 
-pub returns-else-flash-eq-FLASH_BYTES : goal.returns-else-flash-eq-FLASH_BYTES
+pub returns : goal.returns
 unfolding admit_of
-returns-else-flash-eq-FLASH_BYTES c = search cases
+returns c = search cases

@@ -8,10 +8,10 @@ pub returns-in-Ended : goal.returns-in-Ended
 unfolding end_of
 returns-in-Ended c = search cases
 
-pub returns-then-fits : goal.returns-then-fits
+pub returns-in-Waiting : goal.returns-in-Waiting
 unfolding end_of
-returns-then-fits c = search cases
+returns-in-Waiting c = search cases
 
-pub returns-else-fits : goal.returns-else-fits
+pub returns-in-Waiting-2 : goal.returns-in-Waiting-2
 unfolding end_of
-returns-else-fits c = search cases
+returns-in-Waiting-2 c = search cases

@@ -3,10 +3,10 @@
 use Rattle.courses.specs.Run.{taken_of}
 use Rattle.courses.proofs.run.taken.Goals as goal
 
-pub returns-in-Refused : goal.returns-in-Refused
+pub returns-in-Err : goal.returns-in-Err
 unfolding taken_of
-returns-in-Refused c = rw c.in-Refused.is
+returns-in-Err c = rw (c.in-Err.is, c.in-Err.same-is)
 
-pub returns-in-Taken : goal.returns-in-Taken
+pub returns-in-Ok : goal.returns-in-Ok
 unfolding taken_of
-returns-in-Taken c = rw c.in-Taken.is
+returns-in-Ok c = rw (c.in-Ok.is, c.in-Ok.call-is)

@@ -3,6 +3,7 @@
 use Rattle.engine.proofs.Cases.{cases}
 use Rattle.model_gauge.specs.Frame.{read_frame}
 use Rattle.model_gauge.proofs.frame.read_frame.Goals as goal
+use Rattle.model_gauge.proofs.frame.read_frame.Goals.{else-frame-eq-MAC_CMD-via-then-frame-eq-MAC_CMD+else-whole, else-frame-eq-MAC_CMD-via-else-frame-eq-MAC_CMD}
 
 pub returns-then-frame-lt4 : goal.returns-then-frame-lt4
 unfolding read_frame
@@ -14,10 +15,10 @@ returns-then-whole c =
     let e = rw c.word.ensures at c.form_of.ensures in
     search cases
 
-pub returns-else-whole : goal.returns-else-whole
+pub returns-else-frame-eq-MAC_CMD : goal.returns-else-frame-eq-MAC_CMD
 unfolding read_frame
-returns-else-whole c = search cases
-
-pub returns-else-command-eq-MAC_CMD : goal.returns-else-command-eq-MAC_CMD
-unfolding read_frame
-returns-else-command-eq-MAC_CMD c = search cases
+returns-else-frame-eq-MAC_CMD c =
+    elim c.else-frame-eq-MAC_CMD.branch [
+      | else-frame-eq-MAC_CMD-via-then-frame-eq-MAC_CMD+else-whole w ↦ search cases
+      | else-frame-eq-MAC_CMD-via-else-frame-eq-MAC_CMD w ↦ search cases
+    ]

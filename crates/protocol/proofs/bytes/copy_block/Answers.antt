@@ -11,4 +11,4 @@ copy-requires c =
 
 pub returns : goal.returns
 unfolding block_in
-returns c = rw (c.front.ensures, c.least-n.ensures, c.least.ensures) at c.copy.ensures
+returns c = rw (c.front.ensures, c.min-n.ensures, c.min.ensures) at c.copy.ensures

@@ -1,13 +1,14 @@
--- `protocol::bytes::to_send` meets its contract: each part is a case of `send_of`.
+-- `protocol::bytes::to_send` meets its contract.
 -- Assumes nothing.
 use Rattle.protocol.proofs.Cases.{cases}
 use Rattle.protocol.specs.Bytes.{send_of}
 use Rattle.protocol.proofs.bytes.to_send.Goals as goal
+use Rattle.protocol.proofs.bytes.to_send.Goals.{then-built, else-built}
 
-pub returns-then-built : goal.returns-then-built
+pub returns : goal.returns
 unfolding send_of
-returns-then-built c = search cases
-
-pub returns-else-built : goal.returns-else-built
-unfolding send_of
-returns-else-built c = search cases
+returns c =
+    elim c.if-built.branch [
+      | then-built w ↦ rw (c.front.ensures, w.front-is) (search cases)
+      | else-built w ↦ rw (c.front.ensures, w.front-is) (search cases)
+    ]

@@ -5,4 +5,4 @@ use Rattle.protocol.proofs.frame.lay_command.Goals as goal
 
 pub returns : goal.returns
 unfolding command_bytes
-returns c = c.lay.ensures
+returns c = rw c.to_le_bytes.ensures at c.lay.ensures

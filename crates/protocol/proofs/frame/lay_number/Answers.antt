@@ -5,4 +5,4 @@ use Rattle.protocol.proofs.frame.lay_number.Goals as goal
 
 pub returns : goal.returns
 unfolding pair_of
-returns c = c.lay_mac.ensures
+returns c = rw c.to_le_bytes.ensures at c.lay_mac.ensures

@@ -1,30 +1,13 @@
--- `protocol::frame::room` meets its contract: the tests before the sum say what the sum would.
+-- `protocol::frame::room` meets its contract: a sum that stays at the largest number is below no length there.
 -- Assumes nothing.
-use Prim.Native.Nat.{◌+◌, ◌≤◌, ◌<◌}
+use mathlib.Core.Path.{sym, ◌∙◌}
+use mathlib.Core.Logic.{⊎_elim}
 use native.Mathlib.Omega.{arith}
-use Rattle.protocol.proofs.Cases.{tests}
+use borrow.Author.Tests.{lt-ltb, le-ltb}
+use Rattle.std.proofs.lemmas.Bool.{cases_lt}
 use Rattle.protocol.proofs.frame.room.Goals as goal
-
-pub returns-then-work-lead : goal.returns-then-work-lead
-returns-then-work-lead c =
-    let a = c.args in
-    let far : a.work ≤ a.lead + a.pair + a.body = omega arith in
-    search tests
-
-pub returns-then-work-lead-2 : goal.returns-then-work-lead-2
-returns-then-work-lead-2 c =
-    let a = c.args in
-    let far : a.work ≤ a.lead + a.pair + a.body = omega arith in
-    search tests
-
-pub returns-then-work-lead-3 : goal.returns-then-work-lead-3
-returns-then-work-lead-3 c =
-    let a = c.args in
-    let far : a.work ≤ a.lead + a.pair + a.body = omega arith in
-    search tests
 
 pub returns : goal.returns
 returns c =
-    let a = c.args in
-    let far : a.lead + a.pair + a.body < a.work = omega arith in
-    search tests
+    ⊎_elim (λ h. lt-ltb _ _ h ∙ sym (lt-ltb _ _ (omega arith))) (λ h. le-ltb _ _ h ∙ sym (le-ltb _ _ (omega arith)))
+    (cases_lt c.saturating_add-2.result c.args.work)

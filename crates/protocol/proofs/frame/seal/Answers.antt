@@ -10,7 +10,7 @@ pub slice_bounds-pec-end-then-pec : goal.slice_bounds-pec-end-then-pec
 slice_bounds-pec-end-then-pec c = sym (length-take-le _ _ (omega arith))
 
 pub returns-then-pec : goal.returns-then-pec
-returns-then-pec c = sealed_on _ _ _ _ c.requires c.if-pec.true c.pec-check.ensures
+returns-then-pec c = sealed_on _ _ _ _ c.requires c.if-pec.true c.pec.ensures
 
 pub returns-else-pec : goal.returns-else-pec
 returns-else-pec c = sealed_off _ _ _ c.requires c.if-pec.false

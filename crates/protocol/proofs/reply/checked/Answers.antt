@@ -1,20 +1,22 @@
 -- `protocol::reply::checked` meets its contract: the PEC of the opening, carried on over the reply, is that of both.
 -- Assumes nothing.
-use mathlib.Core.Path.{sym}
+use mathlib.Core.Path.{◌≡◌, refl}
+use Prim.Native.Nat.{◌-◌}
 use native.Mathlib.Omega.{arith}
-use Rattle.protocol.proofs.Cases.{cases, not_eq}
+use lib.ListN.{length}
+use lib.Seq.{get_or-append_seam, take-append_seam}
+use Rattle.protocol.proofs.Cases.{yes_eq, not_eq}
 use Rattle.protocol.specs.Reply.{checked_of}
-use lib.Seq.{length-take-le}
 use Rattle.smbus_pec.specs.Pec.{pec_of}
 use Rattle.protocol.proofs.reply.checked.Goals as goal
 
-pub returns-then-reply-eq0 : goal.returns-then-reply-eq0
+pub returns-in_default : goal.returns-in_default
 unfolding checked_of
-returns-then-reply-eq0 c = search cases
-
-pub slice_bounds-pec-end-2 : goal.slice_bounds-pec-end-2
-slice_bounds-pec-end-2 c = sym (length-take-le _ _ (omega arith))
+returns-in_default c = yes_eq _ _ _ _ _ c.in_default.ensures.cases refl
 
 pub returns : goal.returns
 unfolding checked_of pec_of
-returns c = not_eq _ _ _ _ _ c.if-reply-eq0.false (rw (c.pec-2.ensures, c.pec.ensures))
+returns c =
+    let s = c.in-Some.ensures.cases in
+    let k : length c.args.reply.now - 1 ≡ length c.in-Some.data.now = omega (arith, s.1) in
+    not_eq _ _ _ _ _ (λ z. omega (arith, s.1)) (rw (c.pec-2.ensures, c.pec.ensures, k, s.0, take-append_seam, get_or-append_seam))

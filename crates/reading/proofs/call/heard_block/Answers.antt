@@ -1,16 +1,16 @@
--- `reading::call::heard_block` meets its contract: each arm is a case of `verdict_of`.
+-- `reading::call::heard_block` meets its contract.
 -- Assumes nothing.
 use Rattle.reading.specs.Reading.{verdict_of, heard_block}
 use Rattle.reading.proofs.call.heard_block.Goals as goal
 
-pub returns-in-WrongLength : goal.returns-in-WrongLength
+pub returns-in-Ok : goal.returns-in-Ok
 unfolding heard_block verdict_of
-returns-in-WrongLength c = rw (← c.hear.ensures, c.in-WrongLength.is)
+returns-in-Ok c = rw (← c.hear.ensures, c.in-Ok.is)
 
-pub returns-in-WrongPec : goal.returns-in-WrongPec
+pub returns-in-Err-WrongLength : goal.returns-in-Err-WrongLength
 unfolding heard_block verdict_of
-returns-in-WrongPec c = rw (← c.hear.ensures, c.in-WrongPec.is)
+returns-in-Err-WrongLength c = rw (← c.hear.ensures, c.in-Err-WrongLength.is, c.in-Err-WrongLength.field-0-is)
 
-pub returns-in-Good : goal.returns-in-Good
+pub returns-in-Err-WrongPec : goal.returns-in-Err-WrongPec
 unfolding heard_block verdict_of
-returns-in-Good c = rw (← c.hear.ensures, c.in-Good.is)
+returns-in-Err-WrongPec c = rw (← c.hear.ensures, c.in-Err-WrongPec.is, c.in-Err-WrongPec.field-0-is)

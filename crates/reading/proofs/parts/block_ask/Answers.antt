@@ -11,5 +11,5 @@ returns-then-pec c = search cases
 pub returns-else-pec : goal.returns-else-pec
 unfolding block_ask
 returns-else-pec c =
-    let e = rw c.least.ensures at c.mac-else-pec.ensures in
+    let e = rw c.min.ensures at c.mac-else-pec.ensures in
     search cases

@@ -1,14 +1,15 @@
--- `writing::frames::lay_half` meets its contract: the lower half first.
+-- `writing::frames::lay_half` meets its contract.
 -- Assumes nothing.
-use Rattle.writing.specs.Frames.{half_bytes}
 use borrow.Author.Tests.{eq-eqb, ne_eqb}
 use Rattle.protocol.specs.Pick.{when◌then◌else◌}
+use Rattle.writing.specs.Frames.{half_bytes}
 use Rattle.writing.proofs.frames.lay_half.Goals as goal
+use Rattle.writing.proofs.frames.lay_half.Goals.{then-i-eq0, else-i-eq0}
 
-pub returns-then-i-eq0 : goal.returns-then-i-eq0
+pub returns : goal.returns
 unfolding half_bytes when◌then◌else◌
-returns-then-i-eq0 c = rw (eq-eqb _ _ c.if-i-eq0.true) c.lay_number.ensures
-
-pub returns-else-i-eq0 : goal.returns-else-i-eq0
-unfolding half_bytes when◌then◌else◌
-returns-else-i-eq0 c = rw (ne_eqb _ _ c.if-i-eq0.false) c.lay_number-else-i-eq0.ensures
+returns c =
+    elim c.if-i-eq0.branch [
+      | then-i-eq0 w ↦ rw (eq-eqb _ _ w.if-i-eq0.true, ← w.half-is) c.lay_number.ensures
+      | else-i-eq0 w ↦ rw (ne_eqb _ _ w.if-i-eq0.false, ← w.half-is) c.lay_number.ensures
+    ]

@@ -5,4 +5,4 @@ use Rattle.courses.proofs.run.Link.ended.Goals as goal
 
 pub returns : goal.returns
 unfolding ended_of
-returns c = rw (c.end_of.ensures, c.phase.ensures, c.fits.ensures)
+returns c = rw (c.end_of.ensures, c.phase.ensures, c.fits-fits.ensures)

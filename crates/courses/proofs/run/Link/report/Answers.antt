@@ -3,4 +3,4 @@
 use Rattle.courses.proofs.run.Link.report.Goals as goal
 
 pub returns : goal.returns
-returns c = (rw (c.taken.ensures, c.report.ensures.0), c.report.ensures.1)
+returns c = (rw (c.taken.ensures, c.report-reported.ensures.0), c.report-reported.ensures.1)

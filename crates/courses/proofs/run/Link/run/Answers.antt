@@ -4,10 +4,10 @@ use Rattle.courses.proofs.Cases.{run_refused, run_admitted}
 use Rattle.courses.specs.Run.{leaves_of, run_of}
 use Rattle.courses.proofs.run.Link.run.Goals as goal
 
-pub returns-in-Refused : goal.returns-in-Refused
+pub returns-in-Err : goal.returns-in-Err
 unfolding run_of
-returns-in-Refused c = run_refused _ _ _ _ _ _ c.admit.ensures c.in-Refused.is (rw c.refused.ensures)
+returns-in-Err c = run_refused _ _ _ _ _ _ c.admit.ensures c.in-Err.is (rw c.refused.ensures)
 
-pub returns-in-Yes : goal.returns-in-Yes
+pub returns-in-Ok : goal.returns-in-Ok
 unfolding run_of leaves_of
-returns-in-Yes c = run_admitted _ _ _ _ _ c.admit.ensures c.in-Yes.is (rw (← c.drive-link.ensures, c.ended.ensures))
+returns-in-Ok c = run_admitted _ _ _ _ _ c.admit.ensures c.in-Ok.is (rw (← c.drive-link.ensures, c.ended.ensures))

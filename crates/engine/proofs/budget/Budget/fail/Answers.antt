@@ -1,18 +1,16 @@
--- `engine::budget::Budget::fail` meets its contract: each arm is a case of `failed`.
+-- `engine::budget::Budget::fail` meets its contract.
 -- Assumes nothing.
-use Prim.Native.Nat.{◌-◌}
-use mathlib.Core.Path.{◌≡◌, ◌∙◌}
-use Rattle.engine.proofs.Cases.{cases}
-use Rattle.engine.specs.Budget.{wait_of, failed}
+use native.Mathlib.Omega.{arith}
+use Rattle.protocol.proofs.Cases.{yes_eq, not_eq}
+use Rattle.engine.specs.Budget.{failed}
 use Rattle.engine.proofs.budget.Budget.fail.Goals as goal
 
-pub returns-then-left-eq0 : goal.returns-then-left-eq0
+pub returns-in_err-left : goal.returns-in_err-left
 unfolding failed
-returns-then-left-eq0 c = search cases
+returns-in_err-left c = let none = c.in_err-left.ensures in yes_eq _ _ _ _ _ (omega arith) c.from_residual.ensures
 
-pub returns-else-left-eq0 : goal.returns-else-left-eq0
+pub returns : goal.returns
 unfolding failed
-returns-else-left-eq0 c =
-    let a = c.args in
-    let wait : c.wait_after.result ≡ wait_of a.growing (a.retries - a.self.left) = c.wait_after.ensures ∙ rw c.failures.ensures in
-    search cases
+returns c =
+    let some = c.in_ok-left.ensures in
+    not_eq _ _ _ _ _ (λ z. omega arith) (rw (c.wait_after.ensures, c.saturating_sub-before.ensures, some.1))

@@ -1,4 +1,4 @@
--- `engine::budget::Tally::transfer` meets its contract: one more transfer is counted.
+-- `engine::budget::Tally::transfer` meets its contract.
 -- Assumes nothing.
 use Rattle.engine.specs.Budget.{tallied}
 use Rattle.engine.proofs.budget.Tally.transfer.Goals as goal

@@ -1,4 +1,4 @@
--- `engine::budget::Tally::wait` meets its contract: one more wait is counted, and its milliseconds.
+-- `engine::budget::Tally::wait` meets its contract.
 -- Assumes nothing.
 use Rattle.engine.specs.Budget.{waited}
 use Rattle.engine.proofs.budget.Tally.wait.Goals as goal

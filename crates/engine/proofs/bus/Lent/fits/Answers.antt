@@ -1,4 +1,4 @@
--- `engine::bus::Lent::fits` meets its contract: both tests are those of `fits_of`.
+-- `engine::bus::Lent::fits` meets its contract.
 -- Assumes nothing.
 use Rattle.protocol.proofs.Cases.{tests}
 use Rattle.engine.specs.Bus.{fits_of}

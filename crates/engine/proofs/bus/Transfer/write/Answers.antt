@@ -3,10 +3,10 @@
 use Rattle.engine.specs.Bus.{write_of}
 use Rattle.engine.proofs.bus.Transfer.write.Goals as goal
 
-pub returns-in-Frame : goal.returns-in-Frame
+pub returns-in-Some : goal.returns-in-Some
 unfolding write_of
-returns-in-Frame c = cc
+returns-in-Some c = cc
 
-pub returns-in-NoRoom : goal.returns-in-NoRoom
+pub returns-in-None : goal.returns-in-None
 unfolding write_of
-returns-in-NoRoom c = cc
+returns-in-None c = cc

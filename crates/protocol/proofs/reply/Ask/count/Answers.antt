@@ -1,8 +1,8 @@
--- `protocol::reply::Ask::count` meets its contract: the sum of the data and what stands around it.
+-- `protocol::reply::Ask::count` meets its contract.
 -- Assumes nothing.
 use Rattle.protocol.specs.Reply.{bytes_asked}
 use Rattle.protocol.proofs.reply.Ask.count.Goals as goal
 
 pub returns : goal.returns
 unfolding bytes_asked
-returns c = rw c.around.ensures at c.plus.ensures
+returns c = rw c.around.ensures at c.saturating_add.ensures

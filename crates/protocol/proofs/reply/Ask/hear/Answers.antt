@@ -1,21 +1,18 @@
--- `protocol::reply::Ask::hear` meets its contract: each return is a case of `heard_of`.
+-- `protocol::reply::Ask::hear` meets its contract, arm by arm.
 -- Assumes nothing.
 use Rattle.protocol.proofs.Cases.{cases}
 use Rattle.protocol.specs.Reply.{heard_of}
 use Rattle.protocol.proofs.reply.Ask.hear.Goals as goal
+use Rattle.protocol.proofs.reply.Ask.hear.Goals.{else-self-via-then-self+else-not-checked, else-self-via-else-self}
 
-pub returns-then-checked : goal.returns-then-checked
+pub returns-then-count-reply : goal.returns-then-count-reply
 unfolding heard_of
-returns-then-checked c = search cases
+returns-then-count-reply c = search cases
 
-pub returns-else-checked : goal.returns-else-checked
+pub returns-then-not-checked : goal.returns-then-not-checked
 unfolding heard_of
-returns-else-checked c = search cases
+returns-then-not-checked c = search cases
 
-pub returns-else-self : goal.returns-else-self
+pub returns : goal.returns
 unfolding heard_of
-returns-else-self c = search cases
-
-pub returns-else-count-reply : goal.returns-else-count-reply
-unfolding heard_of
-returns-else-count-reply c = search cases
+returns c = elim c.else-self.branch [ else-self-via-then-self+else-not-checked w ↦ search cases | else-self-via-else-self w ↦ search cases ]

@@ -1,8 +1,8 @@
--- `reading::call::ReadCall::headed` meets its contract: the fields are those of `headed_of`.
+-- `reading::call::ReadCall::headed` meets its contract.
 -- Assumes nothing.
 use Rattle.reading.specs.Reading.{headed_of}
 use Rattle.reading.proofs.call.ReadCall.headed.Goals as goal
 
 pub returns : goal.returns
 unfolding headed_of
-returns c = rw (c.after.ensures, c.count.ensures)
+returns c = rw c.after.ensures

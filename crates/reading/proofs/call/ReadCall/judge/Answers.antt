@@ -1,4 +1,4 @@
--- `reading::call::ReadCall::judge` meets its contract: each return is a case of `judge_of`.
+-- `reading::call::ReadCall::judge` meets its contract.
 -- Assumes nothing.
 use Rattle.engine.proofs.Cases.{cases}
 use Rattle.reading.specs.Reading.{judge_of}

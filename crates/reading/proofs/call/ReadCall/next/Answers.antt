@@ -1,4 +1,4 @@
--- `reading::call::ReadCall::next` meets its contract: each return is a case of `next_of`.
+-- `reading::call::ReadCall::next` meets its contract.
 -- Assumes nothing.
 use Rattle.engine.proofs.Cases.{cases}
 use Rattle.reading.specs.Reading.{next_of, work_after}

@@ -1,4 +1,4 @@
--- `reading::call::ReadCall::start` meets its contract: the fields are those of `start_of`.
+-- `reading::call::ReadCall::start` meets its contract.
 -- Assumes nothing.
 use Rattle.reading.specs.Reading.{start_of}
 use Rattle.reading.proofs.call.ReadCall.start.Goals as goal

@@ -5,4 +5,4 @@ use Rattle.reading.proofs.call.ReadCall.store.Goals as goal
 
 pub returns : goal.returns
 unfolding stored_of
-returns c = rw (c.most.ensures, c.data_of.ensures, c.block_start-at.ensures, c.due-ask.ensures) at c.store_block.ensures
+returns c = rw (c.most.ensures, c.data_of.ensures, c.block_start-at.ensures, c.due.ensures) at c.store_block.ensures

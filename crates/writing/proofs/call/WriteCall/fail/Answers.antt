@@ -1,13 +1,13 @@
--- `writing::call::WriteCall::fail` meets its contract: each arm is a case of `fail_of`.
+-- `writing::call::WriteCall::fail` meets its contract.
 -- Assumes nothing.
 use Rattle.engine.proofs.Cases.{cases}
 use Rattle.writing.specs.Writing.{fail_of}
 use Rattle.writing.proofs.call.WriteCall.fail.Goals as goal
 
-pub returns-in-Retry : goal.returns-in-Retry
+pub returns-in-Some : goal.returns-in-Some
 unfolding fail_of
-returns-in-Retry c = search cases
+returns-in-Some c = search cases
 
-pub returns-in-Spent : goal.returns-in-Spent
+pub returns-in-None : goal.returns-in-None
 unfolding fail_of
-returns-in-Spent c = search cases
+returns-in-None c = search cases

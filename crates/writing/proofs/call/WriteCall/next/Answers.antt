@@ -1,4 +1,4 @@
--- `writing::call::WriteCall::next` meets its contract: each return is a case of `next_of`.
+-- `writing::call::WriteCall::next` meets its contract.
 -- Assumes nothing.
 use Rattle.engine.proofs.Cases.{cases}
 use Rattle.writing.specs.Writing.{next_of, work_after}
@@ -8,6 +8,10 @@ pub returns-in-Ended : goal.returns-in-Ended
 unfolding next_of work_after
 returns-in-Ended c = search cases
 
+pub returns-then-not-fits : goal.returns-then-not-fits
+unfolding next_of work_after
+returns-then-not-fits c = search cases
+
 pub returns-then-own_bytes : goal.returns-then-own_bytes
 unfolding next_of work_after
 returns-then-own_bytes c = search cases
@@ -15,7 +19,3 @@ returns-then-own_bytes c = search cases
 pub returns-else-own_bytes : goal.returns-else-own_bytes
 unfolding next_of work_after
 returns-else-own_bytes c = search cases
-
-pub returns-else-fits : goal.returns-else-fits
-unfolding next_of work_after
-returns-else-fits c = search cases

@@ -1,21 +1,13 @@
--- `writing::call::WriteCall::replied` meets its contract: each return is a case of `replied_of`.
+-- `writing::call::WriteCall::replied` meets its contract.
 -- Assumes nothing.
 use Rattle.engine.proofs.Cases.{cases}
 use Rattle.writing.specs.Writing.{replied_of}
+use Rattle.writing.proofs.Rest.{failed}
 use Rattle.writing.proofs.call.WriteCall.replied.Goals as goal
 
-pub returns-then-reply-eq0 : goal.returns-then-reply-eq0
+pub returns-in-Acknowledged : goal.returns-in-Acknowledged
 unfolding replied_of
-returns-then-reply-eq0 c = search cases
+returns-in-Acknowledged c = search cases
 
-pub returns-else-reply-eq0 : goal.returns-else-reply-eq0
-unfolding replied_of
-returns-else-reply-eq0 c = search cases
-
-pub returns-in-BusError : goal.returns-in-BusError
-unfolding replied_of
-returns-in-BusError c = search cases
-
-pub returns-in-Timeout : goal.returns-in-Timeout
-unfolding replied_of
-returns-in-Timeout c = search cases
+pub returns-in_default : goal.returns-in_default
+returns-in_default c = failed _ c.in_default.not-Acknowledged _

@@ -1,4 +1,4 @@
--- `writing::call::WriteCall::report` meets its contract: each return is a case of `report_of`.
+-- `writing::call::WriteCall::report` meets its contract.
 -- Assumes nothing.
 use Rattle.engine.proofs.Cases.{cases}
 use Rattle.writing.specs.Writing.{report_of}
@@ -8,14 +8,14 @@ pub returns-in-Ended : goal.returns-in-Ended
 unfolding report_of
 returns-in-Ended c = search cases
 
+pub returns-then-not-fits : goal.returns-then-not-fits
+unfolding report_of
+returns-then-not-fits c = search cases
+
 pub returns-then-replied : goal.returns-then-replied
 unfolding report_of
 returns-then-replied c = search cases
 
-pub returns-else-replied : goal.returns-else-replied
+pub returns : goal.returns
 unfolding report_of
-returns-else-replied c = rw (← c.counted.ensures) (search cases)
-
-pub returns-else-fits : goal.returns-else-fits
-unfolding report_of
-returns-else-fits c = search cases
+returns c = rw (← c.counted.ensures) (search cases)

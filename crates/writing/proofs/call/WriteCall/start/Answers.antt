@@ -1,4 +1,4 @@
--- `writing::call::WriteCall::start` meets its contract: the fields are those of `start_of`.
+-- `writing::call::WriteCall::start` meets its contract.
 -- Assumes nothing.
 use Rattle.writing.specs.Writing.{start_of}
 use Rattle.writing.proofs.call.WriteCall.start.Goals as goal

@@ -1,13 +1,19 @@
--- `writing::call::WriteCall::to_send` meets its contract: each part is a case of `part_of`.
+-- `writing::call::WriteCall::to_send` meets its contract.
 -- Assumes nothing.
-use Rattle.engine.proofs.Cases.{cases}
+use Prim.Native.Nat.{ℕ}
+use mathlib.Core.Path.{◌≡◌, refl}
+use mathlib.Core.Bool.{Bool, true, false, not}
+use mathlib.Core.List.{List}
+use Rattle.protocol.specs.Pick.{when◌then◌else◌}
+use Rattle.protocol.specs.Bytes.{send_of}
 use Rattle.writing.specs.Writing.{part_of}
 use Rattle.writing.proofs.call.WriteCall.to_send.Goals as goal
 
-pub returns-then-own_bytes : goal.returns-then-own_bytes
-unfolding part_of
-returns-then-own_bytes c = search cases
+either : (own : Bool) (payload work : List ℕ) (n : ℕ) → send_of payload work (not own) n ≡ when own then send_of payload work false n else send_of payload work true n
+unfolding when◌then◌else◌
+either true payload work n = refl
+either false payload work n = refl
 
-pub returns-else-own_bytes : goal.returns-else-own_bytes
+pub returns : goal.returns
 unfolding part_of
-returns-else-own_bytes c = search cases
+returns c = rw (c.to_send.ensures, c.own_bytes.ensures) (either _ _ _ _)

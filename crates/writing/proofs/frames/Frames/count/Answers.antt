@@ -1,23 +1,8 @@
--- `writing::frames::Frames::count` meets its contract: each variant has its own case.
+-- `writing::frames::Frames::count` meets its contract.
 -- Assumes nothing.
 use Rattle.writing.specs.Frames.{frame_count}
+use Rattle.writing.proofs.Rest.{single}
 use Rattle.writing.proofs.frames.Frames.count.Goals as goal
-
-pub returns-in-Plain : goal.returns-in-Plain
-unfolding frame_count
-returns-in-Plain c = rw c.in-Plain.is
-
-pub returns-in-Register : goal.returns-in-Register
-unfolding frame_count
-returns-in-Register c = rw c.in-Register.is
-
-pub returns-in-MfgInfo : goal.returns-in-MfgInfo
-unfolding frame_count
-returns-in-MfgInfo c = rw c.in-MfgInfo.is
-
-pub returns-in-Mac : goal.returns-in-Mac
-unfolding frame_count
-returns-in-Mac c = rw c.in-Mac.is
 
 pub returns-in-AccessKey : goal.returns-in-AccessKey
 unfolding frame_count
@@ -30,3 +15,6 @@ returns-in-MfgInfoC c = rw c.in-MfgInfoC.is
 pub returns-in-DataFlash : goal.returns-in-DataFlash
 unfolding frame_count
 returns-in-DataFlash c = rw c.in-DataFlash.is c.blocks-in-DataFlash.ensures
+
+pub returns-in_default : goal.returns-in_default
+returns-in_default c = single _ _ c.in_default.not-AccessKey c.in_default.not-MfgInfoC c.in_default.not-DataFlash
