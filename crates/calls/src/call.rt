@@ -98,6 +98,7 @@ impl Call {
         }
     }
 
+    // Stays: a field of either engine's call; a trait over both would be longer than the two.
     // What the call counts beside its answer.
     pub fn tally(self) -> Tally
         ensures { result ≡ tally_of self }

@@ -58,6 +58,7 @@ impl Link {
         }
     }
 
+    // Stays: what is lent belongs to the caller of `run`, and each step borrows it in another way.
     // The n bytes that the call shows go to the gauge.
     fn send<'a>(
         self,

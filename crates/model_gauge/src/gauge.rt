@@ -138,6 +138,7 @@ impl Gauge {
         }
     }
 
+    // Stays: an arm for each fate of a transfer, for what is lent in two ways.
     // A frame goes to the gauge.
     pub fn write(self, fate: Fate, frame: &[u8], flash: &mut [u8]) -> Effect
         ensures { (result ≡ handed_back (effect_of fate (write frame.now) self flash.old)) × (flash.new ≡ (effect_of fate (write frame.now) self flash.old).flash) }

@@ -47,6 +47,7 @@ impl Config {
         }
     }
 
+    // Stays: one function over both would hand out a setting that its caller drops.
     // Whether the frames of a call on this side carry a PEC.
     pub fn pec(self, side: Side) -> bool
         ensures { result ≡ pec_on self side }

@@ -13,6 +13,7 @@ use crate::consts::{
 // The PEC of the byte 16 hex, with which every write opens.
 const PEC_OF_WRITE_ADDRESS: u8 = 0x62;
 
+// Stays: the work buffer is the host's own, and how much of it is laid is known here alone (no heap, fixed memory).
 // Bytes laid after the first `at`; how many there are then.
 fn push(work: &mut [u8], at: usize, bytes: &[u8]) -> usize
     requires { at + length bytes.now ≤ length work.old }
@@ -53,6 +54,7 @@ fn room(work: usize, lead: usize, pair: usize, body: usize) -> bool
     lead.saturating_add(pair).saturating_add(body) < work
 }
 
+// Stays: work buffer, body and PEC are from three owners (the host, its payload, the plan) and meet here: a struct would be made for one call.
 // The one builder: a lead, a pair and the body, each perhaps empty, and the PEC where it is on.
 fn lay(work: &mut [u8], lead: &[u8], pair: &[u8], body: &[u8], pec: bool) -> Option<usize>
     ensures { (result ≡ laid_of pec (lead.now ++ pair.now ++ body.now) (length work.old)) × (work.new ≡ work_laid pec (lead.now ++ pair.now ++ body.now) work.old) }

@@ -54,6 +54,7 @@ impl Ask {
         }
     }
 
+    // Stays: two layouts in one function would be a match inside it.
     // A MAC or data-flash read: three bytes stand before the data, and the PEC covers 44 whatever command was sent.
     pub fn mac(command: u8, count: usize, pec: bool) -> Ask
         ensures { result ≡ mac_ask command count pec }

@@ -112,6 +112,7 @@ fn heard_block(ask: Ask, reply: &[u8]) -> Verdict
     }
 }
 
+// Stays: as in `writing`: an engine of its own, with a definition for each step.
 impl ReadCall {
     // A call starts: it waits with its head or its first read due, is done at once, or is refused.
     pub fn start(plan: ReadPlan, buffer: &[u8], work: &[u8]) -> ReadCall
@@ -261,6 +262,7 @@ impl ReadCall {
         }
     }
 
+    // Stays: an arm for each outcome of the bus, which is an enum of its own.
     // What an outcome of the transfer that is due comes to. The reply of a failure is not looked at.
     fn weigh(self, outcome: Outcome, reply: &[u8]) -> Verdict
         ensures { result ≡ weigh_of self outcome reply.now }
@@ -310,6 +312,7 @@ impl ReadCall {
         }
     }
 
+    // Stays: an arm for each verdict; a closure in its place would take the same four.
     // An outcome is reported: refused with 10, 8 or 9 and call and buffer as they were, or taken and counted.
     pub fn report(
         self,

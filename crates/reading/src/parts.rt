@@ -43,6 +43,7 @@ impl Head {
         }
     }
 
+    // Stays: an arm for each kind of frame, as in `writing`.
     // The frame, laid at the front of the work buffer; that of data flash for block i.
     pub(crate) fn lay(self, i: u32, work: &mut [u8], pec: bool) -> Option<usize>
         ensures { (result ≡ laid_of pec (head_bytes self i) (length work.old)) × (work.new ≡ work_laid pec (head_bytes self i) work.old) }
@@ -59,6 +60,7 @@ impl Head {
 }
 
 // The reads of a call.
+// Stays: three ways to read, and no value that is perhaps missing.
 #[derive(Clone, Copy, Debug, PartialEq, Eq)]
 pub enum Reads {
     // None: a command with no output.

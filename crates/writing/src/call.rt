@@ -61,6 +61,7 @@ fn gave_up(frames: Frames, sent: u32, why: Answer) -> Answer
     }
 }
 
+// Stays: the steps of both engines are alike, but each comes to a definition of its own (`Writing`, `Reading`), of which the promises speak.
 impl WriteCall {
     // A call starts: it waits with its first frame due, is done at once, or is refused.
     pub fn start(plan: WritePlan, payload: &[u8], work: &[u8]) -> WriteCall
@@ -168,6 +169,7 @@ impl WriteCall {
         }
     }
 
+    // Stays: an arm for each outcome of the bus, which is an enum of its own.
     // What an outcome of the transfer that is due leads to.
     fn settle(self, outcome: Outcome) -> WriteCall
         ensures { result ≡ settle_of self outcome }
