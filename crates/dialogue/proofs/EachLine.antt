@@ -10,8 +10,7 @@ use Rattle.calls.specs.declared.call.Call.{Call}
 use Rattle.calls.specs.declared.call.Reported.{Reported}
 use Rattle.calls.specs.declared.call.Reported.TheVariants as reported
 use Rattle.requests.specs.Outcome.{outcome_line}
-use Rattle.requests.specs.declared.outcome.Told.{Told}
-use Rattle.requests.specs.declared.outcome.Told.TheVariants as told
+use Rattle.std.specs.Prelude.{Option, Some, None}
 use Rattle.printing.specs.Printing.{end_said}
 use Rattle.dialogue.specs.Dialogue.{Saying, asked, last, bytes_said, line_shown, last_of}
 use Rattle.hexadecimal.specs.Line.{line_bytes}
@@ -46,10 +45,10 @@ module _ (P : List ℕ → Type 0) (Good : Call → List ℕ → Type 0) (payloa
       each_report (reported.Refused a c) buffer h = (h, tt)
       each_report (reported.Taken c) buffer h = all c buffer h
 
-      each_told : (t : Told) (c : Call) (buffer bytes : List ℕ) → Good c buffer → All P (told_then t c payload buffer bytes next)
+      each_told : (t : Option Outcome) (c : Call) (buffer bytes : List ℕ) → Good c buffer → All P (told_then t c payload buffer bytes next)
       unfolding told_then
-      each_told (told.Outcome o) c buffer bytes h = each_report _ _ (reports c buffer h o (drop 1 bytes))
-      each_told told.Bad c buffer bytes h = (bad_line c buffer h, tt)
+      each_told (Some o) c buffer bytes h = each_report _ _ (reports c buffer h o (drop 1 bytes))
+      each_told None c buffer bytes h = (bad_line c buffer h, tt)
 
     each_line : (lines : List (List ℕ)) (c : Call) (buffer rest : List ℕ) → Good c buffer → All P (call_lines c payload buffer lines rest)
     unfolding call_lines

@@ -10,13 +10,15 @@ use lib.Seq.{drop-length, take_at}
 use lib.Dec.{leb}
 use borrow.Author.Tests.{leb-true, leb-false}
 use Rattle.hexadecimal.specs.Hex.{out_decoded}
+use Rattle.hexadecimal.specs.declared.DecodeError.{DecodeError}
+use Rattle.std.specs.Prelude.{Result, Ok, Err}
+use Rattle.std.specs.Result.{result_unwrap_or}
 use Rattle.protocol.proofs.Laws.{take_short}
-use Rattle.protocol.specs.declared.common.Config.{Config}
 use Rattle.calls.specs.Call.{start_of}
-use Rattle.calls.specs.declared.kind.Kind.{Kind}
+use Rattle.requests.specs.declared.request.Asked.{Asked}
 use Rattle.calls.specs.declared.call.Call.{Call}
 use Rattle.calls.specs.declared.call.Reported.{Reported}
-use Rattle.dialogue.specs.Dialogue.{filled, byte_count, bytes_in, say_of, room_for, open_of, hear_of, hear_buffer, payload_in, go_on, go_buffer}
+use Rattle.dialogue.specs.Dialogue.{filled, count_in, byte_count, bytes_in, say_of, room_for, open_of, hear_of, hear_buffer, payload_in, go_on, go_buffer}
 use Rattle.dialogue.specs.declared.Place.{Place}
 use Rattle.dialogue.proofs.Kept.{length_filled, length_heard}
 
@@ -24,6 +26,12 @@ use Rattle.dialogue.proofs.Kept.{length_filled, length_heard}
 pub bytes_in_lem : (line bytes after front : List ℕ) (n : ℕ) → n ≡ byte_count line (length bytes) → after ≡ out_decoded line bytes → front ≡ take n after → front ≡ bytes_in line bytes
 unfolding bytes_in
 bytes_in_lem line bytes after front n p q e = e ∙ rw (p, q)
+
+-- a count of bytes, or none of a line that has no bytes
+pub count_or_none : (r : Result ℕ DecodeError) → result_unwrap_or r 0 ≡ count_in r
+unfolding count_in
+count_or_none (Ok n) = refl
+count_or_none (Err e) = refl
 
 -- what is left after so many bytes, or after all of them where there are fewer
 pub drop_short : (k : ℕ) (l : List ℕ) → drop (min k (length l)) l ≡ drop k l
@@ -37,14 +45,14 @@ drop_short k l = by (leb k (length l)) refl
         rw n (drop-length l ∙ sym (drop_of_length-le l {i = k} (omega arith)))
 
 -- a call that was started
-pub opened : (kind : Kind) (config : Config) (at n : ℕ) (line buffer after payload own : List ℕ) (call : Call) (rep : Reported)
-    → after ≡ filled n buffer → payload ≡ drop at line → own ≡ take n after
-    → call ≡ start_of kind config (length payload) (length own) 39 → rep ≡ room_for call n (length after)
-    → say_of rep (record { at = at; payload = length payload; buffer = n }) payload own ≡ open_of kind config at n line buffer
+pub opened : (q : Asked) (line buffer after payload own : List ℕ) (call : Call) (rep : Reported)
+    → after ≡ filled q.len buffer → payload ≡ drop q.at line → own ≡ take q.len after
+    → call ≡ start_of q.kind q.config (length payload) (length own) 39 → rep ≡ room_for call q.len (length after)
+    → say_of rep (record { at = q.at; payload = length payload; buffer = q.len }) payload own ≡ open_of q line buffer
 unfolding open_of
-opened kind config at n line buffer after payload own call rep a p o s r =
-    let m : length after ≡ length buffer = ap length a ∙ length_filled n buffer in
-    let k : length own ≡ min n (length buffer) = ap length o ∙ rw (length-take, m) in
+opened q line buffer after payload own call rep a p o s r =
+    let m : length after ≡ length buffer = ap length a ∙ length_filled q.len buffer in
+    let k : length own ≡ min q.len (length buffer) = ap length o ∙ rw (length-take, m) in
     rw (r, s, k, m, p, o, a)
 
 -- a call that goes on, whose buffer is the first k bytes of those that are lent
