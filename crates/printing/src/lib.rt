@@ -28,7 +28,8 @@ fn lay(head: &[u8], body: &[u8], out: &mut [u8]) -> usize
     b + 1
 }
 
-// A line of two parts; how many bytes it has, or 0 where there is no room and nothing is laid.
+// A line of two parts; how many bytes are laid, 0 of a line that has no room.
+// Stays: a count that callers add to what is laid before; as an Option each of them would write `unwrap_or(0)`.
 fn line(head: &[u8], body: &[u8], out: &mut [u8]) -> usize
     ensures { (result ≡ printed_of (head.now ++ body.now) (length out.old)) × (out.new ≡ out_printed (head.now ++ body.now) out.old) }
 {
