@@ -24,7 +24,7 @@ use Rattle.calls.specs.declared.call.Call.TheVariants as call
 use Rattle.calls.specs.declared.call.Reported.{Reported}
 use Rattle.calls.specs.declared.call.Reported.TheVariants as reported
 use Rattle.requests.specs.Outcome.{acknowledged_line, error_line, timeout_line, outcome_line}
-use Rattle.requests.specs.declared.outcome.Told.TheVariants as told
+use Rattle.std.specs.Prelude.{None}
 use Rattle.printing.specs.Printing.{write_said, end_said}
 use Rattle.dialogue.specs.Dialogue.{asked, last, size_of, tell_of, zeros, line_shown}
 use Rattle.hexadecimal.specs.Line.{line_bytes}
@@ -212,7 +212,7 @@ module _ (per_frame growing : Bool) (retries : ℕ) (rust : List BusOutcome → 
               ++ told_then
               (when zero then acknowledged_line (length (b ∷ s)) else
               when one then error_line (get_or (b ∷ s) 1 0) (length (b ∷ s)) else
-              when two then timeout_line (length (b ∷ s)) else told.Bad) c payload buffer (b ∷ s) go
+              when two then timeout_line (length (b ∷ s)) else None) c payload buffer (b ∷ s) go
           by true one two = acknowledged b s
           by false true two = error b s
           by false false true = timeout b s
