@@ -162,14 +162,14 @@ impl Arguments<'_> {
 fn unknown_flags(flags: u8) -> bool
     ensures { result ≡ unknown_flags flags }
 {
-    15 < flags
+    flags > 0x0F
 }
 
 // Whether two budgets follow the flags: bit 2.
 fn two_budgets(flags: u8) -> bool
     ensures { result ≡ two_budgets flags }
 {
-    flags / 4 % 2 == 1
+    flags & 4 != 0
 }
 
 // How many bytes the header has.
@@ -202,9 +202,9 @@ fn config(line: &[u8]) -> Config
     Config {
         max_write_retries: pair(line, 2),
         max_read_retries: read_retries(line),
-        pec_write: flags % 2 == 1,
-        pec_read: flags / 2 % 2 == 1,
-        growing_waits: flags / 8 % 2 == 1,
+        pec_write: flags & 1 != 0,
+        pec_read: flags & 2 != 0,
+        growing_waits: flags & 8 != 0,
     }
 }
 
