@@ -36,9 +36,9 @@ fn digit(value: u8) -> u8
     ensures { result ≡ digit_of value }
 {
     if value < 10 {
-        value + 48
+        value + b'0'
     } else {
-        value % 16 + 55
+        value % 16 + (b'A' - 10)
     }
 }
 

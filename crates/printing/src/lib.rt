@@ -24,7 +24,7 @@ fn lay(head: &[u8], body: &[u8], out: &mut [u8]) -> usize
     hexadecimal::encode(head, out);
     hexadecimal::encode(body, &mut out[a..]);
     let b = a + body.len() * 2;
-    out[b] = 10;
+    out[b] = b'\n';
     b + 1
 }
 

@@ -8,7 +8,6 @@ use lib.ListN.{length, take, drop}
 use lib.Seq.{drop-set-lt}
 use Rattle.std.proofs.lemmas.Result.{err_from_is_err_and}
 use Rattle.std.proofs.lemmas.List.{nil_from_length}
-use borrow.Author.Rules.{rules}
 use Rattle.hexadecimal.proofs.Cases.{cases}
 use Rattle.std.specs.Prelude.{None, Err}
 use Rattle.hexadecimal.specs.declared.DecodeError.TheVariants as error
@@ -23,9 +22,6 @@ returns-then-digits-eq1 c = search cases
 pub returns-then-out-n : goal.returns-then-out-n
 unfolding decoded_of out_decoded
 returns-then-out-n c = search cases
-
-pub loop-i-init : goal.loop-i-init
-loop-i-init c = search rules
 
 pub returns-in_err-out : goal.returns-in_err-out
 unfolding decoded_of out_decoded

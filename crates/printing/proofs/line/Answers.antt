@@ -8,9 +8,6 @@ use Rattle.protocol.proofs.Cases.{cases}
 use Rattle.printing.specs.Printing.{printed_of, out_printed}
 use Rattle.printing.proofs.line.Goals as goal
 
-pub lay-requires : goal.lay-requires
-lay-requires c = omega (arith, c.div_ceil.ensures)
-
 pub returns-then-head-body : goal.returns-then-head-body
 unfolding printed_of
 returns-then-head-body c =
