@@ -1,16 +1,14 @@
 -- A step of a run put together from what its calls gave.
 -- Assumes nothing.
-use Prim.Native.Nat.{ℕ, ◌<◌, min}
-use mathlib.Core.Path.{◌≡◌, refl, sym, ap, ◌∙◌}
-use mathlib.Core.Bool.{Bool, true, false}
+use Prim.Native.Nat.{ℕ, min}
+use mathlib.Core.Path.{◌≡◌, refl, ap, ◌∙◌}
 use mathlib.Core.List.{List, ◌++◌}
 use native.Mathlib.Omega.{arith}
-use lib.ListN.{length, take, drop, length-take, drop_of_length-le}
-use lib.Seq.{drop-length, take_at}
-use lib.Dec.{leb}
-use borrow.Author.Tests.{leb-true, leb-false}
+use lib.ListN.{length, take, drop, length-take}
+use lib.Seq.{take_at}
 use Rattle.hexadecimal.specs.Hex.{out_decoded}
 use Rattle.hexadecimal.specs.declared.DecodeError.{DecodeError}
+use Rattle.std.proofs.lemmas.List.{drop_min}
 use Rattle.std.specs.Prelude.{Result, Ok, Err}
 use Rattle.std.specs.Result.{result_unwrap_or}
 use Rattle.protocol.proofs.Laws.{take_short}
@@ -33,17 +31,6 @@ unfolding count_in
 count_or_none (Ok n) = refl
 count_or_none (Err e) = refl
 
--- what is left after so many bytes, or after all of them where there are fewer
-pub drop_short : (k : ℕ) (l : List ℕ) → drop (min k (length l)) l ≡ drop k l
-drop_short k l = by (leb k (length l)) refl
-  where
-    by : (t : Bool) → leb k (length l) ≡ t → drop (min k (length l)) l ≡ drop k l
-    by true e = let n : min k (length l) ≡ k = omega (arith, leb-true k (length l) e) in rw n
-    by false e =
-        let h : length l < k = leb-false k (length l) e in
-        let n : min k (length l) ≡ length l = omega arith in
-        rw n (drop-length l ∙ sym (drop_of_length-le l {i = k} (omega arith)))
-
 -- a call that was started
 pub opened : (q : Asked) (line buffer after payload own : List ℕ) (call : Call) (rep : Reported)
     → after ≡ filled q.len buffer → payload ≡ drop q.at line → own ≡ take q.len after
@@ -63,7 +50,7 @@ pub went_on : (call : Call) (place : Place) (line request buffer payload front y
 unfolding go_on go_buffer
 went_on call place line request buffer payload front ys rep k p m r y f =
     let t : take k buffer ≡ take place.buffer buffer = rw m (take_short place.buffer buffer) in
-    let d : drop k buffer ≡ drop place.buffer buffer = rw m (drop_short place.buffer buffer) in
+    let d : drop k buffer ≡ drop place.buffer buffer = rw m (drop_min place.buffer buffer) in
     let n : length (take k buffer) ≡ k = rw length-take (omega arith) in
     let l : length ys ≡ k = ap length y ∙ length_heard call line (take k buffer) ∙ n in
     let g : front ≡ hear_buffer call line (take place.buffer buffer) = f ∙ take_at ys (drop k buffer) k l ∙ y ∙ rw t in
