@@ -1,8 +1,7 @@
 -- What a step does to what is lent, and what it costs. (01, The step machine; Frames and retries; 02, W-203)
 -- Assumes nothing.
 use Rattle.engine.specs.Bus.{Reported}
-use Rattle.std.specs.Prelude.{Err, Ok}
-use Rattle.std.specs.Prelude.{ℕ, ◌+◌, ◌-◌, ◌*◌, ◌≡◌, Bool, true, false, List, ◌⊎◌, ◌↔◌, length, take, drop}
+use Rattle.std.specs.Prelude.{ℕ, ◌+◌, ◌-◌, ◌*◌, ◌≡◌, Bool, true, false, List, ◌⊎◌, ◌↔◌, length, take, drop, Err, Ok}
 use Rattle.protocol.specs.Common.{TwoByteBudgets}
 use Rattle.protocol.specs.Pick.{when◌then◌else◌}
 use Rattle.protocol.specs.Answer.{number_of}

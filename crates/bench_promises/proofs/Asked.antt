@@ -14,10 +14,9 @@ use Rattle.calls.specs.declared.kind.Kind.{Kind}
 use Rattle.hexadecimal.specs.Digits.{in_digits}
 use Rattle.requests.specs.Fields.{pair_at, quad_at}
 use Rattle.requests.specs.Request as requests
-use Rattle.requests.specs.Request.{header_bytes, read_retries, config_of, header_of, called_of, exact_of}
+use Rattle.requests.specs.Request.{header_bytes, read_retries, config_of, header_of, call_for, called_of, exact_of}
 use Rattle.requests.specs.Retired.{retired_kind}
 use Rattle.requests.specs.declared.request.Header.{Header}
-use Rattle.requests.specs.declared.request.Request.TheVariants as request
 use Rattle.bench_promises.specs.Numbers.{number, field}
 use Rattle.bench_promises.specs.Kinds.{bit, settings, begins, is_retired}
 use Rattle.bench_promises.proofs.Flags.{two, pec_write, pec_read, growing}
@@ -81,7 +80,7 @@ module _ (k : Kind) (header : Header) (at size n : ℕ) where
   unfolding called_of when◌then◌else◌
   wide h = rw (lt-ltb 8192 size h)
 
-  pub called : at ≤ n → n - at ≤ 8192 → size ≤ 8192 → called_of k header at size n ≡ request.Call k header.config (header.bytes + at) size
+  pub called : at ≤ n → n - at ≤ 8192 → size ≤ 8192 → called_of k header at size n ≡ call_for k header.config (header.bytes + at) size
   unfolding called_of when◌then◌else◌
   called h l w = rw (le-ltb 8192 size w, le-ltb n at h, le-ltb 8192 (n - at) l)
 

@@ -1,7 +1,7 @@
 -- A run of the bench from a call on, followed through the Rust's function: each outcome that is taken is one more that the Rust is given.
 -- Assumes nothing.
 use Rattle.engine.specs.Bus.{Reported}
-use Rattle.std.specs.Prelude.{Err, Ok}
+use Rattle.std.specs.Prelude.{Err, Ok, None}
 use Prim.Native.Nat.{ℕ, ◌≤◌, ◌<◌}
 use mathlib.Core.Path.{◌≡◌, refl, sym, ap, ◌∙◌}
 use mathlib.Core.Bool.{Bool, true, false}
@@ -24,7 +24,6 @@ use Rattle.calls.specs.Call.{next_of, work_after, part_of, report_of, buffer_aft
 use Rattle.calls.specs.declared.call.Call.{Call}
 use Rattle.calls.specs.declared.call.Call.TheVariants as call
 use Rattle.requests.specs.Outcome.{acknowledged_line, error_line, timeout_line, outcome_line}
-use Rattle.requests.specs.declared.outcome.Told.TheVariants as told
 use Rattle.printing.specs.Printing.{write_said, end_said}
 use Rattle.dialogue.specs.Dialogue.{asked, last, size_of, tell_of, zeros, line_shown}
 use Rattle.hexadecimal.specs.Line.{line_bytes}
@@ -212,7 +211,7 @@ module _ (per_frame growing : Bool) (retries : ℕ) (rust : List BusOutcome → 
               ++ told_then
               (when zero then acknowledged_line (length (b ∷ s)) else
               when one then error_line (get_or (b ∷ s) 1 0) (length (b ∷ s)) else
-              when two then timeout_line (length (b ∷ s)) else told.Bad) c payload buffer (b ∷ s) go
+              when two then timeout_line (length (b ∷ s)) else None) c payload buffer (b ∷ s) go
           by true one two = acknowledged b s
           by false true two = error b s
           by false false true = timeout b s

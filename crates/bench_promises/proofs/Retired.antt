@@ -27,10 +27,8 @@ use Rattle.engine.specs.declared.bus.Transfer.{Transfer}
 use Rattle.engine.specs.declared.bus.Transfer.TheVariants as transfer
 use Rattle.calls.specs.Call.{start_of, next_of, report_of, buffer_after, tally_of, phase_of}
 use Rattle.calls.specs.declared.call.Call.{Call}
-use Rattle.requests.specs.Request.{called_of, request_line}
+use Rattle.requests.specs.Request.{Request, called_of, request_line}
 use Rattle.requests.specs.Retired.{retired_kind}
-use Rattle.requests.specs.declared.request.Request.{Request}
-use Rattle.requests.specs.declared.request.Request.TheVariants as request
 use Rattle.requests.proofs.Every.{every_request}
 use Rattle.printing.specs.Printing.{write_said, read_said, end_said, cut_said}
 use Rattle.lines.specs.Input.{lines_from, rest_from}
@@ -197,10 +195,10 @@ other_after payload (Ok c) buffer h = h
 
 -- a request line that is not retired is refused with 11 alone
 abbrev Fine : Request → Type 0
-Fine (request.Call kind config at n) = Unit {0}
-Fine (request.Refused a) = number_of a ≡ 15 → ⊥
+Fine (Ok q) = Unit {0}
+Fine (Err a) = number_of a ≡ 15 → ⊥
 
-fine_either : (t : Bool) (q : Request) → Fine q → Fine (when t then request.Refused answer.BadLine else q)
+fine_either : (t : Bool) (q : Request) → Fine q → Fine (when t then Err answer.BadLine else q)
 unfolding when◌then◌else◌
 fine_either true q h = bad_line
 fine_either false q h = h
@@ -211,15 +209,15 @@ fine_request bytes = every_request Fine bad_line bytes (λ k at size few. fine_e
 
 other_request : (q : Request) (bytes : List ℕ) (lines : List (List ℕ)) (rest : List ℕ) → Fine q → All Other (request_then q bytes lines rest)
 unfolding request_then
-other_request (request.Call kind config at n) bytes lines rest h =
-    each_run Other (λ c buffer. Not15 (phase_of c)) (drop at bytes)
-    (λ c buffer g. other_shown c (drop at bytes) buffer g)
+other_request (Ok q) bytes lines rest h =
+    each_run Other (λ c buffer. Not15 (phase_of c)) (drop q.at bytes)
+    (λ c buffer g. other_shown c (drop q.at bytes) buffer g)
     (λ c buffer g left. other_last (tally_of c) left buffer)
     (λ c buffer g. other_end answer.BadLine (tally_of c) buffer bad_line)
-    (λ c buffer g o reply. other_after (drop at bytes) (report_of c o reply (length (drop at bytes)) (length buffer) 39) (buffer_after c o reply buffer 39)
-    (no_call.reports c g o reply (length (drop at bytes)) (length buffer) 39))
-    lines (start_of kind config (length (drop at bytes)) n 39) (replicate n 0xA5) rest (no_call.starts kind config (length (drop at bytes)) n 39)
-other_request (request.Refused a) bytes lines rest h = (other_end a nothing [] h, tt)
+    (λ c buffer g o reply. other_after (drop q.at bytes) (report_of c o reply (length (drop q.at bytes)) (length buffer) 39) (buffer_after c o reply buffer 39)
+    (no_call.reports c g o reply (length (drop q.at bytes)) (length buffer) 39))
+    lines (start_of q.kind q.config (length (drop q.at bytes)) q.len 39) (replicate q.len 0xA5) rest (no_call.starts q.kind q.config (length (drop q.at bytes)) q.len 39)
+other_request (Err a) bytes lines rest h = (other_end a nothing [] h, tt)
 
 -- the first line, or what follows where there is none
 first_of : List (List ℕ) → List ℕ → List ℕ

@@ -24,10 +24,8 @@ use Rattle.calls.specs.declared.kind.Kind.{Kind}
 use Rattle.calls.specs.declared.kind.Kind.TheVariants as kind
 use Rattle.requests.specs.Fields.{pair_at, quad_at}
 use Rattle.requests.specs.Request as requests
-use Rattle.requests.specs.Request.{called_of, exact_of, asked_of}
+use Rattle.requests.specs.Request.{Request, call_for, called_of, exact_of, asked_of}
 use Rattle.requests.specs.declared.request.Header.{Header}
-use Rattle.requests.specs.declared.request.Request.{Request}
-use Rattle.requests.specs.declared.request.Request.TheVariants as request
 use Rattle.dialogue.specs.Dialogue.{zeros}
 use Rattle.dialogue.specs.Bench.{call_run, request_then}
 use Rattle.original.specs.Bus.{BusOutcome, begun, Came, Err, Read, ◌leaving◌}
@@ -92,7 +90,7 @@ module _ (line : List ℕ) (lines : List (List ℕ)) (rest : List ℕ) (c : Conf
     short : row.fixed ≤ length args → length args - row.fixed < row.least → q ≡ requests.bad
     long : row.fixed ≤ length args → row.most < length args - row.fixed → q ≡ requests.bad
     wide : row.fixed ≤ length args → 8192 < row.size args → q ≡ requests.bad
-    good : Within row → q ≡ request.Call k c (before + row.fixed) (row.size args)
+    good : Within row → q ≡ call_for k c (before + row.fixed) (row.size args)
 
   abbrev payload : Row → List ℕ
   payload row = drop row.fixed args
@@ -122,7 +120,7 @@ module _ (line : List ℕ) (lines : List (List ℕ)) (rest : List ℕ) (c : Conf
   side_in_lem row k own = own (row.size args) ∙ ap (side_of k) (sym (length-replicate {A = ℕ} (row.size args) 0xA5))
 
   same_call : (row : Row) (k : Kind) → Own row k → TwoByteBudgets c → ((os : List BusOutcome) → rust_in row os ≡ fed_as row k os)
-      → Same (request.Call k c (before + row.fixed) (row.size args)) (call (rust_in row) (ms_in row))
+      → Same (call_for k c (before + row.fixed) (row.size args)) (call (rust_in row) (ms_in row))
   unfolding request_then run_asked transfer_lines
   same_call row k own small e =
       let whole : length (buffer row) ≡ row.size args = length-replicate {A = ℕ} (row.size args) 0xA5 in
@@ -157,7 +155,7 @@ module _ (line : List ℕ) (lines : List (List ℕ)) (rest : List ℕ) (c : Conf
     long = λ f h. long k header row.fixed size (length args) (omega arith);
     wide = λ f h. wide k header row.fixed size (length args) (rw (e f) h);
     good = λ w.
-        called k header row.fixed size (length args) w.fixed (omega (arith, w.most)) (rw (e w.fixed) w.size) ∙ ap (request.Call k c (before + row.fixed)) (e w.fixed);
+        called k header row.fixed size (length args) w.fixed (omega (arith, w.most)) (rw (e w.fixed) w.size) ∙ ap (call_for k c (before + row.fixed)) (e w.fixed);
   }
 
   -- a payload of one length
@@ -170,7 +168,7 @@ module _ (line : List ℕ) (lines : List (List ℕ)) (rest : List ℕ) (c : Conf
     wide = λ f h. by f h (eqb (length args) (row.fixed + p)) refl;
     good = λ w.
         exact k header row.fixed size (length args) p (omega (arith, w.fixed, w.least, w.most))
-        ∙ called k header row.fixed size (length args) w.fixed (omega (arith, w.most)) (rw (e w.fixed) w.size) ∙ ap (request.Call k c (before + row.fixed)) (e w.fixed);
+        ∙ called k header row.fixed size (length args) w.fixed (omega (arith, w.most)) (rw (e w.fixed) w.size) ∙ ap (call_for k c (before + row.fixed)) (e w.fixed);
   }
     where
       by : row.fixed ≤ length args → 8192 < row.size args → (t : Bool) → eqb (length args) (row.fixed + p) ≡ t → exact_of k header row.fixed p size (length args) ≡ requests.bad

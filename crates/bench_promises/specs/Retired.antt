@@ -1,8 +1,7 @@
 -- 15, the answer to a retired kind: given exactly when the first line begins with 0C or 0D, however the input is cut, and by no call. (02, W-210)
 -- Assumes nothing.
 use Rattle.engine.specs.Bus.{Reported}
-use Rattle.std.specs.Prelude.{Err, Ok}
-use Rattle.std.specs.Prelude.{ℕ, ◌≤◌, ◌≡◌, Bool, false, List, [], ◌∷◌, ◌⊎◌, length}
+use Rattle.std.specs.Prelude.{ℕ, ◌≤◌, ◌≡◌, Bool, false, List, [], ◌∷◌, ◌⊎◌, length, Err, Ok}
 use Rattle.hexadecimal.specs.Text.{ascii}
 use Rattle.protocol.specs.Answer.{number_of}
 use Rattle.protocol.specs.declared.common.Config.{Config}

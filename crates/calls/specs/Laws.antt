@@ -1,8 +1,7 @@
 -- A call is what the engine makes of it that carries it out, for every state and whatever is lent; the one of payload and buffer that it does not look at
 -- may be anything. With these, what demand 1 says of the two engines is said of every call. (01, The step machine)
 -- Assumes nothing.
-use Rattle.std.specs.Prelude.{Err, Ok}
-use Rattle.std.specs.Prelude.{ℕ, ◌≡◌, List, length, take}
+use Rattle.std.specs.Prelude.{ℕ, ◌≡◌, List, length, take, Err, Ok}
 use Rattle.protocol.specs.declared.common.Config.{Config}
 use Rattle.protocol.specs.declared.error.Answer.{Answer}
 use Rattle.engine.specs.Bus as bus

@@ -1,8 +1,7 @@
 -- A call fed any list of reports, each with any outcome, any reply and any lent lengths; and how many of them it takes. (01, The step machine)
 -- Assumes nothing.
 use Rattle.engine.specs.Bus.{Reported}
-use Rattle.std.specs.Prelude.{Err, Ok}
-use Rattle.std.specs.Prelude.{ℕ, ◌+◌, List, [], ◌∷◌}
+use Rattle.std.specs.Prelude.{ℕ, ◌+◌, List, [], ◌∷◌, Err, Ok}
 use Rattle.engine.specs.declared.bus.Outcome.{Outcome}
 use Rattle.calls.specs.Call.{report_of}
 use Rattle.calls.specs.declared.call.Call.{Call}

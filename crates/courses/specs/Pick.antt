@@ -1,7 +1,6 @@
 -- The choice by what a call shows and by whether a run may start, in the words of the code. Each stays shut: proofs take it apart by the laws of
 -- `proofs/Cases.antt`. Assumes nothing.
-use Rattle.std.specs.Prelude.{Err, Ok, Result}
-use Rattle.std.specs.Prelude.{ℕ, List}
+use Rattle.std.specs.Prelude.{Err, Ok, Result, ℕ, List}
 use Rattle.protocol.specs.declared.error.Answer.{Answer}
 use Rattle.engine.specs.Made.{Made, write, read}
 use Rattle.engine.specs.declared.bus.Transfer.{Transfer}

@@ -1,8 +1,7 @@
 -- A call run over a course: it shows a transfer, which goes to the gauge or is lost on its way, and it hears what came of it. (01, The model gauge)
 -- Assumes nothing.
 use Rattle.engine.specs.Bus.{Reported}
-use Rattle.std.specs.Prelude.{Err, Ok}
-use Rattle.std.specs.Prelude.{ℕ, List, [], ◌∷◌, length}
+use Rattle.std.specs.Prelude.{ℕ, List, [], ◌∷◌, length, Err, Ok}
 use Rattle.protocol.specs.declared.error.Answer.{Answer}
 use Rattle.engine.specs.Made.{Made}
 use Rattle.calls.specs.Call.{next_of, work_after, part_of, report_of, buffer_after, phase_of, fits_of}

@@ -1,7 +1,6 @@
 -- What holds of every line that a call can print holds of every line of a run: by induction over the lines that it is given.
 -- Assumes nothing.
 use Rattle.engine.specs.Bus.{Reported}
-use Rattle.std.specs.Prelude.{Err, Ok}
 use Prim.Native.Nat.{ℕ}
 use mathlib.Core.List.{List, [], ◌∷◌}
 use lib.ListN.{length, drop}
@@ -10,8 +9,7 @@ use Rattle.engine.specs.declared.bus.Outcome.{Outcome}
 use Rattle.calls.specs.Call.{report_of, buffer_after, tally_of}
 use Rattle.calls.specs.declared.call.Call.{Call}
 use Rattle.requests.specs.Outcome.{outcome_line}
-use Rattle.requests.specs.declared.outcome.Told.{Told}
-use Rattle.requests.specs.declared.outcome.Told.TheVariants as told
+use Rattle.std.specs.Prelude.{Option, Some, None, Err, Ok}
 use Rattle.printing.specs.Printing.{end_said}
 use Rattle.dialogue.specs.Dialogue.{Saying, asked, last, bytes_said, line_shown, last_of}
 use Rattle.hexadecimal.specs.Line.{line_bytes}
@@ -46,10 +44,10 @@ module _ (P : List ℕ → Type 0) (Good : Call → List ℕ → Type 0) (payloa
       each_report (Err (a, c)) buffer h = (h, tt)
       each_report (Ok c) buffer h = all c buffer h
 
-      each_told : (t : Told) (c : Call) (buffer bytes : List ℕ) → Good c buffer → All P (told_then t c payload buffer bytes next)
+      each_told : (t : Option Outcome) (c : Call) (buffer bytes : List ℕ) → Good c buffer → All P (told_then t c payload buffer bytes next)
       unfolding told_then
-      each_told (told.Outcome o) c buffer bytes h = each_report _ _ (reports c buffer h o (drop 1 bytes))
-      each_told told.Bad c buffer bytes h = (bad_line c buffer h, tt)
+      each_told (Some o) c buffer bytes h = each_report _ _ (reports c buffer h o (drop 1 bytes))
+      each_told None c buffer bytes h = (bad_line c buffer h, tt)
 
     each_line : (lines : List (List ℕ)) (c : Call) (buffer rest : List ℕ) → Good c buffer → All P (call_lines c payload buffer lines rest)
     unfolding call_lines

@@ -24,8 +24,7 @@ use Rattle.calls.specs.Call as calls
 use Rattle.calls.specs.declared.call.Call.{Call}
 use Rattle.calls.specs.declared.call.Call.TheVariants as call
 use Rattle.requests.specs.Outcome.{outcome_line}
-use Rattle.requests.specs.declared.outcome.Told.{Told}
-use Rattle.requests.specs.declared.outcome.Told.TheVariants as told
+use Rattle.std.specs.Prelude.{Option, Some, None}
 use Rattle.dialogue.specs.Dialogue.{filled, hear_buffer_by, hear_buffer}
 
 pub length_decoded : (s out : List ℕ) → length (out_decoded s out) ≡ length out
@@ -72,10 +71,10 @@ unfolding calls.buffer_after
 length_after (call.Write c) o reply buffer w = refl
 length_after (call.Read c) o reply buffer w = length_read c o reply buffer w
 
-length_told : (t : Told) (call : Call) (line buffer : List ℕ) → length (hear_buffer_by t call line buffer) ≡ length buffer
+length_told : (t : Option Outcome) (call : Call) (line buffer : List ℕ) → length (hear_buffer_by t call line buffer) ≡ length buffer
 unfolding hear_buffer_by
-length_told (told.Outcome o) call line buffer = length_after call o (drop 1 line) buffer 39
-length_told told.Bad call line buffer = refl
+length_told (Some o) call line buffer = length_after call o (drop 1 line) buffer 39
+length_told None call line buffer = refl
 
 pub length_heard : (call : Call) (line buffer : List ℕ) → length (hear_buffer call line buffer) ≡ length buffer
 unfolding hear_buffer

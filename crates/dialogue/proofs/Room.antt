@@ -26,10 +26,8 @@ use Rattle.reading.proofs.Shown.{read_work}
 use Rattle.calls.specs.Call.{next_of, work_after, part_of, report_of, buffer_after, tally_of}
 use Rattle.calls.specs.declared.call.Call.{Call}
 use Rattle.calls.specs.declared.call.Call.TheVariants as call
-use Rattle.requests.specs.Request.{request_line}
+use Rattle.requests.specs.Request.{Request, request_line}
 use Rattle.requests.specs.Retired.{retired_kind}
-use Rattle.requests.specs.declared.request.Request.{Request}
-use Rattle.requests.specs.declared.request.Request.TheVariants as request
 use Rattle.requests.proofs.Small.{Small, small_request}
 use Rattle.printing.specs.Printing.{printed_of, out_printed, quad_of, write_said, read_said, end_said, cut_said, longest_said}
 use Rattle.dialogue.specs.Dialogue.{bytes_said, size_of, tell_of, zeros, line_shown, last_of, unfinished_of, close_of}
@@ -119,18 +117,18 @@ short_run payload p =
 
 short_request : (q : Request) (bytes : List ℕ) (lines : List (List ℕ)) (rest : List ℕ) → Small (length bytes) q → AllShort (request_then q bytes lines rest)
 unfolding request_then
-short_request (request.Call kind config at n) bytes lines rest h =
-    let p : length (drop at bytes) ≤ 8192 = rw length-drop h.0 in
-    let fill : List ℕ = replicate n 0xA5 in
-    let b : length fill ≤ 8192 = subst (λ (m : ℕ). m ≤ 8192) (sym (length-replicate n 0xA5)) h.1 in
-    short_run (drop at bytes) p lines _ fill rest b
-short_request (request.Refused a) bytes lines rest h = (short_end a nothing [] (omega arith), tt)
+short_request (Ok q) bytes lines rest h =
+    let p : length (drop q.at bytes) ≤ 8192 = rw length-drop h.0 in
+    let fill : List ℕ = replicate q.len 0xA5 in
+    let b : length fill ≤ 8192 = subst (λ (m : ℕ). m ≤ 8192) (sym (length-replicate q.len 0xA5)) h.1 in
+    short_run (drop q.at bytes) p lines _ fill rest b
+short_request (Err a) bytes lines rest h = (short_end a nothing [] (omega arith), tt)
 
 small_asked : (line : List ℕ) → Small (length (line_bytes line)) (request_of line)
 unfolding request_of when◌then◌else◌
 small_asked line = by (retired_kind line)
   where
-    by : (t : Bool) → Small (length (line_bytes line)) (when t then request.Refused answer.RetiredKind else request_line (line_bytes line))
+    by : (t : Bool) → Small (length (line_bytes line)) (when t then Err answer.RetiredKind else request_line (line_bytes line))
     by true = tt
     by false = small_request (line_bytes line)
 

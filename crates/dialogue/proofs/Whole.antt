@@ -1,7 +1,6 @@
 -- What the proved functions print for a list of lines is what the definition of the whole bench says.
 -- Assumes nothing.
 use Rattle.engine.specs.Bus.{Reported}
-use Rattle.std.specs.Prelude.{Err, Ok}
 use Prim.Native.Nat.{ℕ, ◌≤◌, min}
 use mathlib.Core.Path.{◌≡◌, refl, sym, ap, ◌∙◌}
 use mathlib.Core.Bool.{Bool, true, false}
@@ -16,12 +15,10 @@ use Rattle.protocol.specs.Pick.{when◌then◌else◌}
 use Rattle.calls.specs.Call as calls
 use Rattle.calls.specs.declared.call.Call.{Call}
 use Rattle.requests.specs.Outcome.{outcome_line}
-use Rattle.requests.specs.Request.{bad, longest_request, request_line}
+use Rattle.requests.specs.Request.{Request, bad, longest_request, request_line}
 use Rattle.requests.specs.Retired.{retired_kind}
-use Rattle.requests.specs.declared.outcome.Told.{Told}
-use Rattle.requests.specs.declared.outcome.Told.TheVariants as told
-use Rattle.requests.specs.declared.request.Request.{Request}
-use Rattle.requests.specs.declared.request.Request.TheVariants as request
+use Rattle.engine.specs.declared.bus.Outcome.{Outcome}
+use Rattle.std.specs.Prelude.{Option, Some, None, Ok, Err}
 use Rattle.requests.proofs.Long.{empty_request, long_request, long_outcome}
 use Rattle.requests.proofs.Small.{Small, small_request}
 use Rattle.dialogue.specs.Dialogue as dialogue
@@ -39,7 +36,7 @@ onward s R Y B lines rest = then_say s.saying (machine_of s.run R Y B lines rest
 
 -- an outcome line is decoded to its bytes, or is bad either way
 heard_line : (line Y : List ℕ) → 8193 ≤ length Y
-    → (dialogue.bytes_in line Y ≡ line_bytes line) ⊎ ((outcome_line (dialogue.bytes_in line Y) ≡ told.Bad) × (outcome_line (line_bytes line) ≡ told.Bad))
+    → (dialogue.bytes_in line Y ≡ line_bytes line) ⊎ ((outcome_line (dialogue.bytes_in line Y) ≡ None) × (outcome_line (line_bytes line) ≡ None))
 unfolding outcome_line when◌then◌else◌
 heard_line line Y h =
     ⊎_elim (λ e. inl e)
@@ -62,19 +59,19 @@ module _ (R Y B : List ℕ) (place : Place) (lines : List (List ℕ)) (rest : Li
       let m = more (H ++ drop place.buffer B) call w in
       ap (then_say (dialogue.line_shown call (dialogue.payload_in place R) H)) (m ∙ rw (take_at H (drop place.buffer B) place.buffer k))
 
-  told_on : (t : Told) (call : Call) (l : List ℕ)
+  told_on : (t : Option Outcome) (call : Call) (l : List ℕ)
       → onward (dialogue.say_of (dialogue.hear_by t call l (length (dialogue.payload_in place R)) place.buffer) place (dialogue.payload_in place R) (dialogue.hear_buffer_by t call l (take place.buffer B)))
       R Y (dialogue.hear_buffer_by t call l (take place.buffer B) ++ drop place.buffer B) lines rest
       ≡ told_then t call (dialogue.payload_in place R) (take place.buffer B) l next
   unfolding onward dialogue.hear_by dialogue.hear_buffer_by dialogue.say_of then_say told_then
-  told_on (told.Outcome o) call l =
+  told_on (Some o) call l =
       let m : length (take place.buffer B) ≡ place.buffer = length-take-le place.buffer B fits in
       let H : List ℕ = calls.buffer_after call o (drop 1 l) (take place.buffer B) 39 in
       rw m (reported_on (calls.report_of call o (drop 1 l) (length (dialogue.payload_in place R)) place.buffer 39) H (length_after call o (drop 1 l) (take place.buffer B) 39 ∙ m))
-  told_on told.Bad call l = refl
+  told_on None call l = refl
 
   -- the bytes that were decoded, or those of the line
-  told_on_line : (call : Call) (l m : List ℕ) → (l ≡ m) ⊎ ((outcome_line l ≡ told.Bad) × (outcome_line m ≡ told.Bad))
+  told_on_line : (call : Call) (l m : List ℕ) → (l ≡ m) ⊎ ((outcome_line l ≡ None) × (outcome_line m ≡ None))
       → onward (dialogue.go_on call place l R B) R Y (dialogue.go_buffer call place l B) lines rest
       ≡ told_then (outcome_line m) call (dialogue.payload_in place R) (take place.buffer B) m next
   unfolding dialogue.go_on dialogue.go_buffer dialogue.hear_of dialogue.hear_buffer dialogue.hear_by dialogue.hear_buffer_by told_then
@@ -83,7 +80,7 @@ module _ (R Y B : List ℕ) (place : Place) (lines : List (List ℕ)) (rest : Li
       rw (e, q) (told_on (outcome_line m) call m)
   told_on_line call l m (inr q) =
       let e : min place.buffer (length B) ≡ place.buffer = omega arith in
-      rw (e, q.0, q.1) (told_on told.Bad call l)
+      rw (e, q.0, q.1) (told_on None call l)
 
 -- a call from its first outcome on
 call_lines_lem : (lines : List (List ℕ)) (R Y B : List ℕ) (call : Call) (place : Place) (rest : List ℕ) → 8193 ≤ length Y → place.buffer ≤ length B
@@ -112,14 +109,15 @@ room_enough call n room h = rw (le-leb n room h)
 begin_on : (q : Request) (l R Y B : List ℕ) (lines : List (List ℕ)) (rest : List ℕ) → Small (length l) q → ((at : ℕ) → take (length (drop at l)) (drop at R) ≡ drop at l)
     → 8193 ≤ length Y → 8192 ≤ length B → onward (dialogue.begin_by q l B) R Y (dialogue.fill_by q B) lines rest ≡ request_then q l lines rest
 unfolding onward dialogue.begin_by dialogue.refused_of dialogue.fill_by dialogue.open_of dialogue.say_of dialogue.show_of dialogue.payload_in then_say request_then call_run
-begin_on (request.Call kind config at n) l R Y B lines rest small payload y b =
+begin_on (Ok q) l R Y B lines rest small payload y b =
+    let n : ℕ = q.len in
     let fits : n ≤ length B = omega (arith, small.1) in
     let e : min n (length B) ≡ n = omega arith in
     let k : n ≤ length (dialogue.filled n B) = rw length_filled fits in
-    let call : Call = calls.start_of kind config (length (drop at l)) n 39 in
-    let m = call_lines_lem lines R Y (dialogue.filled n B) call (record { at = at; payload = length (drop at l); buffer = n }) rest y k in
-    rw (e, room_enough call n (length B) fits, m, payload at, filled_front n B fits)
-begin_on (request.Refused a) l R Y B lines rest small payload y b = refl
+    let call : Call = calls.start_of q.kind q.config (length (drop q.at l)) n 39 in
+    let m = call_lines_lem lines R Y (dialogue.filled n B) call (record { at = q.at; payload = length (drop q.at l); buffer = n }) rest y k in
+    rw (e, room_enough call n (length B) fits, m, payload q.at, filled_front n B fits)
+begin_on (Err a) l R Y B lines rest small payload y b = refl
 
 -- the payload of the bytes that were decoded
 decoded_payload : (line R : List ℕ) (at : ℕ) → take (length (drop at (dialogue.bytes_in line R))) (drop at (out_decoded line R)) ≡ drop at (dialogue.bytes_in line R)

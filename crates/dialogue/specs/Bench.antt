@@ -1,21 +1,17 @@
 -- The whole bench: from the lines of the input, and what follows its last line feed, to the lines that are printed. (01, The bench program)
 -- Assumes nothing.
 use Rattle.engine.specs.Bus.{Reported}
-use Rattle.std.specs.Prelude.{Err, Ok}
-use Rattle.std.specs.Prelude.{ℕ, List, [], ◌∷◌, length, drop, replicate}
+use Rattle.std.specs.Prelude.{ℕ, List, [], ◌∷◌, length, drop, replicate, Option, Some, None, Ok, Err}
 use Rattle.hexadecimal.specs.Line.{line_bytes}
 use Rattle.protocol.specs.Pick.{when◌then◌else◌}
 use Rattle.protocol.specs.declared.error.Answer.TheVariants as answer
 use Rattle.engine.specs.Budget.{nothing}
+use Rattle.engine.specs.declared.bus.Outcome.{Outcome}
 use Rattle.calls.specs.Call.{start_of, report_of, buffer_after, tally_of}
 use Rattle.calls.specs.declared.call.Call.{Call}
 use Rattle.requests.specs.Outcome.{outcome_line}
-use Rattle.requests.specs.Request.{request_line}
+use Rattle.requests.specs.Request.{Request, request_line}
 use Rattle.requests.specs.Retired.{retired_kind}
-use Rattle.requests.specs.declared.outcome.Told.{Told}
-use Rattle.requests.specs.declared.outcome.Told.TheVariants as told
-use Rattle.requests.specs.declared.request.Request.{Request}
-use Rattle.requests.specs.declared.request.Request.TheVariants as request
 use Rattle.printing.specs.Printing.{end_said}
 use Rattle.dialogue.specs.Dialogue.{Saying, asked, last, line_shown, last_of, unfinished_of}
 
@@ -30,10 +26,10 @@ report_then (Err (a, call)) buffer next = end_said a (tally_of call) buffer ∷ 
 report_then (Ok call) buffer next = next call buffer
 
 -- what an outcome line leads to
-unfoldable pub told_then : Told → Call → List ℕ → List ℕ → List ℕ → (Call → List ℕ → List (List ℕ)) → List (List ℕ)
-told_then (told.Outcome o) call payload buffer bytes next =
+unfoldable pub told_then : Option Outcome → Call → List ℕ → List ℕ → List ℕ → (Call → List ℕ → List (List ℕ)) → List (List ℕ)
+told_then (Some o) call payload buffer bytes next =
     report_then (report_of call o (drop 1 bytes) (length payload) (length buffer) 39) (buffer_after call o (drop 1 bytes) buffer 39) next
-told_then told.Bad call payload buffer bytes next = end_said answer.BadLine (tally_of call) buffer ∷ []
+told_then None call payload buffer bytes next = end_said answer.BadLine (tally_of call) buffer ∷ []
 
 -- a call that has shown a transfer, from its outcome on
 unfoldable pub call_lines : Call → List ℕ → List ℕ → List (List ℕ) → List ℕ → List (List ℕ)
@@ -48,13 +44,13 @@ call_run call payload buffer lines rest = then_say (line_shown call payload buff
 
 -- the call that a request line asks for, with its payload and a buffer of A5; the answer where it is refused
 unfoldable pub request_then : Request → List ℕ → List (List ℕ) → List ℕ → List (List ℕ)
-request_then (request.Call kind config at n) bytes lines rest =
-    call_run (start_of kind config (length (drop at bytes)) n 39) (drop at bytes) (replicate n 0xA5) lines rest
-request_then (request.Refused a) bytes lines rest = end_said a nothing [] ∷ []
+request_then (Ok q) bytes lines rest =
+    call_run (start_of q.kind q.config (length (drop q.at bytes)) q.len 39) (drop q.at bytes) (replicate q.len 0xA5) lines rest
+request_then (Err a) bytes lines rest = end_said a nothing [] ∷ []
 
 -- what a request line asks for: nothing where its kind is retired, whatever else is on it
 unfoldable pub request_of : List ℕ → Request
-request_of line = when retired_kind line then request.Refused answer.RetiredKind else request_line (line_bytes line)
+request_of line = when retired_kind line then Err answer.RetiredKind else request_line (line_bytes line)
 
 -- the bench
 unfoldable pub bench_of : List (List ℕ) → List ℕ → List (List ℕ)

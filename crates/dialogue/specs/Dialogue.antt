@@ -1,30 +1,24 @@
 -- A run of the bench program, line by line: what a line leads to, and the line that answers it. (01, The bench program)
 -- Assumes nothing.
 use Rattle.engine.specs.Bus.{Reported}
-use Rattle.std.specs.Prelude.{Err, Ok}
-use Rattle.std.specs.Prelude.{ℕ, min, List, [], ◌++◌, length, take, drop, replicate, leb, eqb}
+use Rattle.std.specs.Prelude.{ℕ, min, List, [], ◌++◌, length, take, drop, replicate, leb, eqb, Option, Some, None, Result, Ok, Err}
 use Rattle.hexadecimal.specs.Hex.{decoded_of, out_decoded}
-use Rattle.hexadecimal.specs.declared.Decoded.{Decoded}
-use Rattle.hexadecimal.specs.declared.Decoded.TheVariants as decoded
+use Rattle.hexadecimal.specs.declared.DecodeError.{DecodeError}
 use Rattle.protocol.specs.Pick.{when◌then◌else◌}
 use Rattle.protocol.specs.Bytes.{over}
-use Rattle.protocol.specs.declared.common.Config.{Config}
 use Rattle.protocol.specs.declared.error.Answer.{Answer}
 use Rattle.protocol.specs.declared.error.Answer.TheVariants as answer
 use Rattle.engine.specs.Budget.{nothing}
 use Rattle.engine.specs.declared.budget.Tally.{Tally}
+use Rattle.engine.specs.declared.bus.Outcome.{Outcome}
 use Rattle.engine.specs.declared.bus.Transfer.{Transfer}
 use Rattle.engine.specs.declared.bus.Transfer.TheVariants as transfer
 use Rattle.calls.specs.Call as calls
-use Rattle.calls.specs.declared.kind.Kind.{Kind}
 use Rattle.calls.specs.declared.call.Call.{Call}
 use Rattle.requests.specs.Outcome.{outcome_line}
-use Rattle.requests.specs.Request.{request_line}
+use Rattle.requests.specs.Request.{Request, request_line}
 use Rattle.requests.specs.Retired.{retired_kind}
-use Rattle.requests.specs.declared.outcome.Told.{Told}
-use Rattle.requests.specs.declared.outcome.Told.TheVariants as told
-use Rattle.requests.specs.declared.request.Request.{Request}
-use Rattle.requests.specs.declared.request.Request.TheVariants as request
+use Rattle.requests.specs.declared.request.Asked.{Asked}
 use Rattle.printing.specs.Printing.{printed_of, write_said, read_said, end_said, cut_said}
 use Rattle.dialogue.specs.declared.Place.{Place}
 use Rattle.dialogue.specs.declared.Run.{Run}
@@ -56,10 +50,9 @@ unfoldable pub turned_of : Spoken → ℕ → Turned
 turned_of s room = record { run = s.run; said = said_of s.saying room }
 
 -- how many bytes a line has; none where it is no hexadecimal, or there is no room
-unfoldable pub count_in : Decoded → ℕ
-count_in (decoded.Bytes n) = n
-count_in decoded.Bad = 0
-count_in decoded.TooLong = 0
+unfoldable pub count_in : Result ℕ DecodeError → ℕ
+count_in (Ok n) = n
+count_in (Err e) = 0
 
 unfoldable pub byte_count : List ℕ → ℕ → ℕ
 byte_count line room = count_in (decoded_of line room)
@@ -109,23 +102,23 @@ say_of (Ok call) place payload buffer = show_of call place payload buffer
 unfoldable pub room_for : Call → ℕ → ℕ → Reported Call
 room_for call n room = when leb n room then Ok call else Err (answer.WrongBuffer, call)
 
--- a call starts, with the rest of the line as its payload and a buffer of n bytes of those that are lent
-unfoldable pub open_of : Kind → Config → ℕ → ℕ → List ℕ → List ℕ → Spoken
-open_of kind config at n line buffer =
-    say_of (room_for (calls.start_of kind config (length (drop at line)) (min n (length buffer)) 39) n (length buffer))
-    (record { at = at; payload = length (drop at line); buffer = n }) (drop at line) (take n (filled n buffer))
+-- a call starts, with the rest of the line as its payload and a buffer of so many bytes of those that are lent
+unfoldable pub open_of : Asked → List ℕ → List ℕ → Spoken
+open_of q line buffer =
+    say_of (room_for (calls.start_of q.kind q.config (length (drop q.at line)) (min q.len (length buffer)) 39) q.len (length buffer))
+    (record { at = q.at; payload = length (drop q.at line); buffer = q.len }) (drop q.at line) (take q.len (filled q.len buffer))
 
 -- a request line is refused: nothing counted, and no buffer
 unfoldable pub refused_of : Answer → Spoken
 refused_of a = record { run = run.Fresh; saying = last (end_said a nothing []) }
 
 unfoldable pub begin_by : Request → List ℕ → List ℕ → Spoken
-begin_by (request.Call kind config at n) line buffer = open_of kind config at n line buffer
-begin_by (request.Refused a) line buffer = refused_of a
+begin_by (Ok q) line buffer = open_of q line buffer
+begin_by (Err a) line buffer = refused_of a
 
 unfoldable pub fill_by : Request → List ℕ → List ℕ
-fill_by (request.Call kind config at n) buffer = filled n buffer
-fill_by (request.Refused a) buffer = buffer
+fill_by (Ok q) buffer = filled q.len buffer
+fill_by (Err a) buffer = buffer
 
 -- the bytes of a request line begin a run, or are refused
 unfoldable pub begin_of : List ℕ → List ℕ → Spoken
@@ -144,13 +137,13 @@ first_request line request = when retired_kind line then request else out_decode
 unfoldable pub first_buffer : List ℕ → List ℕ → List ℕ → List ℕ
 first_buffer line request buffer = when retired_kind line then buffer else begin_buffer (bytes_in line request) buffer
 
-unfoldable pub hear_by : Told → Call → List ℕ → ℕ → ℕ → Reported Call
-hear_by (told.Outcome o) call line p n = calls.report_of call o (drop 1 line) p n 39
-hear_by told.Bad call line p n = Err (answer.BadLine, call)
+unfoldable pub hear_by : Option Outcome → Call → List ℕ → ℕ → ℕ → Reported Call
+hear_by (Some o) call line p n = calls.report_of call o (drop 1 line) p n 39
+hear_by None call line p n = Err (answer.BadLine, call)
 
-unfoldable pub hear_buffer_by : Told → Call → List ℕ → List ℕ → List ℕ
-hear_buffer_by (told.Outcome o) call line buffer = calls.buffer_after call o (drop 1 line) buffer 39
-hear_buffer_by told.Bad call line buffer = buffer
+unfoldable pub hear_buffer_by : Option Outcome → Call → List ℕ → List ℕ → List ℕ
+hear_buffer_by (Some o) call line buffer = calls.buffer_after call o (drop 1 line) buffer 39
+hear_buffer_by None call line buffer = buffer
 
 -- the bytes of an outcome line go to a call with a payload of p bytes and a buffer of n
 unfoldable pub hear_of : Call → List ℕ → ℕ → ℕ → Reported Call

@@ -7,16 +7,12 @@ ghost use Rattle.printing.specs.Printing.{printed_of, out_printed};
 ghost use Rattle.dialogue.specs.Dialogue.{byte_count, filled, size_of, said_of, bytes_said, tell_of, show_of, turned_of, say_of, hear_of, hear_buffer, go_on, go_buffer, room_for, open_of, refused_of, begin_of, begin_buffer, first_of, first_request, first_buffer, answer_of, request_after, outcome_after, buffer_after, last_of, unfinished_of, close_of};
 
 use calls::call::{Call, Reported};
-use calls::kind::Kind;
 use engine::budget::Tally;
 use engine::bus::Transfer;
-use hexadecimal::Decoded;
 use protocol::bytes;
-use protocol::common::Config;
 use protocol::consts::LEAST_WORK_BUFFER;
 use protocol::error::Answer;
-use requests::outcome::Told;
-use requests::request::Request;
+use requests::request::Asked;
 use requests::{fields, outcome, request};
 
 // Where a call's payload and buffer stand: the payload has `payload` bytes of the request line from byte `at` on, the buffer is the first `buffer` bytes
@@ -29,6 +25,7 @@ pub struct Place {
 }
 
 // What a run is about.
+// Stays: the names say where a run stands, which None and Some would not.
 #[derive(Clone, Copy)]
 pub enum Run {
     // Nothing: no request line yet, or one that was refused.
@@ -38,6 +35,7 @@ pub enum Run {
 }
 
 // What was printed.
+// Stays: either line was printed, so that neither is an error, as one arm of a Result would be.
 #[derive(Clone, Copy)]
 pub enum Said {
     // A transfer, in a line of so many bytes: the run goes on with its outcome.
@@ -57,23 +55,15 @@ pub struct Turned {
 fn decode(line: &[u8], out: &mut [u8]) -> usize
     ensures { (result ≡ byte_count line.now (length out.old)) × (out.new ≡ out_decoded line.now out.old) }
 {
-    match hexadecimal::decode(line, out) {
-        Decoded::Bytes(n) => n,
-        Decoded::Bad => 0,
-        Decoded::TooLong => 0,
-    }
+    hexadecimal::decode(line, out).unwrap_or(0)
 }
 
 // Fills up to n bytes with A5.
 fn fill(buffer: &mut [u8], n: usize)
     ensures { buffer.new ≡ filled n buffer.old }
 {
-    let end = bytes::least(n, buffer.len());
-    let mut i = 0;
-    while i < end {
-        buffer[i] = 0xA5;
-        i += 1;
-    }
+    let end = n.min(buffer.len());
+    buffer[..end].fill(0xA5);
 }
 
 // How many bytes a transfer sends, where it is a write.
@@ -95,8 +85,9 @@ fn tell(transfer: Transfer, frame: &[u8], tally: Tally, buffer: &[u8], out: &mut
     match transfer {
         Transfer::Write(_) => Said::Asked(printing::write(frame, out)),
         Transfer::Read(command, count) => Said::Asked(printing::read(command, count, out)),
-        Transfer::Refused(answer) => Said::Last(printing::end(answer, tally, buffer, out)),
-        Transfer::Ended(answer) => Said::Last(printing::end(answer, tally, buffer, out)),
+        Transfer::Refused(answer) | Transfer::Ended(answer) => {
+            Said::Last(printing::end(answer, tally, buffer, out))
+        }
     }
 }
 
@@ -106,13 +97,13 @@ fn show(call: Call, place: Place, payload: &[u8], buffer: &[u8], out: &mut [u8])
 {
     let mut work = [0u8; LEAST_WORK_BUFFER];
     let shown = call.next(payload, buffer, &mut work);
-    let same = shown.call;
-    let transfer = shown.transfer;
-    let frame = same.to_send(payload, &work, size(transfer));
-    let said = tell(transfer, frame, same.tally(), buffer, out);
+    let frame = shown.call.to_send(payload, &work, size(shown.transfer));
     Turned {
-        run: Run::Call { call: same, place },
-        said,
+        run: Run::Call {
+            call: shown.call,
+            place,
+        },
+        said: tell(shown.transfer, frame, shown.call.tally(), buffer, out),
     }
 }
 
@@ -141,28 +132,26 @@ fn lent(call: Call, len: usize, room: usize) -> Reported
 }
 
 // A call starts. Its payload is the request line from `at` on, its buffer `len` bytes A5; where less is lent, what is lent is filled.
-fn open(
-    kind: Kind,
-    config: Config,
-    at: usize,
-    len: usize,
-    line: &[u8],
-    buffer: &mut [u8],
-    out: &mut [u8],
-) -> Turned
-    ensures { (result ≡ turned_of (open_of kind config at len line.now buffer.old) (length out.old)) × (buffer.new ≡ filled len buffer.old) × (out.new ≡ out_printed (bytes_said (open_of kind config at len line.now buffer.old).saying) out.old) }
+fn open(asked: Asked, line: &[u8], buffer: &mut [u8], out: &mut [u8]) -> Turned
+    ensures { (result ≡ turned_of (open_of asked line.now buffer.old) (length out.old)) × (buffer.new ≡ filled asked.len buffer.old) × (out.new ≡ out_printed (bytes_said (open_of asked line.now buffer.old).saying) out.old) }
 {
-    fill(buffer, len);
+    fill(buffer, asked.len);
     let work = [0u8; LEAST_WORK_BUFFER];
-    let payload = fields::rest(line, at);
-    let own = bytes::front(buffer, len);
-    let call = Call::start(kind, config, payload, own, &work);
+    let payload = fields::rest(line, asked.at);
+    let own = bytes::front(buffer, asked.len);
+    let call = Call::start(asked.kind, asked.config, payload, own, &work);
     let place = Place {
-        at,
+        at: asked.at,
         payload: payload.len(),
-        buffer: len,
+        buffer: asked.len,
     };
-    say(lent(call, len, buffer.len()), place, payload, own, out)
+    say(
+        lent(call, asked.len, buffer.len()),
+        place,
+        payload,
+        own,
+        out,
+    )
 }
 
 // A request line is refused: the last line of a run that is about no call.
@@ -180,13 +169,8 @@ fn begin(line: &[u8], buffer: &mut [u8], out: &mut [u8]) -> Turned
     ensures { (result ≡ turned_of (begin_of line.now buffer.old) (length out.old)) × (buffer.new ≡ begin_buffer line.now buffer.old) × (out.new ≡ out_printed (bytes_said (begin_of line.now buffer.old).saying) out.old) }
 {
     match request::read(line) {
-        Request::Call {
-            kind,
-            config,
-            at,
-            len,
-        } => open(kind, config, at, len, line, buffer, out),
-        Request::Refused(answer) => refuse(answer, out),
+        Ok(asked) => open(asked, line, buffer, out),
+        Err(answer) => refuse(answer, out),
     }
 }
 
@@ -205,12 +189,11 @@ fn first(line: &[u8], request: &mut [u8], buffer: &mut [u8], out: &mut [u8]) -> 
 fn hear(call: Call, line: &[u8], payload: &[u8], buffer: &mut [u8]) -> Reported
     ensures { (result ≡ hear_of call line.now (length payload.now) (length buffer.old)) × (buffer.new ≡ hear_buffer call line.now buffer.old) }
 {
+    let Some(outcome) = outcome::read(line) else {
+        return Reported::Refused(Answer::BadLine, call);
+    };
     let work = [0u8; LEAST_WORK_BUFFER];
-    let reply = fields::rest(line, 1);
-    match outcome::read(line) {
-        Told::Outcome(outcome) => call.report(outcome, reply, payload, buffer, &work),
-        Told::Bad => Reported::Refused(Answer::BadLine, call),
-    }
+    call.report(outcome, fields::rest(line, 1), payload, buffer, &work)
 }
 
 // The bytes of an outcome line go to a call, whose payload and buffer are taken from where they stand.
@@ -225,13 +208,14 @@ fn go_on(
     ensures { (result ≡ turned_of (go_on call place line.now request.now buffer.old) (length out.old)) × (buffer.new ≡ go_buffer call place line.now buffer.old) × (out.new ≡ out_printed (bytes_said (go_on call place line.now request.now buffer.old).saying) out.old) }
 {
     let payload = bytes::block(request, place.at, place.payload);
-    let end = bytes::least(place.buffer, buffer.len());
+    let end = place.buffer.min(buffer.len());
     let reported = hear(call, line, payload, &mut buffer[..end]);
     say(reported, place, payload, bytes::front(buffer, end), out)
 }
 
 // A line of input, and the line that answers it at the front of `out`: a request where the run is fresh, and else an outcome. The bytes of the request
 // line are kept in `request`, those of an outcome line go through `outcome`. Nothing follows the last line of a run.
+// Stays: four slices and no struct of them, for each function here takes others, and what was lent is read again after the call.
 pub fn answer(
     run: Run,
     line: &[u8],

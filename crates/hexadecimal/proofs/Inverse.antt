@@ -8,10 +8,12 @@ use native.Mathlib.Omega.{arith}
 use lib.ListN.{length}
 use lib.Dec.{ltb, eqb}
 use borrow.Author.Tests.{ltb-true, ltb-false, eqb-false}
+use Rattle.std.specs.Prelude.{Result, Ok, Err}
 use Rattle.protocol.specs.Pick.{when◌then◌else◌}
 use Rattle.hexadecimal.specs.BothWays.{AllBytes, BothWays}
 use Rattle.hexadecimal.specs.Hex.{value_of, byte_of, bytes_of, decoded_of, digit_of, hex_of}
-use Rattle.hexadecimal.specs.declared.Decoded.TheVariants as decoded
+use Rattle.hexadecimal.specs.declared.DecodeError.{DecodeError}
+use Rattle.hexadecimal.specs.declared.DecodeError.TheVariants as error
 use Rattle.hexadecimal.proofs.Cases.{cases}
 use Rattle.hexadecimal.proofs.Laws.{length_hex}
 
@@ -143,21 +145,21 @@ length_bytes (high ∷ low ∷ s) = by (length_bytes s) (ltb 255 (byte_of high l
     by rest true = omega arith
     by rest false = omega arith
 
-decoded_even : (s : List ℕ) (room n : ℕ) → length s ≡ n * 2 → n ≤ room → n ≤ length (bytes_of s) → decoded_of s room ≡ decoded.Bytes n
+decoded_even : (s : List ℕ) (room n : ℕ) → length s ≡ n * 2 → n ≤ room → n ≤ length (bytes_of s) → decoded_of s room ≡ Ok n
 unfolding decoded_of
 decoded_even s room n e fits whole =
     let even : length s % 2 ≡ 1 → ⊥ = λ q. omega arith in
     let half : length s / 2 ≡ n = omega arith in
     let p₁ : length s / 2 ≤ room = omega arith in
     let p₂ : length s / 2 ≤ length (bytes_of s) = omega arith in
-    let q : decoded.Bytes n ≡ decoded.Bytes (length s / 2) = ap decoded.Bytes (sym half) in
+    let q : ◌≡◌ {A = Result ℕ DecodeError} (Ok n) (Ok (length s / 2)) = ap Ok (sym half) in
     sym (search cases)
 
 -- decoding what was encoded is accepted, and gives the bytes
-decode_encode : (s : List ℕ) (room : ℕ) → AllBytes s → length s ≤ room → (decoded_of (hex_of s) room ≡ decoded.Bytes (length s)) × (bytes_of (hex_of s) ≡ s)
+decode_encode : (s : List ℕ) (room : ℕ) → AllBytes s → length s ≤ room → (decoded_of (hex_of s) room ≡ Ok (length s)) × (bytes_of (hex_of s) ≡ s)
 decode_encode s room h fits = (accepted, bytes_hex s h)
   where
-    accepted : decoded_of (hex_of s) room ≡ decoded.Bytes (length s)
+    accepted : decoded_of (hex_of s) room ≡ Ok (length s)
     accepted = decoded_even (hex_of s) room (length s) (length_hex s) fits (omega (arith, ap length (bytes_hex s h)))
 
 -- what decoding gives are bytes
@@ -173,13 +175,13 @@ bytes_small (high ∷ low ∷ s) k = by (bytes_small s) (ltb 255 (byte_of high l
     by rest false e (suc k) = rest k
 
 -- encoding what was accepted gives the digits
-encode_decode : (s : List ℕ) (room n : ℕ) → decoded_of s room ≡ decoded.Bytes n
+encode_decode : (s : List ℕ) (room n : ℕ) → decoded_of s room ≡ Ok n
     → (hex_of (bytes_of s) ≡ s) × AllBytes (bytes_of s) × (length (bytes_of s) ≡ n) × (n ≤ room)
 unfolding decoded_of when◌then◌else◌
 encode_decode s room n = by₁ (eqb (length s % 2) 1) refl
   where
     by₃ : (t : Bool) → ltb (length (bytes_of s)) (length s / 2) ≡ t → (length s % 2 ≡ 1 → ⊥) → length s / 2 ≤ room
-        → (when t then decoded.Bad else decoded.Bytes (length s / 2)) ≡ decoded.Bytes n
+        → (when t then Err error.Bad else Ok (length s / 2)) ≡ Ok n
         → (hex_of (bytes_of s) ≡ s) × AllBytes (bytes_of s) × (length (bytes_of s) ≡ n) × (n ≤ room)
     by₃ true e even fits q = absurd (let z : ◌≡◌ {A = ℕ} 0 1 = cc in omega arith)
     by₃ false e even fits q =
@@ -188,13 +190,13 @@ encode_decode s room n = by₁ (eqb (length s % 2) 1) refl
         (hex_bytes s (omega (arith, length_bytes s, even)), bytes_small s, omega (arith, length_bytes s, even), omega arith)
 
     by₂ : (t : Bool) → ltb room (length s / 2) ≡ t → (length s % 2 ≡ 1 → ⊥)
-        → (when t then decoded.TooLong else when ltb (length (bytes_of s)) (length s / 2) then decoded.Bad else decoded.Bytes (length s / 2)) ≡ decoded.Bytes n
+        → (when t then Err error.TooLong else when ltb (length (bytes_of s)) (length s / 2) then Err error.Bad else Ok (length s / 2)) ≡ Ok n
         → (hex_of (bytes_of s) ≡ s) × AllBytes (bytes_of s) × (length (bytes_of s) ≡ n) × (n ≤ room)
     by₂ true e even q = absurd (let z : ◌≡◌ {A = ℕ} 0 1 = cc in omega arith)
     by₂ false e even q = by₃ (ltb (length (bytes_of s)) (length s / 2)) refl even (ltb-false room (length s / 2) e) q
 
     by₁ : (t : Bool) → eqb (length s % 2) 1 ≡ t
-        → (when t then decoded.Bad else when ltb room (length s / 2) then decoded.TooLong else when ltb (length (bytes_of s)) (length s / 2) then decoded.Bad else decoded.Bytes (length s / 2)) ≡ decoded.Bytes n
+        → (when t then Err error.Bad else when ltb room (length s / 2) then Err error.TooLong else when ltb (length (bytes_of s)) (length s / 2) then Err error.Bad else Ok (length s / 2)) ≡ Ok n
         → (hex_of (bytes_of s) ≡ s) × AllBytes (bytes_of s) × (length (bytes_of s) ≡ n) × (n ≤ room)
     by₁ true e q = absurd (let z : ◌≡◌ {A = ℕ} 0 1 = cc in omega arith)
     by₁ false e q = by₂ (ltb room (length s / 2)) refl (eqb-false (length s % 2) 1 e) q

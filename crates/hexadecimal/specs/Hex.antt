@@ -1,11 +1,9 @@
 -- Upper-case hexadecimal. (01, The bench program)
 -- Assumes nothing.
-use Rattle.std.specs.Prelude.{ℕ, ◌+◌, ◌-◌, ◌*◌, ◌/◌, ◌%◌, List, [], ◌∷◌, ◌++◌, length, drop, ltb, eqb}
+use Rattle.std.specs.Prelude.{ℕ, ◌+◌, ◌-◌, ◌*◌, ◌/◌, ◌%◌, List, [], ◌∷◌, ◌++◌, length, drop, ltb, eqb, Option, Some, None, Result, Ok, Err}
 use Rattle.protocol.specs.Pick.{when◌then◌else◌}
-use Rattle.hexadecimal.specs.declared.Decoded.{Decoded}
-use Rattle.hexadecimal.specs.declared.Decoded.TheVariants as decoded
-use Rattle.hexadecimal.specs.declared.Encoded.{Encoded}
-use Rattle.hexadecimal.specs.declared.Encoded.TheVariants as encoded
+use Rattle.hexadecimal.specs.declared.DecodeError.{DecodeError}
+use Rattle.hexadecimal.specs.declared.DecodeError.TheVariants as error
 
 -- a digit's value: 0 to 9, then A to F; 16 of any other byte
 unfoldable pub value_of : ℕ → ℕ
@@ -14,6 +12,10 @@ value_of d =
     when ltb d 58 then d - 48 else
     when ltb d 65 then 16 else
     when ltb d 71 then d - 55 else 16
+
+-- a number that is below a limit
+unfoldable pub below : ℕ → ℕ → Option ℕ
+below limit n = when ltb n limit then Some n else None
 
 -- the byte of two digits, the high one first; 256 where one is none
 unfoldable pub byte_of : ℕ → ℕ → ℕ
@@ -29,11 +31,11 @@ bytes_of (d ∷ []) = []
 bytes_of (high ∷ low ∷ s) = when ltb 255 (byte_of high low) then [] else byte_of high low ∷ bytes_of s
 
 -- what digits come to where there is room for so many bytes
-unfoldable pub decoded_of : List ℕ → ℕ → Decoded
+unfoldable pub decoded_of : List ℕ → ℕ → Result ℕ DecodeError
 decoded_of s room =
-    when eqb (length s % 2) 1 then decoded.Bad else
-    when ltb room (length s / 2) then decoded.TooLong else
-    when ltb (length (bytes_of s)) (length s / 2) then decoded.Bad else decoded.Bytes (length s / 2)
+    when eqb (length s % 2) 1 then Err error.Bad else
+    when ltb room (length s / 2) then Err error.TooLong else
+    when ltb (length (bytes_of s)) (length s / 2) then Err error.Bad else Ok (length s / 2)
 
 -- what decoding leaves: the good bytes over the front, unless the count is odd or there is no room
 unfoldable pub out_decoded : List ℕ → List ℕ → List ℕ
@@ -52,8 +54,8 @@ hex_of [] = []
 hex_of (b ∷ s) = digit_of (b / 16) ∷ digit_of (b % 16) ∷ hex_of s
 
 -- what so many bytes come to where there is room for so many digits
-unfoldable pub encoded_of : ℕ → ℕ → Encoded
-encoded_of n room = when ltb (room / 2) n then encoded.NoRoom else encoded.Digits (n * 2)
+unfoldable pub encoded_of : ℕ → ℕ → Option ℕ
+encoded_of n room = when ltb (room / 2) n then None else Some (n * 2)
 
 -- what encoding leaves: the digits over the front, where there is room
 unfoldable pub out_encoded : List ℕ → List ℕ → List ℕ

@@ -2,58 +2,33 @@
 #![tactic(auto)]
 
 ghost use Rattle.std.specs.Prelude.{◌≡◌, length};
-ghost use Rattle.hexadecimal.specs.Hex.{value_of, byte_of, digit_of, decoded_of, out_decoded, encoded_of, out_encoded};
+ghost use Rattle.hexadecimal.specs.Hex.{below, value_of, byte_of, digit_of, decoded_of, out_decoded, encoded_of, out_encoded};
 
-// What digits come to.
-#[derive(Clone, Copy)]
-pub enum Decoded {
-    // So many bytes, which stand at the front of what was lent.
-    Bytes(usize),
-    // No bytes: an odd number of digits, or, where there is room, a byte that is no digit.
+// Why digits come to no bytes.
+#[derive(Clone, Copy, Debug, PartialEq, Eq)]
+pub enum DecodeError {
+    // An odd number of digits, or, where there is room, a byte that is no digit.
     Bad,
     // An even number of digits, whatever they are, for more bytes than what was lent has room for.
     TooLong,
 }
 
-// What bytes come to.
-#[derive(Clone, Copy)]
-pub enum Encoded {
-    // So many digits, which stand at the front of what was lent.
-    Digits(usize),
-    // More digits than what was lent has room for.
-    NoRoom,
-}
-
-// The value of a digit, or 16 of a byte that is none.
-fn value(digit: u8) -> u16
-    ensures { result ≡ value_of digit }
+// The value of a digit; none of a byte that is no digit.
+fn value(digit: u8) -> Option<u8>
+    ensures { result ≡ below 16 (value_of digit) }
 {
-    if digit < 48 {
-        16
-    } else if digit < 58 {
-        digit as u16 - 48
-    } else if digit < 65 {
-        16
-    } else if digit < 71 {
-        digit as u16 - 55
-    } else {
-        16
+    match digit {
+        b'0'..=b'9' => Some(digit - b'0'),
+        b'A'..=b'F' => Some(digit - b'A' + 10),
+        _ => None,
     }
 }
 
-// The byte of two digits, the high one first, or 256 where one is none.
-fn pair(high: u8, low: u8) -> u16
-    ensures { result ≡ byte_of high low }
+// The byte of two digits, the high one first; none where one is no digit.
+fn pair(high: u8, low: u8) -> Option<u8>
+    ensures { result ≡ below 256 (byte_of high low) }
 {
-    let upper = value(high);
-    let lower = value(low);
-    if 15 < upper {
-        return 256;
-    }
-    if 15 < lower {
-        return 256;
-    }
-    upper * 16 + lower
+    Some(value(high)? * 16 + value(low)?)
 }
 
 // The digit of a value below 16.
@@ -61,49 +36,40 @@ fn digit(value: u8) -> u8
     ensures { result ≡ digit_of value }
 {
     if value < 10 {
-        value + 48
+        value + b'0'
     } else {
-        value % 16 + 55
+        value % 16 + (b'A' - 10)
     }
 }
 
-// Digits to bytes, at the front of `out`. Bytes before a pair that is bad are laid; without room, or at an odd count, nothing is.
-pub fn decode(digits: &[u8], out: &mut [u8]) -> Decoded
+// Digits to bytes, at the front of `out`: how many bytes. Bytes before a pair that is bad are laid; without room, or at an odd count, nothing is.
+pub fn decode(digits: &[u8], out: &mut [u8]) -> Result<usize, DecodeError>
     ensures { (result ≡ decoded_of digits.now (length out.old)) × (out.new ≡ out_decoded digits.now out.old) }
 {
     if digits.len() % 2 == 1 {
-        return Decoded::Bad;
+        return Err(DecodeError::Bad);
     }
     let n = digits.len() / 2;
     if out.len() < n {
-        return Decoded::TooLong;
+        return Err(DecodeError::TooLong);
     }
-    let mut i = 0;
-    while i < n {
-        let byte = pair(digits[i * 2], digits[i * 2 + 1]);
-        if 255 < byte {
-            return Decoded::Bad;
-        }
-        out[i] = byte as u8;
-        i += 1;
+    for (i, two) in digits.chunks_exact(2).enumerate() {
+        out[i] = pair(two[0], two[1]).ok_or(DecodeError::Bad)?;
     }
-    Decoded::Bytes(n)
+    Ok(n)
 }
 
-// Bytes to digits, at the front of `out`; without room nothing is laid.
-pub fn encode(bytes: &[u8], out: &mut [u8]) -> Encoded
+// Bytes to digits, at the front of `out`: how many digits. Without room, which is none, nothing is laid.
+pub fn encode(bytes: &[u8], out: &mut [u8]) -> Option<usize>
     ensures { (result ≡ encoded_of (length bytes.now) (length out.old)) × (out.new ≡ out_encoded bytes.now out.old) }
 {
     let n = bytes.len();
     if out.len() / 2 < n {
-        return Encoded::NoRoom;
+        return None;
     }
-    let mut i = 0;
-    while i < n {
-        let byte = bytes[i];
+    for (i, byte) in bytes.iter().enumerate() {
         out[i * 2] = digit(byte / 16);
         out[i * 2 + 1] = digit(byte % 16);
-        i += 1;
     }
-    Encoded::Digits(n * 2)
+    Some(n * 2)
 }

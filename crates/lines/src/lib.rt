@@ -7,7 +7,7 @@ ghost use Rattle.lines.specs.Lines.{before_feed, took_by, kept_of, took_of, held
 use protocol::bytes;
 
 // What a chunk brings.
-#[derive(Clone, Copy)]
+#[derive(Clone, Copy, Debug, PartialEq, Eq)]
 pub enum Took {
     // A line lies whole in the chunk, so many bytes from the place it was read from; the chunk goes on at `next`, and nothing is held.
     Here { len: usize, next: usize },
@@ -23,30 +23,18 @@ pub enum Took {
 fn run(chunk: &[u8], from: usize) -> usize
     ensures { result ≡ length (before_feed (drop from chunk.now)) }
 {
-    let mut i = from;
-    while i < chunk.len() {
-        if chunk[i] == 10 {
-            return i - from;
-        }
-        i += 1;
-    }
-    i - from
+    let rest = bytes::block(chunk, from, chunk.len());
+    rest.iter().position(|b| *b == b'\n').unwrap_or(rest.len())
 }
 
 // What n bytes of a chunk of `size` from `from` on come to, beside the `have` that are held.
 fn judge(size: usize, from: usize, n: usize, room: usize, have: usize) -> Took
     ensures { result ≡ took_by size from n room have }
 {
-    if room < have {
+    if room < have || room - have < n {
         return Took::Long;
     }
-    if room - have < n {
-        return Took::Long;
-    }
-    if size <= from {
-        return Took::More(have + n);
-    }
-    if size - from <= n {
+    if size.saturating_sub(from) <= n {
         return Took::More(have + n);
     }
     let next = from + n + 1;
@@ -64,13 +52,13 @@ fn judge(size: usize, from: usize, n: usize, room: usize, have: usize) -> Took
 fn keep(took: Took, line: &[u8], held: &mut [u8], have: usize)
     ensures { held.new ≡ kept_of took line.now held.old have }
 {
-    if let Took::Here { len, next } = took {
-        return;
+    if !matches!(took, Took::Here { .. }) {
+        bytes::store_block(held, have, line, line.len());
     }
-    bytes::store_block(held, have, line, line.len());
 }
 
 // The bytes of a chunk from `from` on, up to a line feed or its end, beside the `have` bytes of a line that are held.
+// Stays: what holds a line is lent, of a fixed size, and outlives the run; a count beside it says how much of it is filled (no heap).
 pub fn take(chunk: &[u8], from: usize, held: &mut [u8], have: usize) -> Took
     ensures { (result ≡ took_of chunk.now from (length held.old) have) × (held.new ≡ held_after chunk.now from held.old have) }
 {

@@ -7,9 +7,8 @@ use native.Mathlib.Omega.{arith}
 use lib.ListN.{length, drop, get_or}
 use Rattle.protocol.specs.Pick.{when◌then◌else◌}
 use Rattle.calls.specs.declared.kind.Kind.{Kind}
-use Rattle.requests.specs.Request.{header_of, bad, called_of, exact_of, asked_of, request_line}
+use Rattle.requests.specs.Request.{Request, header_of, bad, called_of, exact_of, asked_of, request_line}
 use Rattle.requests.specs.declared.request.Header.{Header}
-use Rattle.requests.specs.declared.request.Request.{Request}
 
 module _ (P : Request → Type 0) (none : P bad) where
   -- whatever the test says

@@ -3,3 +3,4 @@ pub mod Every
 pub mod Front
 pub mod Long
 pub mod Small
+pub mod Said

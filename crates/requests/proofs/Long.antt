@@ -7,13 +7,12 @@ use mathlib.Core.List.{List, []}
 use native.Mathlib.Omega.{arith}
 use lib.ListN.{length, drop, get_or, length-drop}
 use lib.Dec.{ltb}
+use Rattle.std.specs.Prelude.{None}
 use Rattle.protocol.specs.Pick.{when◌then◌else◌}
 use Rattle.protocol.proofs.Cases.{cases}
 use Rattle.calls.specs.declared.kind.Kind.{Kind}
 use Rattle.requests.specs.Outcome.{acknowledged_line, error_line, timeout_line, outcome_line}
-use Rattle.requests.specs.Request.{two_budgets, header_bytes, header_of, unknown_flags, longest_header, bad, called_of, longest_request, request_line}
-use Rattle.requests.specs.declared.outcome.Told.TheVariants as told
-use Rattle.requests.specs.declared.request.Request.TheVariants as request
+use Rattle.requests.specs.Request.{two_budgets, header_bytes, header_of, unknown_flags, longest_header, call_for, bad, called_of, longest_request, request_line}
 use Rattle.requests.proofs.Every.{every_request}
 
 -- whatever the test says
@@ -50,27 +49,27 @@ long_request line h = every_request (λ r. r ≡ bad) refl line (λ k at size fe
     long k at size few =
         let short : (header_of line).bytes ≤ longest_header = header_most line in
         let p : 8192 < length arguments - at = omega (arith, n) in
-        let q : (when ltb 8192 (length arguments - at) then bad else request.Call k (header_of line).config ((header_of line).bytes + at) size) ≡ bad = sym (search cases) in
+        let q : (when ltb 8192 (length arguments - at) then bad else call_for k (header_of line).config ((header_of line).bytes + at) size) ≡ bad = sym (search cases) in
         either (ltb 8192 size) _ _ _ refl (either (ltb (length arguments) at) _ _ _ refl q)
 
-long_acknowledged : (n : ℕ) → 8193 < n → acknowledged_line n ≡ told.Bad
+long_acknowledged : (n : ℕ) → 8193 < n → acknowledged_line n ≡ None
 unfolding acknowledged_line
 long_acknowledged n h = sym (search cases)
 
-long_error : (code n : ℕ) → 8193 < n → error_line code n ≡ told.Bad
+long_error : (code n : ℕ) → 8193 < n → error_line code n ≡ None
 unfolding error_line
 long_error code n h =
     let p : n ≡ 2 → ⊥ = λ e. omega arith in
     sym (search cases)
 
-long_timeout : (n : ℕ) → 8193 < n → timeout_line n ≡ told.Bad
+long_timeout : (n : ℕ) → 8193 < n → timeout_line n ≡ None
 unfolding timeout_line
 long_timeout n h =
     let p : n ≡ 1 → ⊥ = λ e. omega arith in
     sym (search cases)
 
 -- the longest outcome line has a reply of 8,192 bytes
-pub long_outcome : (line : List ℕ) → 8193 < length line → outcome_line line ≡ told.Bad
+pub long_outcome : (line : List ℕ) → 8193 < length line → outcome_line line ≡ None
 unfolding outcome_line
 long_outcome line h =
     either _ _ _ _ refl

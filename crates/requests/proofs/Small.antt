@@ -8,17 +8,16 @@ use native.Mathlib.Omega.{arith}
 use lib.ListN.{length, drop, length-drop}
 use lib.Dec.{ltb}
 use borrow.Author.Tests.{ltb-false}
+use Rattle.std.specs.Prelude.{Ok, Err}
 use Rattle.protocol.specs.Pick.{when◌then◌else◌}
 use Rattle.calls.specs.declared.kind.Kind.{Kind}
-use Rattle.requests.specs.Request.{header_of, bad, called_of, request_line}
-use Rattle.requests.specs.declared.request.Request.{Request}
-use Rattle.requests.specs.declared.request.Request.TheVariants as request
+use Rattle.requests.specs.Request.{Request, header_of, bad, called_of, request_line}
 use Rattle.requests.proofs.Every.{every_request}
 
 -- of a line of n bytes; what is no request counts as small
 abbrev pub Small : ℕ → Request → Type 0
-Small n (request.Call k c at size) = (n - at ≤ 8192) × (size ≤ 8192)
-Small n (request.Refused a) = Unit {0}
+Small n (Ok asked) = (n - asked.at ≤ 8192) × (asked.len ≤ 8192)
+Small n (Err a) = Unit {0}
 
 -- where the test is false, the other one
 otherwise : (n : ℕ) (t : Bool) (y : Request) → (t ≡ false → Small n y) → Small n (when t then bad else y)

@@ -1,15 +1,15 @@
 -- What a request line asks for: the kinds of docs/BENCH.md, one to a line. (01, The bench program)
 -- Assumes nothing.
-use Rattle.std.specs.Prelude.{ℕ, ◌+◌, ◌-◌, ◌/◌, ◌%◌, Bool, List, length, drop, get_or, ltb, eqb}
+use Rattle.std.specs.Prelude.{ℕ, ◌+◌, ◌-◌, ◌/◌, ◌%◌, Bool, List, length, drop, get_or, ltb, eqb, Result, Ok, Err}
 use Rattle.protocol.specs.Pick.{when◌then◌else◌}
 use Rattle.protocol.specs.declared.common.Config.{Config}
+use Rattle.protocol.specs.declared.error.Answer.{Answer}
 use Rattle.protocol.specs.declared.error.Answer.TheVariants as answer
 use Rattle.calls.specs.declared.kind.Kind.{Kind}
 use Rattle.calls.specs.declared.kind.Kind.TheVariants as kind
 use Rattle.requests.specs.Fields.{pair_at, quad_at}
 use Rattle.requests.specs.declared.request.Header.{Header}
-use Rattle.requests.specs.declared.request.Request.{Request}
-use Rattle.requests.specs.declared.request.Request.TheVariants as request
+use Rattle.requests.specs.declared.request.Asked.{Asked}
 
 -- bit 2 of the flags: two budgets follow them (02, W-211)
 unfoldable pub two_budgets : ℕ → Bool
@@ -45,13 +45,21 @@ header_of line = record { config = config_of line; bytes = header_bytes (get_or 
 unfoldable pub unknown_flags : ℕ → Bool
 unknown_flags flags = ltb 15 flags
 
+-- what a request line asks for: a call, or nothing, and the answer is why
+abbrev pub Request : Type 0
+Request = Result Asked Answer
+
+-- a call with its settings, its payload from a byte of the line on, and a buffer of so many bytes
+abbrev pub call_for : Kind → Config → ℕ → ℕ → Request
+call_for k config at size = Ok (record { kind = k; config = config; at = at; len = size })
+
 -- what asks for nothing
 abbrev pub bad : Request
-bad = request.Refused answer.BadLine
+bad = Err answer.BadLine
 
 -- a buffer of so many bytes, and a payload that is what follows `at` of n bytes of arguments: each at most 8,192
 unfoldable pub called_of : Kind → Header → ℕ → ℕ → ℕ → Request
-called_of k h at size n = when ltb 8192 size then bad else when ltb n at then bad else when ltb 8192 (n - at) then bad else request.Call k h.config (h.bytes + at) size
+called_of k h at size n = when ltb 8192 size then bad else when ltb n at then bad else when ltb 8192 (n - at) then bad else call_for k h.config (h.bytes + at) size
 
 -- the same with a payload of exactly so many bytes
 unfoldable pub exact_of : Kind → Header → ℕ → ℕ → ℕ → ℕ → Request

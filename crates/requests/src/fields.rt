@@ -6,7 +6,7 @@ ghost use Rattle.requests.specs.Fields.{pair_at, quad_at};
 pub fn byte(line: &[u8], at: usize) -> u8
     ensures { result ≡ get_or line.now at 0 }
 {
-    if at < line.len() { line[at] } else { 0 }
+    line.get(at).copied().unwrap_or(0)
 }
 
 // The two-byte number at a place.
@@ -14,7 +14,7 @@ pub(crate) fn pair(line: &[u8], at: usize) -> u16
     requires { at < 256 }
     ensures { result ≡ pair_at at line.now }
 {
-    byte(line, at) as u16 + byte(line, at + 1) as u16 * 256
+    u16::from_le_bytes([byte(line, at), byte(line, at + 1)])
 }
 
 // The four-byte number at a place.
@@ -22,16 +22,12 @@ pub(crate) fn quad(line: &[u8], at: usize) -> u32
     requires { at < 128 }
     ensures { result ≡ quad_at at line.now }
 {
-    pair(line, at) as u32 + pair(line, at + 2) as u32 * 65536
+    u32::from(pair(line, at)) + u32::from(pair(line, at + 2)) * 65536
 }
 
 // What follows the first `at` bytes.
 pub fn rest(line: &[u8], at: usize) -> &[u8]
     ensures { result.now ≡ drop at line.now }
 {
-    if line.len() <= at {
-        &line[..0]
-    } else {
-        &line[at..]
-    }
+    &line[at.min(line.len())..]
 }

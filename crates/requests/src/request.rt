@@ -33,169 +33,128 @@ pub struct Header {
     pub bytes: u8,
 }
 
-// What a request line asks for.
+// The call that a request line asks for, with its settings: its payload, or a command's input, is the line from byte `at` on, and its buffer has `len`
+// bytes, none where it reads nothing.
 #[derive(Clone, Copy)]
-pub enum Request {
-    // A call with its settings: its payload, or a command's input, is the line from byte `at` on, and its buffer has `len` bytes, none where it reads nothing.
-    Call {
-        kind: Kind,
-        config: Config,
-        at: usize,
-        len: usize,
-    },
-    // Nothing: the answer is why.
-    Refused(Answer),
+pub struct Asked {
+    pub kind: Kind,
+    pub config: Config,
+    pub at: usize,
+    pub len: usize,
 }
 
-// A call with a buffer of `len` bytes, whose payload is what follows `at` bytes of its arguments; each has at most `MOST_BYTES`.
-fn call(kind: Kind, header: Header, at: usize, len: usize, args: &[u8]) -> Request
-    ensures { result ≡ called_of kind header at len (length args.now) }
-{
-    if MOST_BYTES < len {
-        return Request::Refused(Answer::BadLine);
-    }
-    if args.len() < at {
-        return Request::Refused(Answer::BadLine);
-    }
-    if MOST_BYTES < args.len() - at {
-        return Request::Refused(Answer::BadLine);
-    }
-    let config = header.config;
-    Request::Call {
-        kind,
-        config,
-        at: header.bytes as usize + at,
-        len,
-    }
+// The arguments of a kind, and the header that stands before them.
+#[derive(Clone, Copy)]
+struct Arguments<'a> {
+    header: Header,
+    bytes: &'a [u8],
 }
 
-// A call whose payload has exactly so many bytes.
-fn exact(kind: Kind, header: Header, at: usize, payload: usize, len: usize, args: &[u8]) -> Request
-    requires at_in_bounds { at < 256 }
-    requires payload_in_bounds { payload < 256 }
-    ensures { result ≡ exact_of kind header at payload len (length args.now) }
-{
-    if args.len() == at + payload {
-        call(kind, header, at, len, args)
-    } else {
-        Request::Refused(Answer::BadLine)
+impl Arguments<'_> {
+    // A call with a buffer of `len` bytes, whose payload is what follows `at` bytes of the arguments; each has at most `MOST_BYTES`.
+    fn call(self, kind: Kind, at: usize, len: usize) -> Result<Asked, Answer>
+        ensures { result ≡ called_of kind self.entry.header at len (length self.entry.bytes.now) }
+    {
+        if MOST_BYTES < len || self.bytes.len() < at || MOST_BYTES < self.bytes.len() - at {
+            return Err(Answer::BadLine);
+        }
+        Ok(Asked {
+            kind,
+            config: self.header.config,
+            at: self.header.bytes as usize + at,
+            len,
+        })
     }
-}
 
-// What a kind asks for, by its number, the header and its arguments.
-fn asked(kind: u8, header: Header, args: &[u8]) -> Request
-    ensures { result ≡ asked_of kind header args.now }
-{
-    match kind {
-        0x01 => call(Kind::WriteDataflash(pair(args, 0)), header, 2, 0, args),
-        0x02 => exact(
-            Kind::ReadDataflash(pair(args, 0)),
-            header,
-            4,
-            0,
-            pair(args, 2) as usize,
-            args,
-        ),
-        0x03 => call(Kind::WriteRegister(byte(args, 0)), header, 1, 0, args),
-        0x04 => exact(
-            Kind::ReadRegister(byte(args, 0)),
-            header,
-            3,
-            0,
-            pair(args, 1) as usize,
-            args,
-        ),
-        0x05 => call(
-            Kind::DispatchCommand(quad(args, 0)),
-            header,
-            INPUT_AT,
-            pair(args, 4) as usize,
-            args,
-        ),
-        0x06 => exact(
-            Kind::ReadBuffer(byte(args, 0)),
-            header,
-            3,
-            0,
-            pair(args, 1) as usize,
-            args,
-        ),
-        0x07 => call(Kind::WriteBuffer(byte(args, 0)), header, 1, 0, args),
-        0x08 => exact(
-            Kind::ReadSecurityKeys,
-            header,
-            0,
-            0,
-            SECURITY_KEYS_R5_DATA_LEN_BYTES,
-            args,
-        ),
-        0x09 => call(Kind::WriteSecurityKeys, header, 0, 0, args),
-        0x0A => exact(
-            Kind::ReadAuthenticationKey,
-            header,
-            0,
-            0,
-            AUTH_KEY_DATA_LEN_BYTES,
-            args,
-        ),
-        0x0B => call(Kind::WriteAuthenticationKey, header, 0, 0, args),
-        // 0C and 0D are retired and never given out again: their lines are refused by `retired_kind`, before they are decoded.
-        0x0E => exact(
-            Kind::SendAccessKey {
-                lower: pair(args, 0),
-                upper: pair(args, 2),
-            },
-            header,
-            4,
-            0,
-            0,
-            args,
-        ),
-        0x0F => exact(
-            Kind::ReadMfgInfoC,
-            header,
-            2,
-            0,
-            pair(args, 0) as usize,
-            args,
-        ),
-        0x10 => call(
-            Kind::WriteMfgInfoC {
-                lower: pair(args, 0),
-                upper: pair(args, 2),
-            },
-            header,
-            4,
-            0,
-            args,
-        ),
-        0x11 => exact(
-            Kind::ReadMfgInfo,
-            header,
-            2,
-            0,
-            pair(args, 0) as usize,
-            args,
-        ),
-        0x12 => call(Kind::WriteMfgInfo, header, 0, 0, args),
-        0x13 => exact(
-            Kind::ReadChargingVoltageOverride,
-            header,
-            0,
-            0,
-            CHRG_VOLTAGE_OVERRIDE_SIZE_BYTES,
-            args,
-        ),
-        0x14 => exact(
-            Kind::WriteChargingVoltageOverride,
-            header,
-            0,
-            CHRG_VOLTAGE_OVERRIDE_SIZE_BYTES,
-            0,
-            args,
-        ),
-        0x15 => call(Kind::WriteWithRetries, header, 0, 0, args),
-        _ => Request::Refused(Answer::BadLine),
+    // A call whose payload has exactly so many bytes.
+    fn exact(self, kind: Kind, at: usize, payload: usize, len: usize) -> Result<Asked, Answer>
+        requires at_in_bounds { at < 256 }
+        requires payload_in_bounds { payload < 256 }
+        ensures { result ≡ exact_of kind self.entry.header at payload len (length self.entry.bytes.now) }
+    {
+        if self.bytes.len() != at + payload {
+            return Err(Answer::BadLine);
+        }
+        self.call(kind, at, len)
+    }
+
+    // What a kind asks for, by its number.
+    fn asked(self, kind: u8) -> Result<Asked, Answer>
+        ensures { result ≡ asked_of kind self.entry.header self.entry.bytes.now }
+    {
+        let args = self.bytes;
+        match kind {
+            0x01 => self.call(Kind::WriteDataflash(pair(args, 0)), 2, 0),
+            0x02 => self.exact(
+                Kind::ReadDataflash(pair(args, 0)),
+                4,
+                0,
+                pair(args, 2) as usize,
+            ),
+            0x03 => self.call(Kind::WriteRegister(byte(args, 0)), 1, 0),
+            0x04 => self.exact(
+                Kind::ReadRegister(byte(args, 0)),
+                3,
+                0,
+                pair(args, 1) as usize,
+            ),
+            0x05 => self.call(
+                Kind::DispatchCommand(quad(args, 0)),
+                INPUT_AT,
+                pair(args, 4) as usize,
+            ),
+            0x06 => self.exact(
+                Kind::ReadBuffer(byte(args, 0)),
+                3,
+                0,
+                pair(args, 1) as usize,
+            ),
+            0x07 => self.call(Kind::WriteBuffer(byte(args, 0)), 1, 0),
+            0x08 => self.exact(
+                Kind::ReadSecurityKeys,
+                0,
+                0,
+                SECURITY_KEYS_R5_DATA_LEN_BYTES,
+            ),
+            0x09 => self.call(Kind::WriteSecurityKeys, 0, 0),
+            0x0A => self.exact(Kind::ReadAuthenticationKey, 0, 0, AUTH_KEY_DATA_LEN_BYTES),
+            0x0B => self.call(Kind::WriteAuthenticationKey, 0, 0),
+            // 0C and 0D are retired and never given out again: their lines are refused by `retired_kind`, before they are decoded.
+            0x0E => self.exact(
+                Kind::SendAccessKey {
+                    lower: pair(args, 0),
+                    upper: pair(args, 2),
+                },
+                4,
+                0,
+                0,
+            ),
+            0x0F => self.exact(Kind::ReadMfgInfoC, 2, 0, pair(args, 0) as usize),
+            0x10 => self.call(
+                Kind::WriteMfgInfoC {
+                    lower: pair(args, 0),
+                    upper: pair(args, 2),
+                },
+                4,
+                0,
+            ),
+            0x11 => self.exact(Kind::ReadMfgInfo, 2, 0, pair(args, 0) as usize),
+            0x12 => self.call(Kind::WriteMfgInfo, 0, 0),
+            0x13 => self.exact(
+                Kind::ReadChargingVoltageOverride,
+                0,
+                0,
+                CHRG_VOLTAGE_OVERRIDE_SIZE_BYTES,
+            ),
+            0x14 => self.exact(
+                Kind::WriteChargingVoltageOverride,
+                0,
+                CHRG_VOLTAGE_OVERRIDE_SIZE_BYTES,
+                0,
+            ),
+            0x15 => self.call(Kind::WriteWithRetries, 0, 0),
+            _ => Err(Answer::BadLine),
+        }
     }
 }
 
@@ -203,14 +162,14 @@ fn asked(kind: u8, header: Header, args: &[u8]) -> Request
 fn unknown_flags(flags: u8) -> bool
     ensures { result ≡ unknown_flags flags }
 {
-    15 < flags
+    flags > 0x0F
 }
 
 // Whether two budgets follow the flags: bit 2.
 fn two_budgets(flags: u8) -> bool
     ensures { result ≡ two_budgets flags }
 {
-    flags / 4 % 2 == 1
+    flags & 4 != 0
 }
 
 // How many bytes the header has.
@@ -243,9 +202,9 @@ fn config(line: &[u8]) -> Config
     Config {
         max_write_retries: pair(line, 2),
         max_read_retries: read_retries(line),
-        pec_write: flags % 2 == 1,
-        pec_read: flags / 2 % 2 == 1,
-        growing_waits: flags / 8 % 2 == 1,
+        pec_write: flags & 1 != 0,
+        pec_read: flags & 2 != 0,
+        growing_waits: flags & 8 != 0,
     }
 }
 
@@ -263,28 +222,21 @@ fn header_of(line: &[u8]) -> Header
 pub fn retired_kind(line: &[u8]) -> bool
     ensures { result ≡ retired_kind line.now }
 {
-    if byte(line, 0) != b'0' {
-        return false;
-    }
-    match byte(line, 1) {
-        b'C' => true,
-        b'D' => true,
-        _ => false,
-    }
+    matches!(line, [b'0', b'C' | b'D', ..])
 }
 
 // What the bytes of a request line ask for. Those of a retired kind are a bad line here, like any number that is no kind; the bench program hands none
 // over, since `retired_kind` refuses the line first.
-pub fn read(line: &[u8]) -> Request
+pub fn read(line: &[u8]) -> Result<Asked, Answer>
     ensures { result ≡ request_line line.now }
 {
     if unknown_flags(byte(line, 1)) {
-        return Request::Refused(Answer::BadLine);
+        return Err(Answer::BadLine);
     }
     let header = header_of(line);
-    let bytes = header.bytes as usize;
-    if line.len() < bytes {
-        return Request::Refused(Answer::BadLine);
+    if line.len() < header.bytes as usize {
+        return Err(Answer::BadLine);
     }
-    asked(byte(line, 0), header, rest(line, bytes))
+    let bytes = rest(line, header.bytes as usize);
+    Arguments { header, bytes }.asked(byte(line, 0))
 }

@@ -14,10 +14,9 @@ use Rattle.hexadecimal.specs.Line.{feed_bytes}
 use Rattle.protocol.specs.Pick.{when◌then◌else◌}
 use Rattle.protocol.specs.Bytes.{over}
 use Rattle.protocol.proofs.Laws.{length_over}
-use Rattle.requests.specs.Request.{request_line}
+use Rattle.std.specs.Prelude.{Ok, Err}
+use Rattle.requests.specs.Request.{Request, request_line}
 use Rattle.requests.specs.Retired.{retired_kind}
-use Rattle.requests.specs.declared.request.Request.{Request}
-use Rattle.requests.specs.declared.request.Request.TheVariants as request
 use Rattle.printing.specs.Printing.{out_printed}
 use Rattle.printing.proofs.Laws.{length_feed}
 use Rattle.dialogue.specs.Dialogue as dialogue
@@ -41,8 +40,8 @@ length_outcome (run.Call call place) line Y = length_decoded line Y
 
 length_begin : (q : Request) (B : List ℕ) → length (dialogue.fill_by q B) ≡ length B
 unfolding dialogue.fill_by
-length_begin (request.Call kind config at n) B = length_filled n B
-length_begin (request.Refused a) B = refl
+length_begin (Ok q) B = length_filled q.len B
+length_begin (Err a) B = refl
 
 pub length_buffer : (r : Run) (line R Y B : List ℕ) → length (dialogue.buffer_after r line R Y B) ≡ length B
 unfolding dialogue.buffer_after dialogue.first_buffer dialogue.begin_buffer dialogue.go_buffer when◌then◌else◌

@@ -11,7 +11,8 @@ use lib.Seq.{length-take-le, take_all, take-append-le}
 use lib.Dec.{ltb, eqb}
 use borrow.Author.Tests.{lt-ltb, ne_eqb, eqb-false, ltb-true, ltb-false}
 use Rattle.hexadecimal.specs.Hex.{decoded_of, bytes_of, out_decoded}
-use Rattle.hexadecimal.specs.declared.Decoded.TheVariants as decoded
+use Rattle.std.specs.Prelude.{Ok, Err}
+use Rattle.hexadecimal.specs.declared.DecodeError.TheVariants as error
 use Rattle.protocol.specs.Pick.{when◌then◌else◌}
 use Rattle.requests.specs.Outcome.{outcome_line}
 use Rattle.requests.specs.Retired.{retired_kind}
@@ -33,9 +34,9 @@ no_bytes line out h = by (eqb (length line % 2) 1) refl
     by : (t : Bool) → eqb (length line % 2) 1 ≡ t
         → take
         (dialogue.count_in
-        (when t then decoded.Bad else
-        when ltb (length out) (length line / 2) then decoded.TooLong else
-        when ltb (length (bytes_of line)) (length line / 2) then decoded.Bad else decoded.Bytes (length line / 2)))
+        (when t then Err error.Bad else
+        when ltb (length out) (length line / 2) then Err error.TooLong else
+        when ltb (length (bytes_of line)) (length line / 2) then Err error.Bad else Ok (length line / 2)))
         (out_decoded line out) ≡ []
     by true e = refl
     by false e =

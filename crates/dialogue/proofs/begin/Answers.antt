@@ -4,12 +4,12 @@ use mathlib.Core.Path.{refl}
 use Rattle.dialogue.specs.Dialogue.{begin_by, fill_by, begin_of, begin_buffer}
 use Rattle.dialogue.proofs.begin.Goals as goal
 
-pub returns-in-Call : goal.returns-in-Call
+pub returns-in-Ok : goal.returns-in-Ok
 unfolding begin_of begin_buffer begin_by fill_by
-returns-in-Call c = rw (← c.read.ensures, c.in-Call.is) c.«open».ensures
+returns-in-Ok c = rw (← c.read.ensures, c.in-Ok.is) c.«open».ensures
 
-pub returns-in-Refused : goal.returns-in-Refused
+pub returns-in-Err : goal.returns-in-Err
 unfolding begin_of begin_buffer begin_by fill_by
-returns-in-Refused c =
+returns-in-Err c =
     let e = c.refuse.ensures in
-    rw (← c.read.ensures, c.in-Refused.is) (e.0, refl, e.1)
+    rw (← c.read.ensures, c.in-Err.is) (e.0, refl, e.1)

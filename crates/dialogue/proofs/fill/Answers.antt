@@ -1,29 +1,20 @@
--- `dialogue::fill` meets its contract: the loop keeps the bytes filled in front of what the buffer had.
-use Prim.Native.Nat.{ℕ, ◌<◌, min}
-use mathlib.Core.Path.{◌≡◌, refl, ap, ◌∙◌}
+-- `dialogue::fill` meets its contract: the bytes filled stand in front of what the buffer had.
+-- Assumes nothing.
+use Prim.Native.Nat.{ℕ, min}
+use mathlib.Core.Path.{◌≡◌, ap, ◌∙◌}
 use mathlib.Core.List.{List}
 use native.Mathlib.Omega.{arith}
-use lib.ListN.{length, set, length-replicate}
-use borrow.Author.Rules.{rules}
-use borrow.Author.Fill.{fill_more}
+use lib.ListN.{length, take, replicate, length-take, length-replicate}
 use Rattle.protocol.specs.Bytes.{over}
 use Rattle.dialogue.specs.Dialogue.{filled}
 use Rattle.dialogue.proofs.fill.Goals as goal
 
-pub loop-i-init : goal.loop-i-init
-loop-i-init c = (search rules, (search rules, refl))
-
-pub loop-i-preserved : goal.loop-i-preserved
-loop-i-preserved c =
-    let l = c.loop-i in
-    let a = c.args in
-    let h : l.i < length a.buffer.now = omega arith in
-    (search rules, (search rules, ap (λ (b : List ℕ). set b l.i 0xA5) l.invariant.1.1 ∙ fill_more l.i 0xA5 a.buffer.now h))
-
 pub returns : goal.returns
 unfolding filled over
 returns c =
-    let l = c.loop-i in
-    let a = c.args in
-    let e : l.i ≡ min a.n (length a.buffer.now) = omega arith in
-    rw (← e, length-replicate) l.invariant.1.1
+    let b : List ℕ = c.args.buffer.now in
+    let n : ℕ = min c.args.n (length b) in
+    let m : c.min-end.result ≡ n = c.min-end.ensures in
+    let k : length (take c.min-end.result b) ≡ n = rw length-take (omega arith) in
+    let f : c.fill.new.self ≡ replicate n 0xA5 = c.fill.ensures.after (λ y q. q) ∙ ap (λ (i : ℕ). replicate i 0xA5) k in
+    rw (f, m, length-replicate)

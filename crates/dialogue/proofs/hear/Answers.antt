@@ -4,11 +4,11 @@ use mathlib.Core.Path.{refl}
 use Rattle.dialogue.specs.Dialogue.{hear_by, hear_buffer_by, hear_of, hear_buffer}
 use Rattle.dialogue.proofs.hear.Goals as goal
 
-pub returns-in-Outcome : goal.returns-in-Outcome
+pub returns : goal.returns
 unfolding hear_of hear_by hear_buffer hear_buffer_by
-returns-in-Outcome c =
-    rw (← c.read.ensures, c.in-Outcome.is, ← c.rest-reply.ensures) c.report.ensures
+returns c =
+    rw (← c.read.ensures, c.in-Some.is, ← c.rest.ensures) c.report.ensures
 
-pub returns-in-Bad : goal.returns-in-Bad
+pub returns-in_default : goal.returns-in_default
 unfolding hear_of hear_by hear_buffer hear_buffer_by
-returns-in-Bad c = rw (← c.read.ensures, c.in-Bad.is) (refl, refl)
+returns-in_default c = rw (← c.read.ensures, c.in_default.is) (refl, refl)

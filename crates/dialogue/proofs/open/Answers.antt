@@ -8,5 +8,5 @@ returns c =
     let s = c.say.ensures in
     let f = c.fill.ensures in
     let a = c.args in
-    let g = opened a.kind a.config a.at a.len a.line.now a.buffer.now _ _ _ _ _ f c.rest-payload.ensures c.front-own.ensures c.start-call.ensures c.lent.ensures in
+    let g = opened a.asked a.line.now a.buffer.now _ _ _ _ _ f c.rest-payload.ensures c.front-own.ensures c.start-call.ensures c.lent.ensures in
     rw (← g) (s.0, f, s.1)

@@ -7,5 +7,5 @@ pub returns : goal.returns
 unfolding turned_of show_of line_shown zeros
 returns c =
     let e = c.next-shown.ensures in
-    let t = c.tell-said.ensures in
+    let t = c.tell.ensures in
     rw (← e.1, ← e.2, ← e.0, ← c.size.ensures, ← c.to_send-frame.ensures, ← c.tally.ensures) (rw t.0, t.1)

@@ -1,6 +1,7 @@
 -- `dialogue::tell` meets its contract: each arm prints the line of its case of `tell_of`.
 -- Assumes nothing.
 use mathlib.Core.Path.{ap}
+use mathlib.Core.Logic.{inl, inr}
 use Rattle.dialogue.specs.Dialogue.{bytes_said, said_of, tell_of}
 use Rattle.dialogue.specs.declared.Said.TheVariants as said
 use Rattle.dialogue.proofs.tell.Goals as goal
@@ -21,10 +22,7 @@ pub returns-in-Refused : goal.returns-in-Refused
 unfolding tell_of said_of bytes_said
 returns-in-Refused c =
     let e = c.end.ensures in
-    rw c.in-Refused.is (ap said.Last e.0, e.1)
-
-pub returns-in-Ended : goal.returns-in-Ended
-unfolding tell_of said_of bytes_said
-returns-in-Ended c =
-    let e = c.end-in-Ended.ensures in
-    rw c.in-Ended.is (ap said.Last e.0, e.1)
+    elim c.in-Refused.is [
+      | inl q ↦ rw q (ap said.Last e.0, e.1)
+      | inr q ↦ rw q (ap said.Last e.0, e.1)
+    ]

@@ -1,14 +1,14 @@
 -- `hexadecimal::encode` meets its contract: the loop keeps the digits of the bytes passed at the front.
+-- Assumes nothing.
 use Prim.Native.Nat.{ℕ, ◌+◌, ◌*◌}
 use mathlib.Core.Path.{◌≡◌, refl, ap, ◌∙◌}
 use mathlib.Core.List.{List, ◌++◌}
 use native.Mathlib.Omega.{arith}
-use lib.ListN.{length, drop, set, length-set}
-use borrow.Author.Rules.{rules}
+use lib.ListN.{length, drop, set}
+use lib.Seq.{take-length}
 use Rattle.hexadecimal.proofs.Cases.{cases}
 use Rattle.hexadecimal.specs.Hex.{hex_of, encoded_of, out_encoded}
 use Rattle.hexadecimal.proofs.Laws.{encode_turn, length_hex}
-use lib.Seq.{take-length}
 use Rattle.hexadecimal.proofs.encode.Goals as goal
 
 pub returns-then-out-n : goal.returns-then-out-n
@@ -17,22 +17,13 @@ returns-then-out-n c = search cases
 
 pub loop-i-init : goal.loop-i-init
 unfolding hex_of
-loop-i-init c = (search rules, (search rules, refl))
-
-pub bounds-out-i-in-loop-i : goal.bounds-out-i-in-loop-i
-bounds-out-i-in-loop-i c = simp length-set (omega arith)
+loop-i-init c = refl
 
 pub loop-i-preserved : goal.loop-i-preserved
 loop-i-preserved c =
     let l = c.loop-i in
-    let a = c.args in (
-      search rules,
-      (
-        simp length-set (omega arith),
-        ap (λ (d : List ℕ). set (set d (l.i * 2) c.digit.result) (l.i * 2 + 1) c.digit-in-loop-i.result) l.invariant.1.1
-            ∙ encode_turn a.bytes.now a.out.now l.i _ _ (omega arith) (omega arith) c.digit.ensures c.digit-in-loop-i.ensures,
-      ),
-    )
+    ap (λ (d : List ℕ). set (set d (l.i * 2) c.digit.result) (l.i * 2 + 1) c.digit-in-loop-i.result) l.invariant
+    ∙ encode_turn c.args.bytes.now c.args.out.now l.i _ _ (omega arith) (omega arith) c.digit.ensures c.digit-in-loop-i.ensures
 
 pub returns : goal.returns
 unfolding encoded_of out_encoded
@@ -41,5 +32,5 @@ returns c =
     let a = c.args in
     let s : List ℕ = a.bytes.now in
     let e : l.i ≡ length s = omega arith in
-    let left : l.out ≡ hex_of s ++ drop (length (hex_of s)) a.out.now = l.invariant.1.1 ∙ rw (e, take-length, length_hex) in
+    let left : l.out ≡ hex_of s ++ drop (length (hex_of s)) a.out.now = l.invariant ∙ rw (e, take-length, length_hex) in
     search cases

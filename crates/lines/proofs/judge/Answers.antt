@@ -13,24 +13,9 @@ returns-then-room-have c =
     let held : a.room < a.have + a.n = omega arith in
     search cases
 
-pub returns-then-room-have-2 : goal.returns-then-room-have-2
+pub returns-then-saturating_sub-n : goal.returns-then-saturating_sub-n
 unfolding took_by
-returns-then-room-have-2 c =
-    let a = c.args in
-    let held : a.room < a.have + a.n = omega arith in
-    search cases
-
-pub returns-then-size-from : goal.returns-then-size-from
-unfolding took_by
-returns-then-size-from c =
-    let a = c.args in
-    let held : a.have + a.n ≤ a.room = omega arith in
-    let left : a.size - a.from ≤ a.n = omega arith in
-    search cases
-
-pub returns-then-size-from-2 : goal.returns-then-size-from-2
-unfolding took_by
-returns-then-size-from-2 c =
+returns-then-saturating_sub-n c =
     let a = c.args in
     let held : a.have + a.n ≤ a.room = omega arith in
     let left : a.size - a.from ≤ a.n = omega arith in

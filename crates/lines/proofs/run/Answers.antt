@@ -1,26 +1,21 @@
--- `lines::run` meets its contract: the loop counts the bytes that are no line feed.
-use native.Mathlib.Omega.{arith}
-use borrow.Author.Rules.{rules}
-use Rattle.lines.proofs.Laws.{before_more, before_here, before_none}
+-- `lines::run` meets its contract: the place of the first line feed is how many bytes come before it.
+-- Assumes nothing.
+use mathlib.Core.Path.{◌≡◌, ap, ◌∙◌}
+use mathlib.Core.List.{List}
+use lib.ListN.{length, drop}
+use Rattle.std.proofs.Common.{rules}
+use Rattle.std.proofs.lemmas.Iterator.{YieldsList-from_slice}
+use Rattle.std.proofs.lemmas.Iterator.Search.{position_from_yields_List}
+use borrow.Author.Tests.{tests}
+use Rattle.std.specs.Prelude.{ℕ, ◌==◌, position, unwrap_or}
+use Rattle.lines.specs.Lines.{before_feed}
+use Rattle.lines.proofs.Laws.{run_lem, take_length_drop}
 use Rattle.lines.proofs.run.Goals as goal
-
-pub loop-i-init : goal.loop-i-init
-loop-i-init c = (search rules, omega arith)
-
-pub returns-then-chunk-i-eq10 : goal.returns-then-chunk-i-eq10
-returns-then-chunk-i-eq10 c =
-    let l = c.loop-i in
-    let a = c.args in
-    omega (arith, l.invariant.1, before_here a.chunk.now l.i (omega arith) c.if-chunk-i-eq10.true)
-
-pub loop-i-preserved : goal.loop-i-preserved
-loop-i-preserved c =
-    let l = c.loop-i in
-    let a = c.args in
-    (search rules, omega (arith, l.invariant.1, before_more a.chunk.now l.i (omega arith) c.if-chunk-i-eq10.false))
 
 pub returns : goal.returns
 returns c =
-    let l = c.loop-i in
-    let a = c.args in
-    omega (arith, l.invariant.1, before_none a.chunk.now l.i (omega arith))
+    let rest : List ℕ = c.block-rest.result.now in
+    let all : rest ≡ drop c.args.from c.args.chunk.now = c.block-rest.ensures ∙ take_length_drop c.args.from c.args.chunk.now in
+    let found : c.position.result ≡ position (λ b. b == 10) rest =
+    position_from_yields_List (λ b. b == 10) _ _ c.position.result c.position.ensures.ran (YieldsList-from_slice _ c.iter.ensures.rest) (λ x b q k. search (rules, tests)) in
+    c.unwrap_or.ensures ∙ ap (λ o. unwrap_or o (length rest)) found ∙ run_lem rest ∙ ap (λ s. length (before_feed s)) all

@@ -7,4 +7,4 @@ pub returns : goal.returns
 unfolding cut_said quad_of
 returns c =
     let l = c.line.ensures in
-    rw (c.quad-ms.ensures, c.quad-waits.ensures) at l
+    rw (c.to_le_bytes-ms.ensures, c.to_le_bytes-waits.ensures) at l

@@ -8,4 +8,4 @@ pub returns : goal.returns
 unfolding end_said pair_of quad_of
 returns c =
     let l = c.line.ensures in
-    rw (← c.number.ensures, ← c.detail-detail.ensures) (rw (c.quad-ms.ensures, c.quad-waits.ensures) at l)
+    rw (← c.number.ensures, ← c.detail.ensures) (rw (c.to_le_bytes-ms.ensures, c.to_le_bytes-waits.ensures, c.to_le_bytes-detail.ensures) at l)

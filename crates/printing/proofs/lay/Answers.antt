@@ -4,15 +4,11 @@ use Prim.Native.Nat.{ℕ, ◌+◌, ◌*◌, ◌≤◌}
 use mathlib.Core.Path.{refl}
 use mathlib.Core.List.{List, ◌++◌}
 use native.Mathlib.Omega.{arith}
-use lib.ListN.{length, length-append, length-set}
-use borrow.Author.Rules.{rules}
+use lib.ListN.{length, length-append}
 use Rattle.protocol.proofs.Cases.{cases}
 use Rattle.printing.proofs.Laws.{laid_line, length_feed}
 use Rattle.printing.specs.Printing.{out_printed}
 use Rattle.printing.proofs.lay.Goals as goal
-
-pub shape_of-out : goal.shape_of-out
-shape_of-out c = simp length-set (search rules)
 
 pub returns : goal.returns
 unfolding out_printed

@@ -6,4 +6,6 @@ use Rattle.printing.proofs.read.Goals as goal
 
 pub returns : goal.returns
 unfolding read_said pair_of
-returns c = c.line.ensures
+returns c =
+    let l = c.line.ensures in
+    rw c.to_le_bytes-count.ensures at l

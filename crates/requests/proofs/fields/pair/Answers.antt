@@ -5,4 +5,4 @@ use Rattle.requests.proofs.fields.pair.Goals as goal
 
 pub returns : goal.returns
 unfolding pair_at
-returns c = cc
+returns c = rw (c.from_le_bytes.ensures, c.byte.ensures, c.byte-2.ensures)

@@ -1,28 +1,24 @@
--- `requests::request::retired_kind` meets its contract: each test is a case of `retired_kind`.
+-- `requests::request::retired_kind` meets its contract: each arm is a case of `retired_kind`.
 -- Assumes nothing.
-use mathlib.Core.Path.{◌≡◌, sym, ◌∙◌}
-use lib.ListN.{get_or}
-use Rattle.protocol.specs.Pick.{when◌then◌else◌}
-use Rattle.protocol.proofs.Cases.{cases}
-use Rattle.requests.specs.Retired.{retired_kind}
+use mathlib.Core.Path.{◌≡◌}
+use native.Mathlib.Omega.{arith}
+use lib.ListN.{get_or, get_or-eq_default}
+use Rattle.requests.proofs.Said.{retired_yes, retired_no}
 use Rattle.requests.proofs.request.retired_kind.Goals as goal
 
-pub returns-then-byte-ne48 : goal.returns-then-byte-ne48
-unfolding retired_kind
-returns-then-byte-ne48 c = search cases
-
-pub returns-in-67 : goal.returns-in-67
-unfolding retired_kind
-returns-in-67 c = search cases
-
-pub returns-in-68 : goal.returns-in-68
-unfolding retired_kind when◌then◌else◌
-returns-in-68 c =
-    let line = c.args.line.now in
-    let first : get_or line 0 0 ≡ 0x30 = sym c.byte.ensures ∙ c.if-byte-ne48.false in
-    let second : get_or line 1 0 ≡ 0x44 = sym c.byte-2.ensures ∙ c.in-68.is in
-    rw (first, second)
+pub returns-in-48 : goal.returns-in-48
+returns-in-48 c = retired_yes c.args.line.now (omega arith) (grind arith)
 
 pub returns-in_default : goal.returns-in_default
-unfolding retired_kind
-returns-in_default c = search cases
+returns-in_default c =
+    let short : get_or c.args.line.now 1 0 ≡ 0 = get_or-eq_default c.args.line.now 0 {n = 1} (omega arith) in
+    retired_no c.args.line.now (λ e q. omega arith)
+
+pub returns-in_default-2 : goal.returns-in_default-2
+returns-in_default-2 c = retired_no c.args.line.now (λ e q. omega arith)
+
+pub returns-in_default-3 : goal.returns-in_default-3
+returns-in_default-3 c = retired_no c.args.line.now (λ e q. omega arith)
+
+pub returns-in_default-4 : goal.returns-in_default-4
+returns-in_default-4 c = retired_no c.args.line.now (λ e q. omega arith)

@@ -1,11 +1,11 @@
--- `requests::request::asked` meets its contract: each arm is the case of `asked_of` at its number.
+-- `requests::request::Arguments::asked` meets its contract: each arm is the case of `asked_of` at its number.
 -- Assumes nothing.
 use mathlib.Core.Path.{◌≡◌}
 use native.Mathlib.Omega.{arith}
 use Rattle.protocol.specs.Pick.{when◌then◌else◌}
 use Rattle.protocol.proofs.Cases.{not_eq}
 use Rattle.requests.specs.Request.{asked_of}
-use Rattle.requests.proofs.request.asked.Goals as goal
+use Rattle.requests.proofs.request.Arguments.asked.Goals as goal
 
 pub returns-in-1 : goal.returns-in-1
 unfolding asked_of when◌then◌else◌
