@@ -15,7 +15,7 @@ use Rattle.calls.specs.declared.call.Call.{Call}
 use Rattle.calls.specs.declared.call.Reported.{Reported}
 use Rattle.calls.specs.declared.call.Reported.TheVariants as reported
 use Rattle.lines.specs.Input.{lines_from}
-use Rattle.session.specs.Desk.{Desk}
+use Rattle.session.specs.declared.Desk.{Desk}
 use Rattle.session.specs.Loop.{Fresh, Ready, Reached}
 use Rattle.session.specs.Laws.{Begins}
 use Rattle.bench_promises.specs.RustBench.{rust_printed, longest_digits}

@@ -17,7 +17,8 @@ use Rattle.printing.proofs.Laws.{length_feed}
 use Rattle.dialogue.specs.Dialogue.{last, bytes_said, said_of, close_of}
 use Rattle.dialogue.proofs.Room.{short_close}
 use Rattle.session.specs.declared.Session.{Session}
-use Rattle.session.specs.Desk.{Desk, desk, held_bytes, longest_line, out_bytes, Sized}
+use Rattle.session.specs.declared.Desk.{Desk}
+use Rattle.session.specs.Desk.{desk, held_bytes, longest_line, out_bytes, Sized}
 use Rattle.session.specs.Session.{start_of, at_byte, said_session, spoken_session, laid_out, closing, laid_desk, line_of, turn_by, turn_of, goes_on, turns_of, take_of, end_session, end_out, end_of}
 use Rattle.session.specs.Output.{printed, printed_so_far}
 use Rattle.session.specs.Loop.{laid_bytes, Fresh, desk_at, Ready, Round, answers, refills, ends, Reached, begun, round, put, OneRound, Standing}
@@ -30,25 +31,25 @@ use Rattle.session.proofs.Whole.{off_chunk, off_chunks, take_uses, whole_bench}
 
 -- what is lent for the output and for a call's buffer keeps its length
 abbrev Keeps : Desk → Desk → Type 0
-Keeps w v = (length v.out ≡ length w.out) × (length v.buffer ≡ length w.buffer)
+Keeps w v = (length v.lent.out ≡ length w.lent.out) × (length v.lent.buffer ≡ length w.lent.buffer)
 
-keeps_turn : (u : Took) (chunk held : List ℕ) (w : Desk) → w.session.laid ≤ length w.out → Keeps w (turn_by u chunk held w)
+keeps_turn : (u : Took) (chunk held : List ℕ) (w : Desk) → w.session.laid ≤ length w.lent.out → Keeps w (turn_by u chunk held w)
 unfolding turn_by line_of laid_desk laid_out
-keeps_turn (took.Here len next) chunk held w h = (length_laid w.session.laid _ w.out h, length_buffer w.session.run _ w.request w.outcome w.buffer)
-keeps_turn (took.Held len next) chunk held w h = (length_laid w.session.laid _ w.out h, length_buffer w.session.run _ w.request w.outcome w.buffer)
+keeps_turn (took.Here len next) chunk held w h = (length_laid w.session.laid _ w.lent.out h, length_buffer w.session.run _ w.lent.request w.lent.outcome w.lent.buffer)
+keeps_turn (took.Held len next) chunk held w h = (length_laid w.session.laid _ w.lent.out h, length_buffer w.session.run _ w.lent.request w.lent.outcome w.lent.buffer)
 keeps_turn (took.More have) chunk held w h = (refl, refl)
-keeps_turn took.Long chunk held w h = (length_laid w.session.laid _ w.out h, refl)
+keeps_turn took.Long chunk held w h = (length_laid w.session.laid _ w.lent.out h, refl)
 
 keeps_turns : (turns : ℕ) (chunk : List ℕ) (w : Desk) → Keeps w (turns_of turns chunk w)
 unfolding turns_of turn_of when◌then◌else◌
 keeps_turns zero chunk w = (refl, refl)
-keeps_turns (suc turns) chunk w = by (keeps_turns turns chunk (turn_of chunk w)) (goes_on w.session.on w.session.at (length chunk) w.session.laid (length w.out)) refl
+keeps_turns (suc turns) chunk w = by (keeps_turns turns chunk (turn_of chunk w)) (goes_on w.session.on w.session.at (length chunk) w.session.laid (length w.lent.out)) refl
   where
     by : Keeps (turn_of chunk w) (turns_of turns chunk (turn_of chunk w))
-        → (f : Bool) → goes_on w.session.on w.session.at (length chunk) w.session.laid (length w.out) ≡ f
+        → (f : Bool) → goes_on w.session.on w.session.at (length chunk) w.session.laid (length w.lent.out) ≡ f
         → Keeps w (when f then turns_of turns chunk (turn_of chunk w) else w)
     by next true e =
-        let g = goes_on_inside w.session.on w.session.at (length chunk) w.session.laid (length w.out) e in
+        let g = goes_on_inside w.session.on w.session.at (length chunk) w.session.laid (length w.lent.out) e in
         let k = keeps_turn _ chunk _ w (omega arith) in
         (next.0 ∙ k.0, next.1 ∙ k.1)
     by next false e = (refl, refl)
@@ -97,13 +98,13 @@ unfolding laid_bytes
 none_laid d e = rw e
 
 -- the end of the input gives a line
-end_some : (d : Desk) → d.session.on ≡ true → longest_line ≤ length d.out → length d.buffer ≤ 8192 → 0 < length (laid_bytes (end_of d))
+end_some : (d : Desk) → d.session.on ≡ true → longest_line ≤ length d.lent.out → length d.lent.buffer ≤ 8192 → 0 < length (laid_bytes (end_of d))
 unfolding end_of end_session end_out spoken_session laid_out closing bytes_said when◌then◌else◌
 end_some d o room small =
-    let x : List ℕ = close_of d.session.run (take d.session.have d.held) d.buffer in
-    let short = short_close d.session.run (take d.session.have d.held) d.buffer small in
+    let x : List ℕ = close_of d.session.run (take d.session.have d.held) d.lent.buffer in
+    let short = short_close d.session.run (take d.session.have d.held) d.lent.buffer small in
     let e : laid_bytes (end_of d) ≡ feed_bytes x =
-    rw o (written_said (last x) d.session.run d.session.at 0 d.held d.request d.outcome d.buffer d.out short (omega arith)) in
+    rw o (written_said (last x) d.session.run d.session.at 0 d.held d.lent.request d.lent.outcome d.lent.buffer d.lent.out short (omega arith)) in
     rw (e, length_feed) (omega arith)
 
 -- what is read came in chunks. What they and any further ones give is what is laid_bytes and laid, and what the chunk at hand and those give
@@ -112,8 +113,8 @@ record Before (first : Desk) (read wrote chunk : List ℕ) (d : Desk) : Type 0 w
   all : concat chunks ≡ read
   takes : ℕ
   enough : length chunk ≤ takes + d.session.at
-  room : longest_line ≤ length d.out
-  buffer : length d.buffer ≤ 8192
+  room : longest_line ≤ length d.lent.out
+  buffer : length d.lent.buffer ≤ 8192
   same : (final : Desk → List ℕ) (more : List (List ℕ)) → Blind final
       → chunks_out final (chunks ++ more) first ≡ wrote ++ (laid_bytes d ++ chunk_out takes chunk d (chunks_out final more))
 
