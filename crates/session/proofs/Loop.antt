@@ -21,7 +21,7 @@ use Rattle.session.specs.declared.Desk.{Desk}
 use Rattle.session.specs.Desk.{desk, held_bytes, longest_line, out_bytes, Sized}
 use Rattle.session.specs.Session.{start_of, at_byte, said_session, spoken_session, laid_out, closing, laid_desk, line_of, turn_by, turn_of, goes_on, turns_of, take_of, end_session, end_out, end_of}
 use Rattle.session.specs.Output.{printed, printed_so_far}
-use Rattle.session.specs.Loop.{laid_bytes, Fresh, desk_at, Ready, Round, answers, refills, ends, Reached, begun, round, put, OneRound, Standing}
+use Rattle.session.specs.Loop.{laid_bytes, Fresh, blank, desk_at, Ready, Round, answers, refills, ends, Reached, begun, round, put, OneRound, Standing}
 use Rattle.session.specs.Laws.{Begins, Writes}
 use Rattle.session.proofs.Laws.{goes_on_inside}
 use Rattle.session.proofs.Kept.{length_buffer, length_laid}
@@ -274,25 +274,21 @@ chunk_begins (suc takes) chunk d none more n = by d.session.on (ltb d.session.at
     by true false b = record { rest = more d; same = rw (n d) }
     by false g b = record { rest = []; same = refl }
 
--- arrays of zeros
-zeros : Desk
-zeros = desk start_of (replicate held_bytes 0) (replicate longest_request 0) (replicate 8193 0) (replicate 8192 0) (replicate out_bytes 0)
-
-zeros_sized : Sized zeros
-unfolding zeros
-zeros_sized = record {
-  held = length-replicate {A = ℕ} held_bytes 0;
-  request = length-replicate {A = ℕ} longest_request 0;
-  outcome = length-replicate {A = ℕ} 8193 0;
-  buffer = length-replicate {A = ℕ} 8192 0;
-  out = length-replicate {A = ℕ} out_bytes 0;
+-- a blank desk is fresh
+pub blank_fresh : Fresh blank
+unfolding blank
+blank_fresh = record {
+  sized = record {
+    held = length-replicate {A = ℕ} held_bytes 0;
+    request = length-replicate {A = ℕ} longest_request 0;
+    outcome = length-replicate {A = ℕ} 8193 0;
+    buffer = length-replicate {A = ℕ} 8192 0;
+    out = length-replicate {A = ℕ} out_bytes 0;
+  };
+  start = refl;
 }
 
-zeros_start : zeros.session ≡ start_of
-unfolding zeros
-zeros_start = refl
-
-one_begins : (final : Desk → List ℕ) (input : List ℕ) (chunks : List (List ℕ)) → Begins (bytes_so_far (input ∷ []) zeros) (chunks_out final (input ∷ chunks) zeros)
+one_begins : (final : Desk → List ℕ) (input : List ℕ) (chunks : List (List ℕ)) → Begins (bytes_so_far (input ∷ []) blank) (chunks_out final (input ∷ chunks) blank)
 unfolding bytes_so_far chunks_out when◌then◌else◌
 one_begins final input chunks = chunk_begins (length input) input _ (chunks_out (λ v. []) []) (chunks_out final chunks) (λ v. by v.session.on)
   where
@@ -300,9 +296,9 @@ one_begins final input chunks = chunk_begins (length input) input _ (chunks_out 
     by true = refl
     by false = refl
 
-one : (input : List ℕ) → bytes_so_far (input ∷ []) zeros ≡ printed_so_far input
+one : (input : List ℕ) → bytes_so_far (input ∷ []) blank ≡ printed_so_far input
 unfolding concat
-one input = whole_bench.at_once (input ∷ []) zeros zeros_sized zeros_start ∙ ap printed_so_far (append-nil input)
+one input = whole_bench.at_once (input ∷ []) blank blank_fresh.sized blank_fresh.start ∙ ap printed_so_far (append-nil input)
 
 two : (input more : List ℕ) → concat (input ∷ more ∷ []) ≡ input ++ more
 unfolding concat
@@ -313,11 +309,11 @@ unfolding bytes_out bytes_so_far
 so_far_begins input more =
     let a = one_begins (λ v. laid_bytes (end_of v)) input (more ∷ []) in
     let b = one_begins (λ v. []) input (more ∷ []) in
-    let start : chunks_out (λ v. []) (input ∷ []) zeros ≡ printed_so_far input = one input in
-    let all : chunks_out (λ v. laid_bytes (end_of v)) (input ∷ more ∷ []) zeros ≡ printed (input ++ more) =
-    whole_bench.whole (input ∷ more ∷ []) zeros zeros_sized zeros_start ∙ ap printed (two input more) in
-    let now : chunks_out (λ v. []) (input ∷ more ∷ []) zeros ≡ printed_so_far (input ++ more) =
-    whole_bench.at_once (input ∷ more ∷ []) zeros zeros_sized zeros_start ∙ ap printed_so_far (two input more) in (
+    let start : chunks_out (λ v. []) (input ∷ []) blank ≡ printed_so_far input = one input in
+    let all : chunks_out (λ v. laid_bytes (end_of v)) (input ∷ more ∷ []) blank ≡ printed (input ++ more) =
+    whole_bench.whole (input ∷ more ∷ []) blank blank_fresh.sized blank_fresh.start ∙ ap printed (two input more) in
+    let now : chunks_out (λ v. []) (input ∷ more ∷ []) blank ≡ printed_so_far (input ++ more) =
+    whole_bench.at_once (input ∷ more ∷ []) blank blank_fresh.sized blank_fresh.start ∙ ap printed_so_far (two input more) in (
       record { rest = a.rest; same = ap (λ (l : List ℕ). l ++ a.rest) (sym start) ∙ a.same ∙ all },
       record { rest = b.rest; same = ap (λ (l : List ℕ). l ++ b.rest) (sym start) ∙ b.same ∙ now },
     )

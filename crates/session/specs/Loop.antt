@@ -1,8 +1,9 @@
 -- The program's loop, round by round: where it may stand, and what it has read and written there. (01, The bench program)
 -- Assumes nothing.
-use Rattle.std.specs.Prelude.{ℕ, suc, ◌≤◌, ◌<◌, ◌≡◌, Bool, true, false, List, [], ◌++◌, length, take}
+use Rattle.std.specs.Prelude.{ℕ, suc, ◌≤◌, ◌<◌, ◌≡◌, Bool, true, false, List, [], ◌++◌, length, take, replicate}
 use Rattle.session.specs.declared.Desk.{Desk}
-use Rattle.session.specs.Desk.{Sized}
+use Rattle.requests.specs.Request.{longest_request}
+use Rattle.session.specs.Desk.{desk, held_bytes, out_bytes, Sized}
 use Rattle.session.specs.Session.{start_of, at_byte, take_of, end_of}
 
 -- the bytes that are laid, to be written
@@ -13,6 +14,10 @@ laid_bytes d = take d.session.laid d.lent.out
 pub record Fresh (d : Desk) : Type 0 where
   pub sized : Sized d
   pub start : d.session ≡ start_of
+
+-- the first desk of a run: every array holds zeros
+unfoldable pub blank : Desk
+blank = desk start_of (replicate held_bytes 0) (replicate longest_request 0) (replicate 8193 0) (replicate 8192 0) (replicate out_bytes 0)
 
 -- at a byte of its chunk, with nothing laid
 unfoldable pub desk_at : ℕ → Desk → Desk

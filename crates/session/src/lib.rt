@@ -6,7 +6,7 @@ ghost use Rattle.std.specs.Prelude.{◌≡◌, ◌≤◌, length};
 ghost use Rattle.dialogue.specs.Dialogue.{answer_of, request_after, outcome_after, buffer_after};
 ghost use Rattle.session.specs.Desk.{Sized};
 ghost use Rattle.session.specs.Session.{start_of, at_byte, goes_on, spoken_session, laid_out, closing, turn_of, turns_of, take_of, end_of};
-ghost use Rattle.session.specs.Loop.{laid_bytes, Fresh, desk_at};
+ghost use Rattle.session.specs.Loop.{laid_bytes, Fresh, blank, desk_at};
 
 use dialogue::{Run, Said};
 use lines::Took;
@@ -145,7 +145,7 @@ pub struct Desk {
 impl Desk {
     // A desk with nothing read yet.
     pub fn new() -> Self
-        ensures { Fresh result }
+        ensures { (result ≡ blank) × Fresh result }
     {
         Desk {
             session: Session::start(),
