@@ -29,7 +29,7 @@ use Rattle.dialogue.proofs.Machine.{machine_of}
 use Rattle.dialogue.proofs.Room.{Short, AllShort, printed_whole}
 use Rattle.session.specs.declared.Desk.{Desk}
 use Rattle.session.specs.Desk.{desk, held_bytes, longest_line, Sized}
-use Rattle.session.specs.Session.{used_up, said_session, spoken_session, laid_out, closing, laid_desk, line_of, turn_by, turn_of, goes_on, turns_of, at_byte, take_of}
+use Rattle.session.specs.Session.{used_up, said_session, spoken_session, laid_out, closing, answer_session, answer_lent, line_of, close_session, close_lent, close_desk, turn_by, turn_of, goes_on, turns_of, at_byte, take_of}
 use Rattle.session.specs.Loop.{laid_bytes}
 use Rattle.session.proofs.Laws.{goes_on_inside}
 use Rattle.session.proofs.Kept.{length_request, length_outcome, length_buffer, length_laid}
@@ -51,7 +51,7 @@ before w = take w.session.have w.held
 
 -- a line that has no room is answered
 abbrev too_long : ℕ → List ℕ → Desk → Desk
-too_long n H w = laid_desk (closing w.session.run H w.lent.buffer) n w.session.laid H w.lent.request w.lent.outcome w.lent.buffer w.lent.out
+too_long n H w = close_desk H n H w
 
 said_size : (say : Saying) (room : ℕ) (r : Run) (at laid : ℕ) → (said_session (said_of say room) r at laid).laid ≡ laid + printed_of (bytes_said say) room
 unfolding said_session said_of bytes_said
@@ -110,7 +110,7 @@ module _ (view : List (List ℕ) → List (List ℕ) → List ℕ) (Ends : List 
       turn_line : (line H : List ℕ) (next : ℕ) (lines : List (List ℕ)) (rest : List ℕ) → length H ≡ held_bytes → w.session.at < next → next ≤ length chunk
           → lines ≡ lines_from [] (drop next chunk ++ t) → rest ≡ rest_from [] (drop next chunk ++ t) → AllShort (shown w (line ∷ lines) rest) → Ends rest
           → G (line_of line next H w) ≡ laid_bytes w ++ view (line ∷ lines) (shown w (line ∷ lines) rest)
-      unfolding line_of laid_desk spoken_session laid_out machine_of laid_bytes
+      unfolding line_of answer_session answer_lent spoken_session laid_out machine_of laid_bytes
       turn_line line H next lines rest h lt le p q a z =
           let s = dialogue.answer_of w.session.run line w.lent.request w.lent.outcome w.lent.buffer in
           let R = dialogue.request_after w.session.run line w.lent.request in
@@ -154,7 +154,7 @@ module _ (view : List (List ℕ) → List (List ℕ) → List ℕ) (Ends : List 
       -- a line has no room: H is as much of it as has
       closed : (H : List ℕ) (n : ℕ) → Short (dialogue.close_of w.session.run H w.lent.buffer)
           → G (too_long n H w) ≡ laid_bytes w ++ feed_bytes (dialogue.close_of w.session.run H w.lent.buffer)
-      unfolding laid_desk spoken_session laid_out closing laid_bytes said_session said_of bytes_said
+      unfolding close_desk close_session close_lent spoken_session laid_out closing laid_bytes said_session said_of bytes_said
       closed H n short =
           off _ refl ∙ written_said (last (dialogue.close_of w.session.run H w.lent.buffer)) w.session.run n w.session.laid H w.lent.request w.lent.outcome w.lent.buffer w.lent.out short fits
 

@@ -17,15 +17,15 @@ use Rattle.printing.proofs.Laws.{length_feed}
 use Rattle.lines.specs.Lines.{before_feed, took_by, took_of, held_after}
 use Rattle.lines.specs.declared.Took.{Took}
 use Rattle.lines.specs.declared.Took.TheVariants as took
-use Rattle.dialogue.specs.Dialogue.{Saying, asked, last, Spoken, said_of, turned_of, answer_of, request_after, outcome_after, buffer_after}
+use Rattle.dialogue.specs.Dialogue.{Saying, asked, last, Spoken, said_of, turned_of}
 use Rattle.dialogue.specs.declared.Run.{Run}
 use Rattle.dialogue.specs.declared.Said.TheVariants as said
 use Rattle.dialogue.specs.declared.Turned.{Turned}
 use Rattle.session.specs.declared.Session.{Session}
 use Rattle.session.specs.declared.Lent.{Lent}
 use Rattle.session.specs.declared.Desk.{Desk}
-use Rattle.session.specs.Desk.{desk, longest_line}
-use Rattle.session.specs.Session.{used_up, said_session, spoken_session, laid_out, closing, laid_desk, line_of, turn_by, turn_of, goes_on, turns_of}
+use Rattle.session.specs.Desk.{longest_line}
+use Rattle.session.specs.Session.{used_up, said_session, spoken_session, answer_session, answer_lent, line_of, close_session, close_lent, close_desk, turn_by, turn_of, goes_on, turns_of}
 
 -- the part of an array of `size` bytes that comes after the laid bytes is lent, and comes back
 module _ (out : List ℕ) (laid size : ℕ) (fits : length out ≡ size) where
@@ -71,32 +71,22 @@ last_room (asked s) room n e = absurd (let z : ◌≡◌ {A = ℕ} 0 1 = cc in o
 last_room (last s) room n e = let q : n ≡ printed_of s room = cc in omega (arith, printed_room s room)
 
 -- what a line that is answered gives
-abbrev Answered : Desk → List ℕ → ℕ → Session → List ℕ → List ℕ → List ℕ → List ℕ → Type 0
-Answered w line next r request outcome buffer out =
-    (r ≡ spoken_session (answer_of w.session.run line w.lent.request w.lent.outcome w.lent.buffer) next w.session.laid (length w.lent.out))
-    × (request ≡ request_after w.session.run line w.lent.request)
-    × (outcome ≡ outcome_after w.session.run line w.lent.outcome)
-    × (buffer ≡ buffer_after w.session.run line w.lent.request w.lent.outcome w.lent.buffer)
-    × (out ≡ laid_out (answer_of w.session.run line w.lent.request w.lent.outcome w.lent.buffer) w.session.laid w.lent.out)
-
-line_answered : (w : Desk) (line : List ℕ) (next : ℕ) (r : Session) (held request outcome buffer out : List ℕ) → Answered w line next r request outcome buffer out
-    → desk r held request outcome buffer out ≡ line_of line next held w
-unfolding line_of laid_desk
-line_answered w line next r held request outcome buffer out a = rw (a.0, a.1, a.2, a.3, a.4)
+abbrev Answered : Desk → List ℕ → ℕ → Session → Lent → Type 0
+Answered w line next r lent = (r ≡ answer_session w.session line next w.lent) × (lent ≡ answer_lent w.session line w.lent)
 
 module _ (chunk : List ℕ) (w : Desk) (u : Took) (held : List ℕ)
     (took-as : u ≡ took_of chunk w.session.at (length w.held) w.session.have) (held-as : held ≡ held_after chunk w.session.at w.held w.session.have) where
   -- a line lay whole in the chunk
-  pub took_here : (r : Session) (line request outcome buffer out : List ℕ) (len next : ℕ) → u ≡ took.Here len next → line ≡ take len (drop w.session.at chunk)
-      → Answered w line next r request outcome buffer out → desk r held request outcome buffer out ≡ turn_of chunk w
-  unfolding turn_of turn_by
-  took_here r line request outcome buffer out len next e l a = rw (← took-as, e, ← held-as, ← l) (line_answered w line next r held request outcome buffer out a)
+  pub took_here : (r : Session) (lent : Lent) (line : List ℕ) (len next : ℕ) → u ≡ took.Here len next → line ≡ take len (drop w.session.at chunk)
+      → Answered w line next r lent → record { session = r; held = held; lent = lent } ≡ turn_of chunk w
+  unfolding turn_of turn_by line_of
+  took_here r lent line len next e l a = rw (← took-as, e, ← held-as, ← l, a.0, a.1)
 
   -- a line was whole with what was held
-  pub took_held : (r : Session) (line request outcome buffer out : List ℕ) (len next : ℕ) → u ≡ took.Held len next → line ≡ take len held
-      → Answered w line next r request outcome buffer out → desk r held request outcome buffer out ≡ turn_of chunk w
-  unfolding turn_of turn_by
-  took_held r line request outcome buffer out len next e l a = rw (← took-as, e, ← held-as, ← l) (line_answered w line next r held request outcome buffer out a)
+  pub took_held : (r : Session) (lent : Lent) (line : List ℕ) (len next : ℕ) → u ≡ took.Held len next → line ≡ take len held
+      → Answered w line next r lent → record { session = r; held = held; lent = lent } ≡ turn_of chunk w
+  unfolding turn_of turn_by line_of
+  took_held r lent line len next e l a = rw (← took-as, e, ← held-as, ← l, a.0, a.1)
 
   -- the chunk was used up
   pub took_more : (r : Session) (have : ℕ) → u ≡ took.More have → r ≡ used_up w.session.run have (length chunk) w.session.laid
@@ -106,10 +96,9 @@ module _ (chunk : List ℕ) (w : Desk) (u : Took) (held : List ℕ)
 
   -- a line had no room
   pub took_long : (r : Session) (lent : Lent) → u ≡ took.Long
-      → (r ≡ spoken_session (closing w.session.run held w.lent.buffer) (length chunk) w.session.laid (length w.lent.out))
-      × (lent ≡ record w.lent { out = laid_out (closing w.session.run held w.lent.buffer) w.session.laid w.lent.out })
+      → (r ≡ close_session w.session held (length chunk) w.lent) × (lent ≡ close_lent w.session held w.lent)
       → record { session = r; held = held; lent = lent } ≡ turn_of chunk w
-  unfolding turn_of turn_by laid_desk
+  unfolding turn_of turn_by close_desk
   took_long r lent e p = rw (← took-as, e, ← held-as, p.0, p.1)
 
 at_said : (s : Saying) (room : ℕ) (r : Run) (at laid : ℕ) → (said_session (said_of s room) r at laid).at ≡ at
@@ -119,7 +108,7 @@ at_said (last s) room r at laid = refl
 
 -- a turn goes past a line feed, or to the end of the chunk
 pub turn_uses : (chunk : List ℕ) (w : Desk) → w.session.at < length chunk → w.session.at < (turn_of chunk w).session.at
-unfolding turn_of turn_by line_of laid_desk spoken_session used_up took_of took_by when◌then◌else◌
+unfolding turn_of turn_by line_of answer_session close_desk close_session spoken_session used_up took_of took_by when◌then◌else◌
 turn_uses chunk w h =
     by (ltb (length w.held) (w.session.have + length (before_feed (drop w.session.at chunk))))
     (leb (length chunk - w.session.at) (length (before_feed (drop w.session.at chunk)))) (eqb w.session.have 0)

@@ -5,7 +5,7 @@ use mathlib.Core.Path.{◌≡◌, refl, sym, ap, subst, ◌∙◌}
 use mathlib.Core.Bool.{Bool, true, false, false≢true}
 use mathlib.Core.List.{List, [], ◌∷◌, ◌++◌, append-nil, append_assoc}
 use native.Mathlib.Omega.{arith}
-use lib.ListN.{length, take, replicate, length-append, length-replicate}
+use lib.ListN.{length, take, length-append, length-replicate}
 use lib.Dec.{ltb}
 use borrow.Author.Tests.{lt-ltb, le-ltb}
 use Rattle.protocol.specs.Pick.{when◌then◌else◌}
@@ -18,8 +18,8 @@ use Rattle.dialogue.specs.Dialogue.{last, bytes_said, said_of, close_of}
 use Rattle.dialogue.proofs.Room.{short_close}
 use Rattle.session.specs.declared.Session.{Session}
 use Rattle.session.specs.declared.Desk.{Desk}
-use Rattle.session.specs.Desk.{desk, held_bytes, longest_line, out_bytes, Sized}
-use Rattle.session.specs.Session.{start_of, at_byte, said_session, spoken_session, laid_out, closing, laid_desk, line_of, turn_by, turn_of, goes_on, turns_of, take_of, end_session, end_out, end_of}
+use Rattle.session.specs.Desk.{held_bytes, longest_line, out_bytes}
+use Rattle.session.specs.Session.{start_of, at_byte, said_session, spoken_session, laid_out, closing, answer_lent, line_of, close_lent, close_desk, turn_by, turn_of, goes_on, turns_of, take_of, end_session, end_out, end_of}
 use Rattle.session.specs.Output.{printed, printed_so_far}
 use Rattle.session.specs.Loop.{laid_bytes, Fresh, blank, desk_at, Ready, Round, answers, refills, ends, Reached, begun, round, put, OneRound, Standing}
 use Rattle.session.specs.Laws.{Begins, Writes}
@@ -34,7 +34,7 @@ abbrev Keeps : Desk → Desk → Type 0
 Keeps w v = (length v.lent.out ≡ length w.lent.out) × (length v.lent.buffer ≡ length w.lent.buffer)
 
 keeps_turn : (u : Took) (chunk held : List ℕ) (w : Desk) → w.session.laid ≤ length w.lent.out → Keeps w (turn_by u chunk held w)
-unfolding turn_by line_of laid_desk laid_out
+unfolding turn_by line_of answer_lent close_desk close_lent laid_out
 keeps_turn (took.Here len next) chunk held w h = (length_laid w.session.laid _ w.lent.out h, length_buffer w.session.run _ w.lent.request w.lent.outcome w.lent.buffer)
 keeps_turn (took.Held len next) chunk held w h = (length_laid w.session.laid _ w.lent.out h, length_buffer w.session.run _ w.lent.request w.lent.outcome w.lent.buffer)
 keeps_turn (took.More have) chunk held w h = (refl, refl)

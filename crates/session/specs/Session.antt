@@ -12,8 +12,9 @@ use Rattle.dialogue.specs.declared.Run.TheVariants as run
 use Rattle.dialogue.specs.declared.Said.{Said}
 use Rattle.dialogue.specs.declared.Said.TheVariants as said
 use Rattle.session.specs.declared.Session.{Session}
+use Rattle.session.specs.declared.Lent.{Lent}
 use Rattle.session.specs.declared.Desk.{Desk}
-use Rattle.session.specs.Desk.{desk, longest_line}
+use Rattle.session.specs.Desk.{longest_line}
 
 -- nothing read yet
 unfoldable pub start_of : Session
@@ -43,18 +44,30 @@ laid_out s laid out = take laid out ++ out_printed (bytes_said s.saying) (drop l
 unfoldable pub closing : Run → List ℕ → List ℕ → Spoken
 closing r line buffer = record { run = r; saying = last (close_of r line buffer) }
 
--- the line that is spoken is laid
-unfoldable pub laid_desk : Spoken → ℕ → ℕ → List ℕ → List ℕ → List ℕ → List ℕ → List ℕ → Desk
-laid_desk s at laid held request outcome buffer out = desk (spoken_session s at laid (length out)) held request outcome buffer (laid_out s laid out)
+-- a whole line is answered after what is laid, and the chunk goes on at `at`: the session, and what is lent
+unfoldable pub answer_session : Session → List ℕ → ℕ → Lent → Session
+answer_session s line at l = spoken_session (answer_of s.run line l.request l.outcome l.buffer) at s.laid (length l.out)
 
--- a whole line is answered
+unfoldable pub answer_lent : Session → List ℕ → Lent → Lent
+answer_lent s line l = record {
+  request = request_after s.run line l.request;
+  outcome = outcome_after s.run line l.outcome;
+  buffer = buffer_after s.run line l.request l.outcome l.buffer;
+  out = laid_out (answer_of s.run line l.request l.outcome l.buffer) s.laid l.out;
+}
+
 unfoldable pub line_of : List ℕ → ℕ → List ℕ → Desk → Desk
-line_of line at held d =
-    laid_desk (answer_of d.session.run line d.lent.request d.lent.outcome d.lent.buffer) at d.session.laid held
-    (request_after d.session.run line d.lent.request)
-    (outcome_after d.session.run line d.lent.outcome)
-    (buffer_after d.session.run line d.lent.request d.lent.outcome d.lent.buffer)
-    d.lent.out
+line_of line at held d = record { session = answer_session d.session line at d.lent; held = held; lent = answer_lent d.session line d.lent }
+
+-- the last line is laid after what is laid: the session, and what is lent
+unfoldable pub close_session : Session → List ℕ → ℕ → Lent → Session
+close_session s line at l = spoken_session (closing s.run line l.buffer) at s.laid (length l.out)
+
+unfoldable pub close_lent : Session → List ℕ → Lent → Lent
+close_lent s line l = record l { out = laid_out (closing s.run line l.buffer) s.laid l.out }
+
+unfoldable pub close_desk : List ℕ → ℕ → List ℕ → Desk → Desk
+close_desk line at held d = record { session = close_session d.session line at d.lent; held = held; lent = close_lent d.session line d.lent }
 
 -- what a turn comes to, by what the chunk brought
 unfoldable pub turn_by : Took → List ℕ → List ℕ → Desk → Desk
@@ -62,8 +75,7 @@ turn_by (took.Here len next) chunk held d = line_of (take len (drop d.session.at
 turn_by (took.Held len next) chunk held d = line_of (take len held) next held d
 turn_by (took.More have) chunk held d =
     record d { session = used_up d.session.run have (length chunk) d.session.laid; held = held }
-turn_by took.Long chunk held d =
-    laid_desk (closing d.session.run held d.lent.buffer) (length chunk) d.session.laid held d.lent.request d.lent.outcome d.lent.buffer d.lent.out
+turn_by took.Long chunk held d = close_desk held (length chunk) held d
 
 -- one turn of a chunk
 unfoldable pub turn_of : List ℕ → Desk → Desk

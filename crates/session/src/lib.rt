@@ -3,9 +3,8 @@
 #![tactic(auto)]
 
 ghost use Rattle.std.specs.Prelude.{◌≡◌, ◌≤◌, length};
-ghost use Rattle.dialogue.specs.Dialogue.{answer_of, request_after, outcome_after, buffer_after};
 ghost use Rattle.session.specs.Desk.{Sized};
-ghost use Rattle.session.specs.Session.{start_of, at_byte, goes_on, spoken_session, laid_out, closing, turn_of, turns_of, take_of, end_of};
+ghost use Rattle.session.specs.Session.{start_of, at_byte, goes_on, answer_session, answer_lent, close_session, close_lent, turn_of, turns_of, take_of, end_of};
 ghost use Rattle.session.specs.Loop.{laid_bytes, Fresh, blank, desk_at};
 
 use dialogue::{Run, Said};
@@ -31,6 +30,7 @@ pub const LINE_BYTES: usize = LONGEST_LINE;
 pub const OUT_BYTES: usize = 65536;
 
 // Where the program stands.
+// Stays: no heap: `have` and `laid` say how far the arrays `held` and `out` of a desk are filled.
 #[derive(Clone, Copy)]
 pub struct Session {
     pub run: Run,
@@ -83,7 +83,7 @@ impl Lent {
     // A line is answered after what is laid, and the chunk goes on at `at`.
     fn answer(&mut self, session: Session, line: &[u8], at: usize) -> Session
         requires { session.laid ≤ length self.old.out }
-        ensures { (result ≡ spoken_session (answer_of session.run line.now self.old.request self.old.outcome self.old.buffer) at session.laid (length self.old.out)) × (self.new.request ≡ request_after session.run line.now self.old.request) × (self.new.outcome ≡ outcome_after session.run line.now self.old.outcome) × (self.new.buffer ≡ buffer_after session.run line.now self.old.request self.old.outcome self.old.buffer) × (self.new.out ≡ laid_out (answer_of session.run line.now self.old.request self.old.outcome self.old.buffer) session.laid self.old.out) }
+        ensures { (result ≡ answer_session session line.now at self.old) × (self.new ≡ answer_lent session line.now self.old) }
     {
         let laid = session.laid;
         let turned = dialogue::answer(
@@ -116,7 +116,7 @@ impl Lent {
     // The last line of a run, after what is laid: the input has ended with these bytes of a line, or they are the first of one that is too long.
     fn close(&mut self, session: Session, line: &[u8], at: usize) -> Session
         requires { session.laid ≤ length self.old.out }
-        ensures { (result ≡ spoken_session (closing session.run line.now self.old.buffer) at session.laid (length self.old.out)) × (self.new ≡ record self.old { out = laid_out (closing session.run line.now self.old.buffer) session.laid self.old.out }) }
+        ensures { (result ≡ close_session session line.now at self.old) × (self.new ≡ close_lent session line.now self.old) }
     {
         let n = dialogue::close(
             session.run,

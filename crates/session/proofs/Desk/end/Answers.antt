@@ -5,7 +5,7 @@ use mathlib.Core.Bool.{true, false}
 use native.Mathlib.Omega.{arith}
 use Rattle.protocol.specs.Pick.{when◌then◌else◌}
 use Rattle.session.specs.declared.Desk.{Desk}
-use Rattle.session.specs.Session.{at_byte, end_of, end_session, end_out}
+use Rattle.session.specs.Session.{at_byte, close_session, close_lent, end_of, end_session, end_out}
 use Rattle.session.specs.Loop.{desk_at}
 use Rattle.session.proofs.Desk.end.Goals as goal
 
@@ -16,7 +16,7 @@ close-self-requires c =
     omega arith
 
 pub returns-then-self : goal.returns-then-self
-unfolding at_byte end_of end_session end_out desk_at when◌then◌else◌
+unfolding at_byte close_session close_lent end_of end_session end_out desk_at when◌then◌else◌
 returns-then-self c =
     let d = c.args.self.now in
     let e = c.written.ensures.0 in
@@ -25,7 +25,7 @@ returns-then-self c =
     rw (on, s.0, s.1, c.front-line.ensures, e)
 
 pub returns-else-self : goal.returns-else-self
-unfolding at_byte end_of end_session end_out desk_at when◌then◌else◌
+unfolding at_byte close_session close_lent end_of end_session end_out desk_at when◌then◌else◌
 returns-else-self c =
     let d = c.args.self.now in
     let e = c.written.ensures.0 in

@@ -8,7 +8,7 @@ use Rattle.printing.specs.Printing.{out_printed}
 use Rattle.dialogue.specs.Dialogue.{bytes_said, answer_of}
 use Rattle.dialogue.specs.declared.Turned.{Turned}
 use Rattle.session.specs.Desk.{out_bytes}
-use Rattle.session.specs.Session.{said_session, spoken_session, laid_out}
+use Rattle.session.specs.Session.{said_session, spoken_session, laid_out, answer_session, answer_lent}
 use Rattle.session.proofs.Laws.{part_turned, part_back, asked_room, last_room}
 use Rattle.session.proofs.Lent.answer.Goals as goal
 
@@ -33,7 +33,7 @@ overflow_add-result-in-Last c =
     omega (arith, c.requires)
 
 pub returns-in-Asked : goal.returns-in-Asked
-unfolding spoken_session said_session laid_out
+unfolding answer_session answer_lent spoken_session said_session laid_out
 returns-in-Asked c =
     let a = c.args in
     let d = a.self.now in
@@ -43,10 +43,10 @@ returns-in-Asked c =
     let t = part_turned d.out a.session.laid out_bytes fits s c.answer-turned.result e.0 in
     let u = ap (λ (x : Turned). x.said) t in
     let v = ap (λ (x : Turned). x.run) t in
-    (rw (← u, c.in-Asked.is, ← v), e.1, e.2, e.3, part_back d.out a.session.laid out_bytes fits (out_printed (bytes_said s.saying)) _ e.4)
+    (rw (← u, c.in-Asked.is, ← v), rw (e.1, e.2, e.3, part_back d.out a.session.laid out_bytes fits (out_printed (bytes_said s.saying)) _ e.4))
 
 pub returns-in-Last : goal.returns-in-Last
-unfolding spoken_session said_session laid_out
+unfolding answer_session answer_lent spoken_session said_session laid_out
 returns-in-Last c =
     let a = c.args in
     let d = a.self.now in
@@ -56,4 +56,4 @@ returns-in-Last c =
     let t = part_turned d.out a.session.laid out_bytes fits s c.answer-turned.result e.0 in
     let u = ap (λ (x : Turned). x.said) t in
     let v = ap (λ (x : Turned). x.run) t in
-    (rw (← u, c.in-Last.is, ← v), e.1, e.2, e.3, part_back d.out a.session.laid out_bytes fits (out_printed (bytes_said s.saying)) _ e.4)
+    (rw (← u, c.in-Last.is, ← v), rw (e.1, e.2, e.3, part_back d.out a.session.laid out_bytes fits (out_printed (bytes_said s.saying)) _ e.4))

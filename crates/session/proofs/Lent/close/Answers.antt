@@ -7,7 +7,7 @@ use lib.ListN.{length}
 use Rattle.printing.specs.Printing.{out_printed}
 use Rattle.dialogue.specs.Dialogue.{bytes_said, said_of, close_of}
 use Rattle.session.specs.Desk.{out_bytes}
-use Rattle.session.specs.Session.{said_session, spoken_session, laid_out, closing}
+use Rattle.session.specs.Session.{said_session, spoken_session, laid_out, closing, close_session, close_lent}
 use Rattle.session.proofs.Laws.{part_printed, part_back, printed_room}
 use Rattle.session.proofs.Lent.close.Goals as goal
 
@@ -21,7 +21,7 @@ overflow_add-result c =
     omega (arith, n, printed_room s (length d.out - a.session.laid), c.requires)
 
 pub returns : goal.returns
-unfolding spoken_session said_session laid_out closing said_of bytes_said
+unfolding close_session close_lent spoken_session said_session laid_out closing said_of bytes_said
 returns c =
     let a = c.args in
     let d = a.self.now in
