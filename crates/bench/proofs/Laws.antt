@@ -30,37 +30,30 @@ module _ (chunk : List ℕ) (n : ℕ) (d : Desk) where
   ends_round next v used e = rw e (record { more = []; end = true; round = ends (rw length-take (omega arith)) })
 
 -- the program at the head of its loop: the rounds that are made are rounds of `session`, and all that was laid is written
-pub record Going (first : Desk) (made n : ℕ) (chunk : List ℕ) (d : Desk) : Type 0 where
+pub record Going (first : Desk) (made : ℕ) (chunk : List ℕ) (d : Desk) : Type 0 where
   pub fresh : Fresh first
-  pub standing : Standing first made (take n chunk) d
+  pub standing : Standing first made chunk d
   pub clear : d.session.laid ≡ 0
-  pub fits : n ≤ length chunk
 
-pub going_first : (chunk : List ℕ) (first : Desk) → Fresh first → Going first 0 0 chunk first
+pub going_first : (chunk : List ℕ) (first : Desk) → Fresh first → Going first 0 (take 0 chunk) first
 unfolding start_of
-going_first chunk first fresh = record {
-  fresh = fresh;
-  standing = stands_first first;
-  clear = ap (λ (s : Session). s.laid) fresh.start;
-  fits = omega arith;
-}
+going_first chunk first fresh = record { fresh = fresh; standing = stands_first first; clear = ap (λ (s : Session). s.laid) fresh.start }
 
-module _ (first : Desk) (made n : ℕ) (chunk : List ℕ) (d : Desk) (g : Going first made n chunk d) (on : d.session.on ≡ true)
-    (k : ℕ) (next : List ℕ) (v : Desk) (m : OneRound (take n chunk) d (take k next) v × (k ≤ length next)) where
-  further : Standing first (suc made) (take k next) v
-  further = stands_on first made (take n chunk) (take k next) d v g.standing (record { on = on; clear = g.clear }) m.0
+module _ (first : Desk) (made : ℕ) (chunk : List ℕ) (d : Desk) (g : Going first made chunk d) (on : d.session.on ≡ true)
+    (next : List ℕ) (v : Desk) (m : OneRound chunk d next v) where
+  further : Standing first (suc made) next v
+  further = stands_on first made chunk next d v g.standing (record { on = on; clear = g.clear }) m
 
   -- a write fails after the round
   pub stopped_unwritten : (left : ℕ) (x : Desk) → made + 1 + left ≡ 18446744073709551615 → x ≡ v → Stopped record { ending = ending.Unwritten; left = left } first x
   stopped_unwritten left x all e =
-      rw e (record { fresh = g.fresh; rounds = suc made; chunk = take k next; counted = omega arith; standing = further; how = tt })
+      rw e (record { fresh = g.fresh; rounds = suc made; chunk = next; counted = omega arith; standing = further; how = tt })
 
   -- all is written after it
-  pub goes_on : (x : Desk) → x ≡ desk_at v.session.at v → Going first (made + 1) k next x
+  pub goes_on : (x : Desk) → x ≡ desk_at v.session.at v → Going first (made + 1) next x
   unfolding desk_at at_byte
   goes_on x e = rw e (record {
     fresh = g.fresh;
-    standing = subst (λ (rounds : ℕ). Standing first rounds (take k next) (desk_at v.session.at v)) (omega arith) (stands_put first (suc made) (take k next) v further);
+    standing = subst (λ (rounds : ℕ). Standing first rounds next (desk_at v.session.at v)) (omega arith) (stands_put first (suc made) next v further);
     clear = refl;
-    fits = m.1;
   })

@@ -1,18 +1,23 @@
 -- How the program comes to its end: by the rounds that `session` speaks of, one after the other.
 -- Assumes nothing.
-use Rattle.std.specs.Prelude.{ℕ, ◌+◌, ◌≤◌, ◌≡◌, true, false, List, [], ◌++◌, length, take, Option, Some, None}
+use Rattle.std.specs.Prelude.{ℕ, ◌+◌, ◌≤◌, ◌≡◌, Bool, true, false, List, [], ◌++◌, length, take}
 use Rattle.session.specs.declared.Desk.{Desk}
 use Rattle.session.specs.Loop.{Fresh, Ready, OneRound, Standing}
 use Rattle.session.specs.Laws.{Begins}
 use Rattle.bench_promises.specs.RustBench.{rust_printed, rust_so_far}
+use Rattle.bench.specs.declared.Bench.{Bench}
 use Rattle.bench.specs.declared.Stop.{Stop}
 use Rattle.bench.specs.declared.Ending.{Ending}
 use Rattle.bench.specs.declared.Ending.TheVariants as ending
 
--- a round, from the first bytes of an array and a desk to others; none is made where a read was due and failed
-abbrev pub Makes : Option ℕ → ℕ → List ℕ → Desk → List ℕ → Desk → Type 0
-Makes (Some k) n chunk d next v = OneRound (take n chunk) d (take k next) v × (k ≤ length next)
-Makes None n chunk d next v = (v ≡ d) × (length (take n chunk) ≤ d.session.at)
+-- the chunk at hand
+abbrev pub at_hand : Bench → List ℕ
+at_hand b = take b.n b.chunk
+
+-- a round, from a chunk and a desk to others; none is made where a read was due and failed
+abbrev pub Makes : Bool → Bench → Bench → Type 0
+Makes true b c = OneRound (at_hand b) b.desk (at_hand c) c.desk × (c.n ≤ length c.chunk)
+Makes false b c = (c.desk ≡ b.desk) × (length (at_hand b) ≤ b.desk.session.at)
 
 -- how the program stands at each of its ends
 abbrev pub How : Ending → ℕ → List ℕ → Desk → Type 0

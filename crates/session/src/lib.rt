@@ -30,7 +30,7 @@ pub const LINE_BYTES: usize = LONGEST_LINE;
 pub const OUT_BYTES: usize = 65536;
 
 // Where the program stands.
-// Stays: no heap: `have` and `laid` say how far the arrays `held` and `out` of a desk are filled.
+// Stays: no heap, so `have` and `laid` say how far a desk's `held` and `out` are filled; and `Writes` speaks of `on`.
 #[derive(Clone, Copy)]
 pub struct Session {
     pub run: Run,
