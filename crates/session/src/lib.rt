@@ -81,42 +81,37 @@ pub struct Lent {
 
 impl Lent {
     // A line is answered after what is laid, and the chunk goes on at `at`.
-    fn answer(&mut self, session: Session, line: &[u8], at: usize) -> Session
-        requires { session.laid ≤ length self.old.out }
-        ensures { (result ≡ answer_session session line.now at self.old) × (self.new ≡ answer_lent session line.now self.old) }
+    fn answer(&mut self, session: &mut Session, line: &[u8], at: usize)
+        requires { session.old.laid ≤ length self.old.out }
+        ensures { (session.new ≡ answer_session session.old line.now at self.old) × (self.new ≡ answer_lent session.old line.now self.old) }
     {
-        let laid = session.laid;
         let turned = dialogue::answer(
             session.run,
             line,
             &mut self.request,
             &mut self.outcome,
             &mut self.buffer,
-            &mut self.out[laid..],
+            &mut self.out[session.laid..],
         );
-        let run = turned.run;
+        session.run = turned.run;
+        session.have = 0;
+        session.at = at;
         match turned.said {
-            Said::Asked(n) => Session {
-                run,
-                have: 0,
-                at,
-                laid: laid + n,
-                on: true,
-            },
-            Said::Last(n) => Session {
-                run,
-                have: 0,
-                at,
-                laid: laid + n,
-                on: false,
-            },
+            Said::Asked(n) => {
+                session.laid += n;
+                session.on = true;
+            }
+            Said::Last(n) => {
+                session.laid += n;
+                session.on = false;
+            }
         }
     }
 
     // The last line of a run, after what is laid: the input has ended with these bytes of a line, or they are the first of one that is too long.
-    fn close(&mut self, session: Session, line: &[u8], at: usize) -> Session
-        requires { session.laid ≤ length self.old.out }
-        ensures { (result ≡ close_session session line.now at self.old) × (self.new ≡ close_lent session line.now self.old) }
+    fn close(&mut self, session: &mut Session, line: &[u8], at: usize)
+        requires { session.old.laid ≤ length self.old.out }
+        ensures { (session.new ≡ close_session session.old line.now at self.old) × (self.new ≡ close_lent session.old line.now self.old) }
     {
         let n = dialogue::close(
             session.run,
@@ -124,13 +119,10 @@ impl Lent {
             &self.buffer,
             &mut self.out[session.laid..],
         );
-        Session {
-            have: 0,
-            at,
-            laid: session.laid + n,
-            on: false,
-            ..session
-        }
+        session.have = 0;
+        session.at = at;
+        session.laid += n;
+        session.on = false;
     }
 }
 
@@ -196,11 +188,11 @@ impl Desk {
         match lines::take(chunk, at, &mut self.held, self.session.have) {
             Took::Here { len, next } => {
                 let line = bytes::block(chunk, at, len);
-                self.session = self.lent.answer(self.session, line, next);
+                self.lent.answer(&mut self.session, line, next);
             }
             Took::Held { len, next } => {
                 let line = bytes::front(&self.held, len);
-                self.session = self.lent.answer(self.session, line, next);
+                self.lent.answer(&mut self.session, line, next);
             }
             Took::More(have) => {
                 self.session = Session {
@@ -211,7 +203,7 @@ impl Desk {
                 };
             }
             Took::Long => {
-                self.session = self.lent.close(self.session, &self.held, chunk.len());
+                self.lent.close(&mut self.session, &self.held, chunk.len());
             }
         }
     }
@@ -241,7 +233,8 @@ impl Desk {
         self.written();
         if self.session.on {
             let line = bytes::front(&self.held, self.session.have);
-            self.session = self.lent.close(self.session, line, self.session.at);
+            let at = self.session.at;
+            self.lent.close(&mut self.session, line, at);
         }
     }
 }

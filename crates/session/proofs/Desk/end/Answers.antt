@@ -9,9 +9,9 @@ use Rattle.session.specs.Session.{at_byte, close_session, close_lent, end_of, en
 use Rattle.session.specs.Loop.{desk_at}
 use Rattle.session.proofs.Desk.end.Goals as goal
 
-pub close-self-requires : goal.close-self-requires
+pub close-requires : goal.close-requires
 unfolding at_byte desk_at
-close-self-requires c =
+close-requires c =
     let none : c.written.new.self.session.laid ≡ 0 = ap (λ (v : Desk). v.session.laid) c.written.ensures.0 in
     omega arith
 
@@ -21,7 +21,7 @@ returns-then-self c =
     let d = c.args.self.now in
     let e = c.written.ensures.0 in
     let on : d.session.on ≡ true = sym (ap (λ (v : Desk). v.session.on) e) ∙ c.if-self.true in
-    let s = c.close-self.ensures in
+    let s = c.close.ensures in
     rw (on, s.0, s.1, c.front-line.ensures, e)
 
 pub returns-else-self : goal.returns-else-self

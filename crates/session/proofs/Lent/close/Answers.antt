@@ -11,14 +11,14 @@ use Rattle.session.specs.Session.{said_session, spoken_session, laid_out, closin
 use Rattle.session.proofs.Laws.{part_printed, part_back, printed_room}
 use Rattle.session.proofs.Lent.close.Goals as goal
 
-pub overflow_add-result : goal.overflow_add-result
-overflow_add-result c =
+pub overflow_add-session : goal.overflow_add-session
+overflow_add-session c =
     let a = c.args in
     let d = a.self.now in
     let fits : length d.out ≡ out_bytes = omega arith in
-    let s = close_of a.session.run a.line.now d.buffer in
-    let n = part_printed d.out a.session.laid out_bytes fits s c.close-n.result c.close-n.ensures.0 in
-    omega (arith, n, printed_room s (length d.out - a.session.laid), c.requires)
+    let s = close_of a.session.now.run a.line.now d.buffer in
+    let n = part_printed d.out a.session.now.laid out_bytes fits s c.close-n.result c.close-n.ensures.0 in
+    omega (arith, n, printed_room s (length d.out - a.session.now.laid), c.requires)
 
 pub returns : goal.returns
 unfolding close_session close_lent spoken_session said_session laid_out closing said_of bytes_said
@@ -27,5 +27,5 @@ returns c =
     let d = a.self.now in
     let fits : length d.out ≡ out_bytes = omega arith in
     let e = c.close-n.ensures in
-    let s = close_of a.session.run a.line.now d.buffer in
-    (rw (part_printed d.out a.session.laid out_bytes fits s _ e.0), rw (part_back d.out a.session.laid out_bytes fits (out_printed s) _ e.1))
+    let s = close_of a.session.now.run a.line.now d.buffer in
+    (rw (part_printed d.out a.session.now.laid out_bytes fits s _ e.0), rw (part_back d.out a.session.now.laid out_bytes fits (out_printed s) _ e.1))
