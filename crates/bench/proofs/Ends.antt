@@ -2,7 +2,7 @@
 -- Assumes nothing.
 use mathlib.Core.Path.{◌≡◌, subst}
 use mathlib.Core.Bool.{Bool, false}
-use Rattle.session.specs.Desk.{Desk}
+use Rattle.session.specs.declared.Desk.{Desk}
 use Rattle.session.specs.Loop.{Reached}
 use Rattle.session.proofs.Loop.{unended}
 use Rattle.bench_promises.specs.RustBench.{rust_so_far}

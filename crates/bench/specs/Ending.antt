@@ -1,20 +1,23 @@
 -- How the program comes to its end: by the rounds that `session` speaks of, one after the other.
 -- Assumes nothing.
-use Rattle.std.specs.Prelude.{ℕ, ◌+◌, ◌≤◌, ◌≡◌, true, false, List, [], ◌++◌, length, take}
-use Rattle.session.specs.Desk.{Desk}
+use Rattle.std.specs.Prelude.{ℕ, ◌+◌, ◌≤◌, ◌≡◌, Bool, true, false, List, [], ◌++◌, length, take}
+use Rattle.session.specs.declared.Desk.{Desk}
 use Rattle.session.specs.Loop.{Fresh, Ready, OneRound, Standing}
 use Rattle.session.specs.Laws.{Begins}
 use Rattle.bench_promises.specs.RustBench.{rust_printed, rust_so_far}
-use Rattle.bench.specs.declared.After.{After}
+use Rattle.bench.specs.declared.Bench.{Bench}
 use Rattle.bench.specs.declared.Stop.{Stop}
 use Rattle.bench.specs.declared.Ending.{Ending}
 use Rattle.bench.specs.declared.Ending.TheVariants as ending
 
--- a round, from the first bytes of an array and a desk to others; none is made where a read was due and failed
-pub record Makes (r : After) (n : ℕ) (chunk : List ℕ) (d : Desk) (next : List ℕ) (v : Desk) : Type 0 where
-  pub made : r.made ≡ true → OneRound (take n chunk) d (take r.n next) v
-  pub unread : r.made ≡ false → (v ≡ d) × (length (take n chunk) ≤ d.session.at)
-  pub fits : r.n ≤ length next
+-- the chunk at hand
+abbrev pub at_hand : Bench → List ℕ
+at_hand b = take b.n b.chunk
+
+-- a round, from a chunk and a desk to others; none is made where a read was due and failed
+abbrev pub Makes : Bool → Bench → Bench → Type 0
+Makes true b c = OneRound (at_hand b) b.desk (at_hand c) c.desk × (c.n ≤ length c.chunk)
+Makes false b c = (c.desk ≡ b.desk) × (length (at_hand b) ≤ b.desk.session.at)
 
 -- how the program stands at each of its ends
 abbrev pub How : Ending → ℕ → List ℕ → Desk → Type 0

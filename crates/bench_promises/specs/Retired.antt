@@ -14,7 +14,7 @@ use Rattle.calls.specs.Call.{start_of, next_of, report_of, phase_of}
 use Rattle.calls.specs.declared.kind.Kind.{Kind}
 use Rattle.calls.specs.declared.call.Call.{Call}
 use Rattle.lines.specs.Input.{lines_from}
-use Rattle.session.specs.Desk.{Desk}
+use Rattle.session.specs.declared.Desk.{Desk}
 use Rattle.session.specs.Loop.{Fresh, Ready, Reached}
 use Rattle.session.specs.Laws.{Begins}
 use Rattle.bench_promises.specs.RustBench.{rust_printed, longest_digits}

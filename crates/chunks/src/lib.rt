@@ -7,7 +7,8 @@ use std::io::Read;
 use std::{io, str};
 
 // What a read brought.
-#[derive(Clone, Copy)]
+// Stays: a Result round an Option would be no plainer: its callers tell these three apart in one match.
+#[derive(Clone, Copy, Debug, PartialEq, Eq)]
 pub enum Brought {
     // So many bytes of the next chunk.
     Bytes(usize),
@@ -18,6 +19,7 @@ pub enum Brought {
 }
 
 // Reads the next chunk. An error is told after the name that the caller has for its input, where that is text.
+// Stays: `read` takes any bytes as a name; a `&str` would ask more of its callers.
 pub fn read<R: Input + Eprint + Alloc>(rt: &R, chunk: &mut [u8], name: &[u8]) -> Brought
     ensures { Brings result chunk.new }
 {
@@ -41,8 +43,6 @@ pub fn tell<R: Eprint + Alloc>(rt: &R, name: &str, error: io::Error) {
 
 // An error's text without the number that the system has for it.
 fn reason(text: &str) -> &str {
-    match text.split_once(" (os error ") {
-        Some((front, _)) => front,
-        None => text,
-    }
+    text.split_once(" (os error ")
+        .map_or(text, |(front, _)| front)
 }

@@ -6,7 +6,8 @@ use mathlib.Core.List.{List, [], ◌∷◌, ◌++◌}
 use lib.ListN.{length}
 use lib.Dec.{ltb}
 use Rattle.protocol.specs.Pick.{when◌then◌else◌}
-use Rattle.session.specs.Desk.{Desk, desk, Sized}
+use Rattle.session.specs.declared.Desk.{Desk}
+use Rattle.session.specs.Desk.{Sized}
 use Rattle.session.specs.Session.{start_of, at_byte, take_of, end_of}
 use Rattle.session.specs.Output.{printed, printed_so_far}
 use Rattle.session.specs.Loop.{laid_bytes}
@@ -23,7 +24,7 @@ chunk_out (suc takes) chunk d more =
 unfoldable pub chunks_out : (Desk → List ℕ) → List (List ℕ) → Desk → List ℕ
 chunks_out final [] d = when d.session.on then final d else []
 chunks_out final (chunk ∷ chunks) d =
-    chunk_out (length chunk) chunk (desk (at_byte d.session 0) d.held d.request d.outcome d.buffer d.out) (chunks_out final chunks)
+    chunk_out (length chunk) chunk (record d { session = at_byte d.session 0 }) (chunks_out final chunks)
 
 -- what the program writes for an input that comes in these chunks, each a read of its own. A read that brings nothing is the end; an empty chunk changes
 -- nothing

@@ -27,8 +27,9 @@ use Rattle.dialogue.specs.declared.Run.{Run}
 use Rattle.dialogue.proofs.Kept.{length_stored}
 use Rattle.dialogue.proofs.Machine.{machine_of}
 use Rattle.dialogue.proofs.Room.{Short, AllShort, printed_whole}
-use Rattle.session.specs.Desk.{Desk, desk, held_bytes, longest_line, Sized}
-use Rattle.session.specs.Session.{used_up, said_session, spoken_session, laid_out, closing, laid_desk, line_of, turn_by, turn_of, goes_on, turns_of, at_byte, take_of}
+use Rattle.session.specs.declared.Desk.{Desk}
+use Rattle.session.specs.Desk.{desk, held_bytes, longest_line, Sized}
+use Rattle.session.specs.Session.{used_up, said_session, spoken_session, laid_out, closing, answer_session, answer_lent, line_of, close_session, close_lent, close_desk, turn_by, turn_of, goes_on, turns_of, at_byte, take_of}
 use Rattle.session.specs.Loop.{laid_bytes}
 use Rattle.session.proofs.Laws.{goes_on_inside}
 use Rattle.session.proofs.Kept.{length_request, length_outcome, length_buffer, length_laid}
@@ -42,7 +43,7 @@ pub record Good (w : Desk) : Type 0 where
 
 -- what the machine gives from a desk on, for the lines that are left
 abbrev pub shown : Desk → List (List ℕ) → List ℕ → List (List ℕ)
-shown w lines rest = machine_of w.session.run w.request w.outcome w.buffer lines rest
+shown w lines rest = machine_of w.session.run w.lent.request w.lent.outcome w.lent.buffer lines rest
 
 -- what came of a line before
 abbrev pub before : Desk → List ℕ
@@ -50,7 +51,7 @@ before w = take w.session.have w.held
 
 -- a line that has no room is answered
 abbrev too_long : ℕ → List ℕ → Desk → Desk
-too_long n H w = laid_desk (closing w.session.run H w.buffer) n w.session.laid H w.request w.outcome w.buffer w.out
+too_long n H w = close_desk H n H w
 
 said_size : (say : Saying) (room : ℕ) (r : Run) (at laid : ℕ) → (said_session (said_of say room) r at laid).laid ≡ laid + printed_of (bytes_said say) room
 unfolding said_session said_of bytes_said
@@ -103,28 +104,28 @@ module _ (view : List (List ℕ) → List (List ℕ) → List ℕ) (Ends : List 
         off _ refl ∙ written_said (last s) r at laid H R Y B O a.0 e
         ∙ ap (λ (l : List ℕ). take laid O ++ l) (sym (step line s lines [] ∙ rw (none lines) (append-nil (feed_bytes s))))
 
-    module _ (chunk t : List ℕ) (w : Desk) (good : Good w) (inside : w.session.at < length chunk) (fits : w.session.laid + longest_line ≤ length w.out)
+    module _ (chunk t : List ℕ) (w : Desk) (good : Good w) (inside : w.session.at < length chunk) (fits : w.session.laid + longest_line ≤ length w.lent.out)
         (go : (v : Desk) → Good v → w.session.at < v.session.at → v.session.at ≤ length chunk → Lays G v (drop v.session.at chunk ++ t)) where
       -- a line is whole
       turn_line : (line H : List ℕ) (next : ℕ) (lines : List (List ℕ)) (rest : List ℕ) → length H ≡ held_bytes → w.session.at < next → next ≤ length chunk
           → lines ≡ lines_from [] (drop next chunk ++ t) → rest ≡ rest_from [] (drop next chunk ++ t) → AllShort (shown w (line ∷ lines) rest) → Ends rest
           → G (line_of line next H w) ≡ laid_bytes w ++ view (line ∷ lines) (shown w (line ∷ lines) rest)
-      unfolding line_of laid_desk spoken_session laid_out machine_of laid_bytes
+      unfolding line_of answer_session answer_lent spoken_session laid_out machine_of laid_bytes
       turn_line line H next lines rest h lt le p q a z =
-          let s = dialogue.answer_of w.session.run line w.request w.outcome w.buffer in
-          let R = dialogue.request_after w.session.run line w.request in
-          let Y = dialogue.outcome_after w.session.run line w.outcome in
-          let B = dialogue.buffer_after w.session.run line w.request w.outcome w.buffer in
-          said_lays s.saying s.run next w.session.laid H R Y B w.out line lines _ fits a
+          let s = dialogue.answer_of w.session.run line w.lent.request w.lent.outcome w.lent.buffer in
+          let R = dialogue.request_after w.session.run line w.lent.request in
+          let Y = dialogue.outcome_after w.session.run line w.lent.outcome in
+          let B = dialogue.buffer_after w.session.run line w.lent.request w.lent.outcome w.lent.buffer in
+          said_lays s.saying s.run next w.session.laid H R Y B w.lent.out line lines _ fits a
           (λ k m.
           go _
           (record {
             sized = record {
               held = h;
-              request = length_request w.session.run line w.request ∙ good.sized.request;
-              outcome = length_outcome w.session.run line w.outcome ∙ good.sized.outcome;
-              buffer = length_buffer w.session.run line w.request w.outcome w.buffer ∙ good.sized.buffer;
-              out = length_laid w.session.laid (bytes_said s.saying) w.out (omega arith) ∙ good.sized.out;
+              request = length_request w.session.run line w.lent.request ∙ good.sized.request;
+              outcome = length_outcome w.session.run line w.lent.outcome ∙ good.sized.outcome;
+              buffer = length_buffer w.session.run line w.lent.request w.lent.outcome w.lent.buffer ∙ good.sized.buffer;
+              out = length_laid w.session.laid (bytes_said s.saying) w.lent.out (omega arith) ∙ good.sized.out;
             };
             room = omega arith;
             on = refl;
@@ -134,7 +135,7 @@ module _ (view : List (List ℕ) → List (List ℕ) → List ℕ) (Ends : List 
       -- the chunk is used up
       turn_more : (H : List ℕ) (k : ℕ) → length H ≡ held_bytes → k ≤ held_bytes → take k H ≡ before w ++ drop w.session.at chunk
           → length (drop w.session.at chunk) ≤ length (before_feed (drop w.session.at chunk))
-          → Lays (λ v. G (desk (used_up v.session.run k (length chunk) v.session.laid) H v.request v.outcome v.buffer v.out)) w (drop w.session.at chunk ++ t)
+          → Lays (λ v. G (record v { session = used_up v.session.run k (length chunk) v.session.laid; held = H })) w (drop w.session.at chunk ++ t)
       unfolding used_up laid_bytes
       turn_more H k h le e none_left lines rest p q a z =
           let s = drop w.session.at chunk in
@@ -142,7 +143,7 @@ module _ (view : List (List ℕ) → List (List ℕ) → List ℕ) (Ends : List 
           let d : drop (length chunk) chunk ++ t ≡ t = rw drop-length in
           let x : lines_from (before w) (s ++ t) ≡ lines_from (take k H) (drop (length chunk) chunk ++ t) = rw (lines_append s t (before w), m.0, m.1, e, d) in
           let y : rest_from (before w) (s ++ t) ≡ rest_from (take k H) (drop (length chunk) chunk ++ t) = rw (rest_append s t (before w), m.1, e, d) in
-          go (desk (record { run = w.session.run; have = k; at = length chunk; laid = w.session.laid; on = true }) H w.request w.outcome w.buffer w.out)
+          go (record w { session = record { run = w.session.run; have = k; at = length chunk; laid = w.session.laid; on = true }; held = H })
           (record {
             sized = record { held = h; request = good.sized.request; outcome = good.sized.outcome; buffer = good.sized.buffer; out = good.sized.out };
             room = le;
@@ -151,17 +152,17 @@ module _ (view : List (List ℕ) → List (List ℕ) → List ℕ) (Ends : List 
           inside (omega arith) lines rest (p ∙ x) (q ∙ y) a z
 
       -- a line has no room: H is as much of it as has
-      closed : (H : List ℕ) (n : ℕ) → Short (dialogue.close_of w.session.run H w.buffer)
-          → G (too_long n H w) ≡ laid_bytes w ++ feed_bytes (dialogue.close_of w.session.run H w.buffer)
-      unfolding laid_desk spoken_session laid_out closing laid_bytes said_session said_of bytes_said
+      closed : (H : List ℕ) (n : ℕ) → Short (dialogue.close_of w.session.run H w.lent.buffer)
+          → G (too_long n H w) ≡ laid_bytes w ++ feed_bytes (dialogue.close_of w.session.run H w.lent.buffer)
+      unfolding close_desk close_session close_lent spoken_session laid_out closing laid_bytes said_session said_of bytes_said
       closed H n short =
-          off _ refl ∙ written_said (last (dialogue.close_of w.session.run H w.buffer)) w.session.run n w.session.laid H w.request w.outcome w.buffer w.out short fits
+          off _ refl ∙ written_said (last (dialogue.close_of w.session.run H w.lent.buffer)) w.session.run n w.session.laid H w.lent.request w.lent.outcome w.lent.buffer w.lent.out short fits
 
       -- it is answered as the whole line would be
       same_close : (H line : List ℕ) → held_bytes < length line → H ≡ take held_bytes line
-          → dialogue.close_of w.session.run line w.buffer ≡ dialogue.close_of w.session.run H w.buffer
+          → dialogue.close_of w.session.run line w.lent.buffer ≡ dialogue.close_of w.session.run H w.lent.buffer
       same_close H line m h =
-          sym (ap (λ (l : List ℕ). dialogue.close_of w.session.run l w.buffer) h ∙ close_front w.session.run line w.buffer held_bytes (omega arith) (omega arith))
+          sym (ap (λ (l : List ℕ). dialogue.close_of w.session.run l w.lent.buffer) h ∙ close_front w.session.run line w.lent.buffer held_bytes (omega arith) (omega arith))
 
       -- its line feed never comes
       long_rest : (H : List ℕ) (n : ℕ) (rest : List ℕ) → held_bytes < length rest → H ≡ take held_bytes rest → AllShort (shown w [] rest) → Ends rest
@@ -169,7 +170,7 @@ module _ (view : List (List ℕ) → List (List ℕ) → List ℕ) (Ends : List 
       unfolding machine_of
       long_rest H n rest m h a z =
           let c = same_close H rest m h in
-          let short : Short (dialogue.close_of w.session.run H w.buffer) = rw c at a.0 in
+          let short : Short (dialogue.close_of w.session.run H w.lent.buffer) = rw c at a.0 in
           rw c (closed H n short ∙ ap (λ (l : List ℕ). laid_bytes w ++ l) (sym (early rest _ z m)))
 
       -- its line feed comes later
@@ -177,10 +178,10 @@ module _ (view : List (List ℕ) → List (List ℕ) → List ℕ) (Ends : List 
           → AllShort (shown w (line ∷ lines) rest) → G (too_long n H w) ≡ laid_bytes w ++ view (line ∷ lines) (shown w (line ∷ lines) rest)
       unfolding machine_of then_say
       long_line H n line lines rest m h a =
-          let x : List ℕ = dialogue.close_of w.session.run H w.buffer in
-          let r : length w.request * 2 < length line = omega (arith, good.sized.request) in
-          let y : length w.outcome * 2 < length line = omega (arith, good.sized.outcome) in
-          let k : shown w (line ∷ lines) rest ≡ x ∷ [] = rw (long_says w.session.run line w.request w.outcome w.buffer r y) (ap (λ (l : List ℕ). l ∷ []) (same_close H line m h)) in
+          let x : List ℕ = dialogue.close_of w.session.run H w.lent.buffer in
+          let r : length w.lent.request * 2 < length line = omega (arith, good.sized.request) in
+          let y : length w.lent.outcome * 2 < length line = omega (arith, good.sized.outcome) in
+          let k : shown w (line ∷ lines) rest ≡ x ∷ [] = rw (long_says w.session.run line w.lent.request w.lent.outcome w.lent.buffer r y) (ap (λ (l : List ℕ). l ∷ []) (same_close H line m h)) in
           let short : AllShort (x ∷ []) = subst AllShort k a in
           closed H n short.0 ∙ ap (λ (l : List ℕ). laid_bytes w ++ l) (sym (ap (view (line ∷ lines)) k ∙ step line x lines [] ∙ rw (none lines) (append-nil (feed_bytes x))))
 
@@ -276,8 +277,8 @@ module _ (view : List (List ℕ) → List (List ℕ) → List ℕ) (Ends : List 
     unfolding turns_of goes_on when◌then◌else◌
     off_turns zero v o = rw (off v o) (append-nil (laid_bytes v))
     off_turns (suc turns) v o =
-        let e : goes_on v.session.on v.session.at (length chunk) v.session.laid (length v.out) ≡ false =
-        ap (λ (b : Bool). goes_on b v.session.at (length chunk) v.session.laid (length v.out)) o in
+        let e : goes_on v.session.on v.session.at (length chunk) v.session.laid (length v.lent.out) ≡ false =
+        ap (λ (b : Bool). goes_on b v.session.at (length chunk) v.session.laid (length v.lent.out)) o in
         rw (e, off v o) (append-nil (laid_bytes v))
 
     -- turn after turn
@@ -286,13 +287,13 @@ module _ (view : List (List ℕ) → List (List ℕ) → List ℕ) (Ends : List 
     unfolding turns_of when◌then◌else◌
     turns_lay zero w good lt le lines rest p q a z = ap (λ (l : List ℕ). laid_bytes w ++ l) (go w good lt le lines rest p q a z)
     turns_lay (suc turns) w good lt le lines rest p q a z =
-        by (λ v g l k. turns_lay turns v g l k) (goes_on w.session.on w.session.at (length chunk) w.session.laid (length w.out)) refl
+        by (λ v g l k. turns_lay turns v g l k) (goes_on w.session.on w.session.at (length chunk) w.session.laid (length w.lent.out)) refl
       where
         by : ((v : Desk) → Good v → m < v.session.at → v.session.at ≤ length chunk → Lays (λ u. both (turns_of turns chunk u)) v (drop v.session.at chunk ++ t))
-            → (f : Bool) → goes_on w.session.on w.session.at (length chunk) w.session.laid (length w.out) ≡ f
+            → (f : Bool) → goes_on w.session.on w.session.at (length chunk) w.session.laid (length w.lent.out) ≡ f
             → both (when f then turns_of turns chunk (turn_of chunk w) else w) ≡ laid_bytes w ++ view lines (shown w lines rest)
         by next true e =
-            let g = goes_on_inside w.session.on w.session.at (length chunk) w.session.laid (length w.out) e in
+            let g = goes_on_inside w.session.on w.session.at (length chunk) w.session.laid (length w.lent.out) e in
             turn (λ v. both (turns_of turns chunk v)) (off_turns turns) chunk t w good g.1 g.2 (λ v k l n. next v k (omega arith) n) lines rest p q a z
         by next false e = ap (λ (l : List ℕ). laid_bytes w ++ l) (go w good lt le lines rest p q a z)
 
@@ -302,7 +303,7 @@ module _ (view : List (List ℕ) → List (List ℕ) → List ℕ) (Ends : List 
     take_gives w good start inside lines rest p q a z = by (length chunk) refl
       where
         fresh : Desk
-        fresh = desk (at_byte w.session w.session.at) w.held w.request w.outcome w.buffer w.out
+        fresh = record w { session = at_byte w.session w.session.at }
 
         ready : Good fresh
         ready = record {
@@ -311,11 +312,11 @@ module _ (view : List (List ℕ) → List (List ℕ) → List ℕ) (Ends : List 
           on = good.on;
         }
 
-        room : 0 + longest_line ≤ length w.out
+        room : 0 + longest_line ≤ length w.lent.out
         room = omega (arith, good.sized.out)
 
-        goes : goes_on w.session.on w.session.at (length chunk) 0 (length w.out) ≡ true
-        goes = rw (good.on, lt-ltb w.session.at (length chunk) inside) (le-leb (0 + longest_line) (length w.out) room)
+        goes : goes_on w.session.on w.session.at (length chunk) 0 (length w.lent.out) ≡ true
+        goes = rw (good.on, lt-ltb w.session.at (length chunk) inside) (le-leb (0 + longest_line) (length w.lent.out) room)
 
         by : (n : ℕ) → length chunk ≡ n → both (turns_of n chunk fresh) ≡ view lines (shown w lines rest)
         by zero e = absurd (omega arith)

@@ -3,7 +3,7 @@
 use Prim.Native.Nat.{ℕ, zero, suc, ◌+◌, ◌-◌, ◌*◌, ◌≤◌, ◌<◌}
 use mathlib.Core.Path.{◌≡◌, refl, sym, ap, subst, ◌∙◌}
 use mathlib.Core.Bool.{Bool, true, false}
-use mathlib.Core.List.{List}
+use mathlib.Core.List.{List, ◌++◌}
 use native.Mathlib.Omega.{arith}
 use lib.ListN.{length, take, drop, length-drop}
 use lib.Seq.{take_all}
@@ -11,34 +11,45 @@ use lib.Dec.{ltb, leb, eqb}
 use borrow.Author.Tests.{ltb-true, leb-true, leb-false, le-leb, lt-leb}
 use Rattle.hexadecimal.specs.Line.{feed_bytes}
 use Rattle.protocol.specs.Pick.{when◌then◌else◌}
+use Rattle.protocol.proofs.Laws.{lent_back}
 use Rattle.printing.specs.Printing.{printed_of}
 use Rattle.printing.proofs.Laws.{length_feed}
 use Rattle.lines.specs.Lines.{before_feed, took_by, took_of, held_after}
 use Rattle.lines.specs.declared.Took.{Took}
 use Rattle.lines.specs.declared.Took.TheVariants as took
-use Rattle.dialogue.specs.Dialogue.{Saying, asked, last, Spoken, said_of, turned_of, answer_of, request_after, outcome_after, buffer_after}
+use Rattle.dialogue.specs.Dialogue.{Saying, asked, last, Spoken, said_of, turned_of}
 use Rattle.dialogue.specs.declared.Run.{Run}
 use Rattle.dialogue.specs.declared.Said.TheVariants as said
 use Rattle.dialogue.specs.declared.Turned.{Turned}
 use Rattle.session.specs.declared.Session.{Session}
-use Rattle.session.specs.Desk.{Desk, desk, longest_line}
-use Rattle.session.specs.Session.{used_up, said_session, spoken_session, laid_out, closing, laid_desk, line_of, turn_by, turn_of, goes_on, turns_of}
+use Rattle.session.specs.declared.Lent.{Lent}
+use Rattle.session.specs.declared.Desk.{Desk}
+use Rattle.session.specs.Desk.{longest_line}
+use Rattle.session.specs.Session.{used_up, said_session, spoken_session, answer_session, answer_lent, line_of, close_session, close_lent, close_desk, turn_by, turn_of, goes_on, turns_of}
 
--- what is after the laid bytes is all that is lent
-all_after : (out : List ℕ) (laid : ℕ) → take (length out - laid) (drop laid out) ≡ drop laid out
-all_after out laid = take_all (length out - laid) (drop laid out) (omega (arith, length-drop laid out))
+-- the part of an array of `size` bytes that comes after the laid bytes is lent, and comes back
+module _ (out : List ℕ) (laid size : ℕ) (fits : length out ≡ size) where
+  -- it is all that is left
+  all_after : take (size - laid) (drop laid out) ≡ drop laid out
+  all_after = take_all (size - laid) (drop laid out) (omega (arith, length-drop laid out))
 
--- a line in the part after the laid bytes
-part_room : (out : List ℕ) (laid : ℕ) → length (take (length out - laid) (drop laid out)) ≡ length out - laid
-part_room out laid = ap length (all_after out laid) ∙ length-drop laid out
+  part_room : length (take (size - laid) (drop laid out)) ≡ length out - laid
+  part_room = ap length all_after ∙ length-drop laid out
 
-pub part_turned : (s : Spoken) (t : Turned) (out : List ℕ) (laid : ℕ) → t ≡ turned_of s (length (take (length out - laid) (drop laid out)))
-    → t ≡ record { run = s.run; said = said_of s.saying (length out - laid) }
-unfolding turned_of
-part_turned s t out laid e = e ∙ rw (part_room out laid)
+  pub part_turned : (s : Spoken) (t : Turned) → t ≡ turned_of s (length (take (size - laid) (drop laid out)))
+      → t ≡ record { run = s.run; said = said_of s.saying (length out - laid) }
+  unfolding turned_of
+  part_turned s t e = e ∙ rw part_room
 
-pub part_printed : (s : List ℕ) (n : ℕ) (out : List ℕ) (laid : ℕ) → n ≡ printed_of s (length (take (length out - laid) (drop laid out))) → n ≡ printed_of s (length out - laid)
-part_printed s n out laid e = e ∙ rw (part_room out laid)
+  pub part_printed : (s : List ℕ) (n : ℕ) → n ≡ printed_of s (length (take (size - laid) (drop laid out))) → n ≡ printed_of s (length out - laid)
+  part_printed s n e = e ∙ rw part_room
+
+  pub part_back : (g : List ℕ → List ℕ) (ys : List ℕ) → ys ≡ g (take (size - laid) (drop laid out))
+      → take laid out ++ (ys ++ drop (size - laid) (drop laid out)) ≡ take laid out ++ g (drop laid out)
+  part_back g ys e =
+      subst
+      (λ (n : ℕ). ys ≡ g (take (n - laid) (drop laid out)) → take laid out ++ (ys ++ drop (n - laid) (drop laid out)) ≡ take laid out ++ g (drop laid out))
+      fits (lent_back g laid out ys) e
 
 -- no more is printed than there is room for
 pub printed_room : (s : List ℕ) (room : ℕ) → printed_of s room ≤ room
@@ -60,46 +71,35 @@ last_room (asked s) room n e = absurd (let z : ◌≡◌ {A = ℕ} 0 1 = cc in o
 last_room (last s) room n e = let q : n ≡ printed_of s room = cc in omega (arith, printed_room s room)
 
 -- what a line that is answered gives
-abbrev Answered : Desk → List ℕ → ℕ → Session → List ℕ → List ℕ → List ℕ → List ℕ → Type 0
-Answered w line next r request outcome buffer out =
-    (r ≡ spoken_session (answer_of w.session.run line w.request w.outcome w.buffer) next w.session.laid (length w.out))
-    × (request ≡ request_after w.session.run line w.request)
-    × (outcome ≡ outcome_after w.session.run line w.outcome)
-    × (buffer ≡ buffer_after w.session.run line w.request w.outcome w.buffer)
-    × (out ≡ laid_out (answer_of w.session.run line w.request w.outcome w.buffer) w.session.laid w.out)
-
-line_answered : (w : Desk) (line : List ℕ) (next : ℕ) (r : Session) (held request outcome buffer out : List ℕ) → Answered w line next r request outcome buffer out
-    → desk r held request outcome buffer out ≡ line_of line next held w
-unfolding line_of laid_desk
-line_answered w line next r held request outcome buffer out a = rw (a.0, a.1, a.2, a.3, a.4)
+abbrev Answered : Desk → List ℕ → ℕ → Session → Lent → Type 0
+Answered w line next r lent = (r ≡ answer_session w.session line next w.lent) × (lent ≡ answer_lent w.session line w.lent)
 
 module _ (chunk : List ℕ) (w : Desk) (u : Took) (held : List ℕ)
     (took-as : u ≡ took_of chunk w.session.at (length w.held) w.session.have) (held-as : held ≡ held_after chunk w.session.at w.held w.session.have) where
   -- a line lay whole in the chunk
-  pub took_here : (r : Session) (line request outcome buffer out : List ℕ) (len next : ℕ) → u ≡ took.Here len next → line ≡ take len (drop w.session.at chunk)
-      → Answered w line next r request outcome buffer out → desk r held request outcome buffer out ≡ turn_of chunk w
-  unfolding turn_of turn_by
-  took_here r line request outcome buffer out len next e l a = rw (← took-as, e, ← held-as, ← l) (line_answered w line next r held request outcome buffer out a)
+  pub took_here : (r : Session) (lent : Lent) (line : List ℕ) (len next : ℕ) → u ≡ took.Here len next → line ≡ take len (drop w.session.at chunk)
+      → Answered w line next r lent → record { session = r; held = held; lent = lent } ≡ turn_of chunk w
+  unfolding turn_of turn_by line_of
+  took_here r lent line len next e l a = rw (← took-as, e, ← held-as, ← l, a.0, a.1)
 
   -- a line was whole with what was held
-  pub took_held : (r : Session) (line request outcome buffer out : List ℕ) (len next : ℕ) → u ≡ took.Held len next → line ≡ take len held
-      → Answered w line next r request outcome buffer out → desk r held request outcome buffer out ≡ turn_of chunk w
-  unfolding turn_of turn_by
-  took_held r line request outcome buffer out len next e l a = rw (← took-as, e, ← held-as, ← l) (line_answered w line next r held request outcome buffer out a)
+  pub took_held : (r : Session) (lent : Lent) (line : List ℕ) (len next : ℕ) → u ≡ took.Held len next → line ≡ take len held
+      → Answered w line next r lent → record { session = r; held = held; lent = lent } ≡ turn_of chunk w
+  unfolding turn_of turn_by line_of
+  took_held r lent line len next e l a = rw (← took-as, e, ← held-as, ← l, a.0, a.1)
 
   -- the chunk was used up
   pub took_more : (r : Session) (have : ℕ) → u ≡ took.More have → r ≡ used_up w.session.run have (length chunk) w.session.laid
-      → desk r held w.request w.outcome w.buffer w.out ≡ turn_of chunk w
+      → record w { session = r; held = held } ≡ turn_of chunk w
   unfolding turn_of turn_by
   took_more r have e p = rw (← took-as, e, ← held-as, p)
 
   -- a line had no room
-  pub took_long : (r : Session) (out : List ℕ) → u ≡ took.Long
-      → (r ≡ spoken_session (closing w.session.run held w.buffer) (length chunk) w.session.laid (length w.out))
-      × (out ≡ laid_out (closing w.session.run held w.buffer) w.session.laid w.out)
-      → desk r held w.request w.outcome w.buffer out ≡ turn_of chunk w
-  unfolding turn_of turn_by laid_desk
-  took_long r out e p = rw (← took-as, e, ← held-as, p.0, p.1)
+  pub took_long : (r : Session) (lent : Lent) → u ≡ took.Long
+      → (r ≡ close_session w.session held (length chunk) w.lent) × (lent ≡ close_lent w.session held w.lent)
+      → record { session = r; held = held; lent = lent } ≡ turn_of chunk w
+  unfolding turn_of turn_by close_desk
+  took_long r lent e p = rw (← took-as, e, ← held-as, p.0, p.1)
 
 at_said : (s : Saying) (room : ℕ) (r : Run) (at laid : ℕ) → (said_session (said_of s room) r at laid).at ≡ at
 unfolding said_session said_of
@@ -108,7 +108,7 @@ at_said (last s) room r at laid = refl
 
 -- a turn goes past a line feed, or to the end of the chunk
 pub turn_uses : (chunk : List ℕ) (w : Desk) → w.session.at < length chunk → w.session.at < (turn_of chunk w).session.at
-unfolding turn_of turn_by line_of laid_desk spoken_session used_up took_of took_by when◌then◌else◌
+unfolding turn_of turn_by line_of answer_session close_desk close_session spoken_session used_up took_of took_by when◌then◌else◌
 turn_uses chunk w h =
     by (ltb (length w.held) (w.session.have + length (before_feed (drop w.session.at chunk))))
     (leb (length chunk - w.session.at) (length (before_feed (drop w.session.at chunk)))) (eqb w.session.have 0)
@@ -147,7 +147,7 @@ pub record Leads (chunk : List ℕ) (w v : Desk) : Type 0 where
   pub same : turns_of turns chunk w ≡ v
 
 abbrev on_in : List ℕ → Desk → Bool
-on_in chunk w = goes_on w.session.on w.session.at (length chunk) w.session.laid (length w.out)
+on_in chunk w = goes_on w.session.on w.session.at (length chunk) w.session.laid (length w.lent.out)
 
 -- one of them is made
 pub leads_on : (chunk : List ℕ) (w u v : Desk) → on_in chunk w ≡ true → u ≡ turn_of chunk w → Leads chunk w v → Leads chunk u v
@@ -155,7 +155,7 @@ unfolding turns_of when◌then◌else◌
 leads_on chunk w u v e q l = subst (λ (x : Desk). Leads chunk x v) (sym q) (by l.turns l.enough l.same)
   where
     inside : w.session.at < length chunk
-    inside = (goes_on_inside w.session.on w.session.at (length chunk) w.session.laid (length w.out) e).1
+    inside = (goes_on_inside w.session.on w.session.at (length chunk) w.session.laid (length w.lent.out) e).1
 
     by : (turns : ℕ) → length chunk ≤ turns + w.session.at → turns_of turns chunk w ≡ v → Leads chunk (turn_of chunk w) v
     by zero n q = absurd (omega (arith, n, inside))

@@ -5,7 +5,7 @@ use mathlib.Core.Path.{◌≡◌, refl, sym, ap, subst, ◌∙◌}
 use mathlib.Core.Bool.{Bool, true, false, false≢true}
 use mathlib.Core.List.{List, [], ◌∷◌, ◌++◌, append-nil, append_assoc}
 use native.Mathlib.Omega.{arith}
-use lib.ListN.{length, take, replicate, length-append, length-replicate}
+use lib.ListN.{length, take, length-append, length-replicate}
 use lib.Dec.{ltb}
 use borrow.Author.Tests.{lt-ltb, le-ltb}
 use Rattle.protocol.specs.Pick.{when◌then◌else◌}
@@ -17,10 +17,11 @@ use Rattle.printing.proofs.Laws.{length_feed}
 use Rattle.dialogue.specs.Dialogue.{last, bytes_said, said_of, close_of}
 use Rattle.dialogue.proofs.Room.{short_close}
 use Rattle.session.specs.declared.Session.{Session}
-use Rattle.session.specs.Desk.{Desk, desk, held_bytes, longest_line, out_bytes, Sized}
-use Rattle.session.specs.Session.{start_of, at_byte, said_session, spoken_session, laid_out, closing, laid_desk, line_of, turn_by, turn_of, goes_on, turns_of, take_of, end_session, end_out, end_of}
+use Rattle.session.specs.declared.Desk.{Desk}
+use Rattle.session.specs.Desk.{held_bytes, longest_line, out_bytes}
+use Rattle.session.specs.Session.{start_of, at_byte, said_session, spoken_session, laid_out, closing, answer_lent, line_of, close_lent, close_desk, turn_by, turn_of, goes_on, turns_of, take_of, end_session, end_out, end_of}
 use Rattle.session.specs.Output.{printed, printed_so_far}
-use Rattle.session.specs.Loop.{laid_bytes, Fresh, desk_at, Ready, Round, answers, refills, ends, Reached, begun, round, put, OneRound, Standing}
+use Rattle.session.specs.Loop.{laid_bytes, Fresh, blank, desk_at, Ready, Round, answers, refills, ends, Reached, begun, round, put, OneRound, Standing}
 use Rattle.session.specs.Laws.{Begins, Writes}
 use Rattle.session.proofs.Laws.{goes_on_inside}
 use Rattle.session.proofs.Kept.{length_buffer, length_laid}
@@ -30,25 +31,25 @@ use Rattle.session.proofs.Whole.{off_chunk, off_chunks, take_uses, whole_bench}
 
 -- what is lent for the output and for a call's buffer keeps its length
 abbrev Keeps : Desk → Desk → Type 0
-Keeps w v = (length v.out ≡ length w.out) × (length v.buffer ≡ length w.buffer)
+Keeps w v = (length v.lent.out ≡ length w.lent.out) × (length v.lent.buffer ≡ length w.lent.buffer)
 
-keeps_turn : (u : Took) (chunk held : List ℕ) (w : Desk) → w.session.laid ≤ length w.out → Keeps w (turn_by u chunk held w)
-unfolding turn_by line_of laid_desk laid_out
-keeps_turn (took.Here len next) chunk held w h = (length_laid w.session.laid _ w.out h, length_buffer w.session.run _ w.request w.outcome w.buffer)
-keeps_turn (took.Held len next) chunk held w h = (length_laid w.session.laid _ w.out h, length_buffer w.session.run _ w.request w.outcome w.buffer)
+keeps_turn : (u : Took) (chunk held : List ℕ) (w : Desk) → w.session.laid ≤ length w.lent.out → Keeps w (turn_by u chunk held w)
+unfolding turn_by line_of answer_lent close_desk close_lent laid_out
+keeps_turn (took.Here len next) chunk held w h = (length_laid w.session.laid _ w.lent.out h, length_buffer w.session.run _ w.lent.request w.lent.outcome w.lent.buffer)
+keeps_turn (took.Held len next) chunk held w h = (length_laid w.session.laid _ w.lent.out h, length_buffer w.session.run _ w.lent.request w.lent.outcome w.lent.buffer)
 keeps_turn (took.More have) chunk held w h = (refl, refl)
-keeps_turn took.Long chunk held w h = (length_laid w.session.laid _ w.out h, refl)
+keeps_turn took.Long chunk held w h = (length_laid w.session.laid _ w.lent.out h, refl)
 
 keeps_turns : (turns : ℕ) (chunk : List ℕ) (w : Desk) → Keeps w (turns_of turns chunk w)
 unfolding turns_of turn_of when◌then◌else◌
 keeps_turns zero chunk w = (refl, refl)
-keeps_turns (suc turns) chunk w = by (keeps_turns turns chunk (turn_of chunk w)) (goes_on w.session.on w.session.at (length chunk) w.session.laid (length w.out)) refl
+keeps_turns (suc turns) chunk w = by (keeps_turns turns chunk (turn_of chunk w)) (goes_on w.session.on w.session.at (length chunk) w.session.laid (length w.lent.out)) refl
   where
     by : Keeps (turn_of chunk w) (turns_of turns chunk (turn_of chunk w))
-        → (f : Bool) → goes_on w.session.on w.session.at (length chunk) w.session.laid (length w.out) ≡ f
+        → (f : Bool) → goes_on w.session.on w.session.at (length chunk) w.session.laid (length w.lent.out) ≡ f
         → Keeps w (when f then turns_of turns chunk (turn_of chunk w) else w)
     by next true e =
-        let g = goes_on_inside w.session.on w.session.at (length chunk) w.session.laid (length w.out) e in
+        let g = goes_on_inside w.session.on w.session.at (length chunk) w.session.laid (length w.lent.out) e in
         let k = keeps_turn _ chunk _ w (omega arith) in
         (next.0 ∙ k.0, next.1 ∙ k.1)
     by next false e = (refl, refl)
@@ -97,13 +98,13 @@ unfolding laid_bytes
 none_laid d e = rw e
 
 -- the end of the input gives a line
-end_some : (d : Desk) → d.session.on ≡ true → longest_line ≤ length d.out → length d.buffer ≤ 8192 → 0 < length (laid_bytes (end_of d))
+end_some : (d : Desk) → d.session.on ≡ true → longest_line ≤ length d.lent.out → length d.lent.buffer ≤ 8192 → 0 < length (laid_bytes (end_of d))
 unfolding end_of end_session end_out spoken_session laid_out closing bytes_said when◌then◌else◌
 end_some d o room small =
-    let x : List ℕ = close_of d.session.run (take d.session.have d.held) d.buffer in
-    let short = short_close d.session.run (take d.session.have d.held) d.buffer small in
+    let x : List ℕ = close_of d.session.run (take d.session.have d.held) d.lent.buffer in
+    let short = short_close d.session.run (take d.session.have d.held) d.lent.buffer small in
     let e : laid_bytes (end_of d) ≡ feed_bytes x =
-    rw o (written_said (last x) d.session.run d.session.at 0 d.held d.request d.outcome d.buffer d.out short (omega arith)) in
+    rw o (written_said (last x) d.session.run d.session.at 0 d.held d.lent.request d.lent.outcome d.lent.buffer d.lent.out short (omega arith)) in
     rw (e, length_feed) (omega arith)
 
 -- what is read came in chunks. What they and any further ones give is what is laid_bytes and laid, and what the chunk at hand and those give
@@ -112,8 +113,8 @@ record Before (first : Desk) (read wrote chunk : List ℕ) (d : Desk) : Type 0 w
   all : concat chunks ≡ read
   takes : ℕ
   enough : length chunk ≤ takes + d.session.at
-  room : longest_line ≤ length d.out
-  buffer : length d.buffer ≤ 8192
+  room : longest_line ≤ length d.lent.out
+  buffer : length d.lent.buffer ≤ 8192
   same : (final : Desk → List ℕ) (more : List (List ℕ)) → Blind final
       → chunks_out final (chunks ++ more) first ≡ wrote ++ (laid_bytes d ++ chunk_out takes chunk d (chunks_out final more))
 
@@ -273,25 +274,21 @@ chunk_begins (suc takes) chunk d none more n = by d.session.on (ltb d.session.at
     by true false b = record { rest = more d; same = rw (n d) }
     by false g b = record { rest = []; same = refl }
 
--- arrays of zeros
-zeros : Desk
-zeros = desk start_of (replicate held_bytes 0) (replicate longest_request 0) (replicate 8193 0) (replicate 8192 0) (replicate out_bytes 0)
-
-zeros_sized : Sized zeros
-unfolding zeros
-zeros_sized = record {
-  held = length-replicate {A = ℕ} held_bytes 0;
-  request = length-replicate {A = ℕ} longest_request 0;
-  outcome = length-replicate {A = ℕ} 8193 0;
-  buffer = length-replicate {A = ℕ} 8192 0;
-  out = length-replicate {A = ℕ} out_bytes 0;
+-- a blank desk is fresh
+pub blank_fresh : Fresh blank
+unfolding blank
+blank_fresh = record {
+  sized = record {
+    held = length-replicate {A = ℕ} held_bytes 0;
+    request = length-replicate {A = ℕ} longest_request 0;
+    outcome = length-replicate {A = ℕ} 8193 0;
+    buffer = length-replicate {A = ℕ} 8192 0;
+    out = length-replicate {A = ℕ} out_bytes 0;
+  };
+  start = refl;
 }
 
-zeros_start : zeros.session ≡ start_of
-unfolding zeros
-zeros_start = refl
-
-one_begins : (final : Desk → List ℕ) (input : List ℕ) (chunks : List (List ℕ)) → Begins (bytes_so_far (input ∷ []) zeros) (chunks_out final (input ∷ chunks) zeros)
+one_begins : (final : Desk → List ℕ) (input : List ℕ) (chunks : List (List ℕ)) → Begins (bytes_so_far (input ∷ []) blank) (chunks_out final (input ∷ chunks) blank)
 unfolding bytes_so_far chunks_out when◌then◌else◌
 one_begins final input chunks = chunk_begins (length input) input _ (chunks_out (λ v. []) []) (chunks_out final chunks) (λ v. by v.session.on)
   where
@@ -299,9 +296,9 @@ one_begins final input chunks = chunk_begins (length input) input _ (chunks_out 
     by true = refl
     by false = refl
 
-one : (input : List ℕ) → bytes_so_far (input ∷ []) zeros ≡ printed_so_far input
+one : (input : List ℕ) → bytes_so_far (input ∷ []) blank ≡ printed_so_far input
 unfolding concat
-one input = whole_bench.at_once (input ∷ []) zeros zeros_sized zeros_start ∙ ap printed_so_far (append-nil input)
+one input = whole_bench.at_once (input ∷ []) blank blank_fresh.sized blank_fresh.start ∙ ap printed_so_far (append-nil input)
 
 two : (input more : List ℕ) → concat (input ∷ more ∷ []) ≡ input ++ more
 unfolding concat
@@ -312,11 +309,11 @@ unfolding bytes_out bytes_so_far
 so_far_begins input more =
     let a = one_begins (λ v. laid_bytes (end_of v)) input (more ∷ []) in
     let b = one_begins (λ v. []) input (more ∷ []) in
-    let start : chunks_out (λ v. []) (input ∷ []) zeros ≡ printed_so_far input = one input in
-    let all : chunks_out (λ v. laid_bytes (end_of v)) (input ∷ more ∷ []) zeros ≡ printed (input ++ more) =
-    whole_bench.whole (input ∷ more ∷ []) zeros zeros_sized zeros_start ∙ ap printed (two input more) in
-    let now : chunks_out (λ v. []) (input ∷ more ∷ []) zeros ≡ printed_so_far (input ++ more) =
-    whole_bench.at_once (input ∷ more ∷ []) zeros zeros_sized zeros_start ∙ ap printed_so_far (two input more) in (
+    let start : chunks_out (λ v. []) (input ∷ []) blank ≡ printed_so_far input = one input in
+    let all : chunks_out (λ v. laid_bytes (end_of v)) (input ∷ more ∷ []) blank ≡ printed (input ++ more) =
+    whole_bench.whole (input ∷ more ∷ []) blank blank_fresh.sized blank_fresh.start ∙ ap printed (two input more) in
+    let now : chunks_out (λ v. []) (input ∷ more ∷ []) blank ≡ printed_so_far (input ++ more) =
+    whole_bench.at_once (input ∷ more ∷ []) blank blank_fresh.sized blank_fresh.start ∙ ap printed_so_far (two input more) in (
       record { rest = a.rest; same = ap (λ (l : List ℕ). l ++ a.rest) (sym start) ∙ a.same ∙ all },
       record { rest = b.rest; same = ap (λ (l : List ℕ). l ++ b.rest) (sym start) ∙ b.same ∙ now },
     )

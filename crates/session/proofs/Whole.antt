@@ -21,7 +21,8 @@ use Rattle.dialogue.proofs.Machine.{machine_of}
 use Rattle.dialogue.proofs.Room.{Short, AllShort, all_short}
 use Rattle.dialogue.proofs.Whole.{whole}
 use Rattle.session.specs.declared.Session.{Session}
-use Rattle.session.specs.Desk.{Desk, desk, held_bytes, longest_line, Sized}
+use Rattle.session.specs.declared.Desk.{Desk}
+use Rattle.session.specs.Desk.{held_bytes, longest_line, Sized}
 use Rattle.session.specs.Session.{start_of, at_byte, spoken_session, laid_out, closing, turn_of, goes_on, turns_of, take_of, end_session, end_out, end_of}
 use Rattle.session.specs.Output.{printed, early, printed_so_far}
 use Rattle.session.specs.Loop.{laid_bytes}
@@ -78,7 +79,7 @@ module _ (view : List (List ℕ) → List (List ℕ) → List ℕ) (Ends : List 
       sym (is_true w.session.on _ _ _ good.on (sym e))
   chunks_give (chunk ∷ chunks) w good lines rest p q a z =
       takes_give (length chunk) chunk (concat chunks) (chunks_out final chunks) (off_chunks final chunks) (λ v g. chunks_give chunks v g)
-      (desk (at_byte w.session 0) w.held w.request w.outcome w.buffer w.out)
+      (record w { session = at_byte w.session 0 })
       (record {
         sized = record { held = good.sized.held; request = good.sized.request; outcome = good.sized.outcome; buffer = good.sized.buffer; out = good.sized.out };
         room = good.room;
@@ -97,17 +98,17 @@ module _ (view : List (List ℕ) → List (List ℕ) → List ℕ) (Ends : List 
       let n : w.session.have ≡ 0 = ap (λ (s : Session). s.have) e in
       let o : w.session.on ≡ true = ap (λ (s : Session). s.on) e in
       let m : shown w lines rest ≡ bench_of lines rest =
-      rw r (whole lines rest w.request w.outcome w.buffer (omega (arith, sized.request)) (omega (arith, sized.outcome)) (omega (arith, sized.buffer))) in
+      rw r (whole lines rest w.lent.request w.lent.outcome w.lent.buffer (omega (arith, sized.request)) (omega (arith, sized.outcome)) (omega (arith, sized.buffer))) in
       chunks_give chunks w (record { sized = sized; room = omega arith; on = o }) lines rest (rw h) (rw h) (subst AllShort (sym m) (all_short lines rest)) z ∙ ap (view lines) m
 
 -- the last line, where the input has ended
 close_end : (w : Desk) (rest : List ℕ) → Good w → Unit {0} → rest ≡ before w → AllShort (shown w [] rest) → laid_bytes (end_of w) ≡ feeds (shown w [] rest)
 unfolding end_of end_session end_out spoken_session laid_out closing machine_of feeds dialogue.bytes_said when◌then◌else◌
 close_end w rest good z e a =
-    let x = dialogue.close_of w.session.run (before w) w.buffer in
+    let x = dialogue.close_of w.session.run (before w) w.lent.buffer in
     let short : Short x = rw e at a.0 in
     rw (e, good.on)
-    (written_said (last x) w.session.run w.session.at 0 w.held w.request w.outcome w.buffer w.out short (omega (arith, good.sized.out)) ∙ sym (append-nil (feed_bytes x)))
+    (written_said (last x) w.session.run w.session.at 0 w.held w.lent.request w.lent.outcome w.lent.buffer w.lent.out short (omega (arith, good.sized.out)) ∙ sym (append-nil (feed_bytes x)))
 
 step_so_far : (n : ℕ) (line x : List ℕ) (lines more : List (List ℕ)) → feeds (take (length (line ∷ lines) + n) (x ∷ more)) ≡ feed_bytes x ++ feeds (take (length lines + n) more)
 unfolding feeds
@@ -145,26 +146,26 @@ close_so_far w whole rest good z e =
 turns_stay : (turns : ℕ) (chunk : List ℕ) (w : Desk) → w.session.at ≤ (turns_of turns chunk w).session.at
 unfolding turns_of when◌then◌else◌
 turns_stay zero chunk w = omega arith
-turns_stay (suc turns) chunk w = by (turns_stay turns chunk (turn_of chunk w)) (goes_on w.session.on w.session.at (length chunk) w.session.laid (length w.out)) refl
+turns_stay (suc turns) chunk w = by (turns_stay turns chunk (turn_of chunk w)) (goes_on w.session.on w.session.at (length chunk) w.session.laid (length w.lent.out)) refl
   where
     by : (turn_of chunk w).session.at ≤ (turns_of turns chunk (turn_of chunk w)).session.at
-        → (f : Bool) → goes_on w.session.on w.session.at (length chunk) w.session.laid (length w.out) ≡ f
+        → (f : Bool) → goes_on w.session.on w.session.at (length chunk) w.session.laid (length w.lent.out) ≡ f
         → w.session.at ≤ (when f then turns_of turns chunk (turn_of chunk w) else w).session.at
     by next true e =
-        let g = goes_on_inside w.session.on w.session.at (length chunk) w.session.laid (length w.out) e in
+        let g = goes_on_inside w.session.on w.session.at (length chunk) w.session.laid (length w.lent.out) e in
         omega (arith, turn_uses chunk w g.1, next)
     by next false e = omega arith
 
-pub take_uses : (chunk : List ℕ) (w : Desk) → longest_line ≤ length w.out → w.session.on ≡ true → w.session.at < length chunk
+pub take_uses : (chunk : List ℕ) (w : Desk) → longest_line ≤ length w.lent.out → w.session.on ≡ true → w.session.at < length chunk
     → w.session.at < (take_of chunk w).session.at
 unfolding take_of turns_of at_byte goes_on when◌then◌else◌
 take_uses chunk w room o inside = by (length chunk) refl
   where
     fresh : Desk
-    fresh = desk (at_byte w.session w.session.at) w.held w.request w.outcome w.buffer w.out
+    fresh = record w { session = at_byte w.session w.session.at }
 
-    goes : goes_on w.session.on w.session.at (length chunk) 0 (length w.out) ≡ true
-    goes = rw (o, lt-ltb w.session.at (length chunk) inside) (le-leb (0 + longest_line) (length w.out) (omega arith))
+    goes : goes_on w.session.on w.session.at (length chunk) 0 (length w.lent.out) ≡ true
+    goes = rw (o, lt-ltb w.session.at (length chunk) inside) (le-leb (0 + longest_line) (length w.lent.out) (omega arith))
 
     by : (n : ℕ) → length chunk ≡ n → w.session.at < (turns_of n chunk fresh).session.at
     by zero e = absurd (omega arith)

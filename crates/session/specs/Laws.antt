@@ -1,7 +1,7 @@
 -- What the program has written, wherever its loop may stand. (01, The bench program)
 -- Assumes nothing.
 use Rattle.std.specs.Prelude.{ℕ, ◌≤◌, ◌<◌, ◌≡◌, Bool, true, false, List, [], ◌++◌, length}
-use Rattle.session.specs.Desk.{Desk}
+use Rattle.session.specs.declared.Desk.{Desk}
 use Rattle.session.specs.Session.{take_of}
 use Rattle.session.specs.Loop.{Fresh, desk_at, Ready, Reached}
 

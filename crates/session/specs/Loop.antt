@@ -1,21 +1,27 @@
 -- The program's loop, round by round: where it may stand, and what it has read and written there. (01, The bench program)
 -- Assumes nothing.
-use Rattle.std.specs.Prelude.{ℕ, suc, ◌≤◌, ◌<◌, ◌≡◌, Bool, true, false, List, [], ◌++◌, length, take}
-use Rattle.session.specs.Desk.{Desk, desk, Sized}
+use Rattle.std.specs.Prelude.{ℕ, suc, ◌≤◌, ◌<◌, ◌≡◌, Bool, true, false, List, [], ◌++◌, length, take, replicate}
+use Rattle.session.specs.declared.Desk.{Desk}
+use Rattle.requests.specs.Request.{longest_request}
+use Rattle.session.specs.Desk.{desk, held_bytes, out_bytes, Sized}
 use Rattle.session.specs.Session.{start_of, at_byte, take_of, end_of}
 
 -- the bytes that are laid, to be written
 unfoldable pub laid_bytes : Desk → List ℕ
-laid_bytes d = take d.session.laid d.out
+laid_bytes d = take d.session.laid d.lent.out
 
 -- a session with nothing read yet, and arrays of the sizes that are lent
 pub record Fresh (d : Desk) : Type 0 where
   pub sized : Sized d
   pub start : d.session ≡ start_of
 
+-- the first desk of a run: every array holds zeros
+unfoldable pub blank : Desk
+blank = desk start_of (replicate held_bytes 0) (replicate longest_request 0) (replicate 8193 0) (replicate 8192 0) (replicate out_bytes 0)
+
 -- at a byte of its chunk, with nothing laid
 unfoldable pub desk_at : ℕ → Desk → Desk
-desk_at at d = desk (at_byte d.session at) d.held d.request d.outcome d.buffer d.out
+desk_at at d = record d { session = at_byte d.session at }
 
 -- ready for a round: the run goes on, and nothing is laid that is not written
 pub record Ready (d : Desk) : Type 0 where

@@ -12,7 +12,9 @@ use Rattle.dialogue.specs.declared.Run.TheVariants as run
 use Rattle.dialogue.specs.declared.Said.{Said}
 use Rattle.dialogue.specs.declared.Said.TheVariants as said
 use Rattle.session.specs.declared.Session.{Session}
-use Rattle.session.specs.Desk.{Desk, desk, longest_line}
+use Rattle.session.specs.declared.Lent.{Lent}
+use Rattle.session.specs.declared.Desk.{Desk}
+use Rattle.session.specs.Desk.{longest_line}
 
 -- nothing read yet
 unfoldable pub start_of : Session
@@ -20,7 +22,7 @@ start_of = record { run = run.Fresh; have = 0; at = 0; laid = 0; on = true }
 
 -- at a byte of its chunk, with nothing laid
 unfoldable pub at_byte : Session → ℕ → Session
-at_byte s at = record { run = s.run; have = s.have; at = at; laid = 0; on = s.on }
+at_byte s at = record s { at = at; laid = 0 }
 
 -- a chunk of n bytes that is used up, with so many bytes laid
 unfoldable pub used_up : Run → ℕ → ℕ → ℕ → Session
@@ -42,27 +44,38 @@ laid_out s laid out = take laid out ++ out_printed (bytes_said s.saying) (drop l
 unfoldable pub closing : Run → List ℕ → List ℕ → Spoken
 closing r line buffer = record { run = r; saying = last (close_of r line buffer) }
 
--- the line that is spoken is laid
-unfoldable pub laid_desk : Spoken → ℕ → ℕ → List ℕ → List ℕ → List ℕ → List ℕ → List ℕ → Desk
-laid_desk s at laid held request outcome buffer out = desk (spoken_session s at laid (length out)) held request outcome buffer (laid_out s laid out)
+-- a whole line is answered after what is laid, and the chunk goes on at `at`: the session, and what is lent
+unfoldable pub answer_session : Session → List ℕ → ℕ → Lent → Session
+answer_session s line at l = spoken_session (answer_of s.run line l.request l.outcome l.buffer) at s.laid (length l.out)
 
--- a whole line is answered
+unfoldable pub answer_lent : Session → List ℕ → Lent → Lent
+answer_lent s line l = record {
+  request = request_after s.run line l.request;
+  outcome = outcome_after s.run line l.outcome;
+  buffer = buffer_after s.run line l.request l.outcome l.buffer;
+  out = laid_out (answer_of s.run line l.request l.outcome l.buffer) s.laid l.out;
+}
+
 unfoldable pub line_of : List ℕ → ℕ → List ℕ → Desk → Desk
-line_of line at held d =
-    laid_desk (answer_of d.session.run line d.request d.outcome d.buffer) at d.session.laid held
-    (request_after d.session.run line d.request)
-    (outcome_after d.session.run line d.outcome)
-    (buffer_after d.session.run line d.request d.outcome d.buffer)
-    d.out
+line_of line at held d = record { session = answer_session d.session line at d.lent; held = held; lent = answer_lent d.session line d.lent }
+
+-- the last line is laid after what is laid: the session, and what is lent
+unfoldable pub close_session : Session → List ℕ → ℕ → Lent → Session
+close_session s line at l = spoken_session (closing s.run line l.buffer) at s.laid (length l.out)
+
+unfoldable pub close_lent : Session → List ℕ → Lent → Lent
+close_lent s line l = record l { out = laid_out (closing s.run line l.buffer) s.laid l.out }
+
+unfoldable pub close_desk : List ℕ → ℕ → List ℕ → Desk → Desk
+close_desk line at held d = record { session = close_session d.session line at d.lent; held = held; lent = close_lent d.session line d.lent }
 
 -- what a turn comes to, by what the chunk brought
 unfoldable pub turn_by : Took → List ℕ → List ℕ → Desk → Desk
 turn_by (took.Here len next) chunk held d = line_of (take len (drop d.session.at chunk)) next held d
 turn_by (took.Held len next) chunk held d = line_of (take len held) next held d
 turn_by (took.More have) chunk held d =
-    desk (used_up d.session.run have (length chunk) d.session.laid) held d.request d.outcome d.buffer d.out
-turn_by took.Long chunk held d =
-    laid_desk (closing d.session.run held d.buffer) (length chunk) d.session.laid held d.request d.outcome d.buffer d.out
+    record d { session = used_up d.session.run have (length chunk) d.session.laid; held = held }
+turn_by took.Long chunk held d = close_desk held (length chunk) held d
 
 -- one turn of a chunk
 unfoldable pub turn_of : List ℕ → Desk → Desk
@@ -77,12 +90,12 @@ goes_on on at end laid room = when on then (when ltb at end then leb (laid + lon
 unfoldable pub turns_of : ℕ → List ℕ → Desk → Desk
 turns_of zero chunk d = d
 turns_of (suc turns) chunk d =
-    when goes_on d.session.on d.session.at (length chunk) d.session.laid (length d.out) then turns_of turns chunk (turn_of chunk d) else d
+    when goes_on d.session.on d.session.at (length chunk) d.session.laid (length d.lent.out) then turns_of turns chunk (turn_of chunk d) else d
 
 -- the lines of a chunk, once what was laid before is written; a turn for each byte is enough
 unfoldable pub take_of : List ℕ → Desk → Desk
 take_of chunk d =
-    turns_of (length chunk) chunk (desk (at_byte d.session d.session.at) d.held d.request d.outcome d.buffer d.out)
+    turns_of (length chunk) chunk (record d { session = at_byte d.session d.session.at })
 
 -- the input has ended: a last line, unless the run is over
 unfoldable pub end_session : Session → List ℕ → List ℕ → ℕ → Session
@@ -93,5 +106,7 @@ end_out s held buffer out = when s.on then laid_out (closing s.run (take s.have 
 
 unfoldable pub end_of : Desk → Desk
 end_of d =
-    desk (end_session d.session d.held d.buffer (length d.out)) d.held d.request d.outcome d.buffer
-    (end_out d.session d.held d.buffer d.out)
+    record d {
+      session = end_session d.session d.held d.lent.buffer (length d.lent.out);
+      lent = record d.lent { out = end_out d.session d.held d.lent.buffer d.lent.out };
+    }

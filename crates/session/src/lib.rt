@@ -2,10 +2,10 @@
 // `dialogue`.
 #![tactic(auto)]
 
-ghost use Rattle.std.specs.Prelude.{◌≡◌, ◌+◌, ◌≤◌, length, leb};
-ghost use Rattle.dialogue.specs.Dialogue.{answer_of, request_after, outcome_after, buffer_after};
-ghost use Rattle.session.specs.Desk.{desk, longest_line, Sized};
-ghost use Rattle.session.specs.Session.{start_of, at_byte, goes_on, spoken_session, laid_out, closing, turn_of, turns_of, take_of, end_session, end_out};
+ghost use Rattle.std.specs.Prelude.{◌≡◌, ◌≤◌, length};
+ghost use Rattle.session.specs.Desk.{Sized};
+ghost use Rattle.session.specs.Session.{start_of, at_byte, goes_on, answer_session, answer_lent, close_session, close_lent, turn_of, turns_of, take_of, end_of};
+ghost use Rattle.session.specs.Loop.{laid_bytes, Fresh, blank, desk_at};
 
 use dialogue::{Run, Said};
 use lines::Took;
@@ -30,6 +30,7 @@ pub const LINE_BYTES: usize = LONGEST_LINE;
 pub const OUT_BYTES: usize = 65536;
 
 // Where the program stands.
+// Stays: no heap, so `have` and `laid` say how far a desk's `held` and `out` are filled; and `Writes` speaks of `on`.
 #[derive(Clone, Copy)]
 pub struct Session {
     pub run: Run,
@@ -43,213 +44,197 @@ pub struct Session {
     pub on: bool,
 }
 
-// A session with nothing read yet.
-pub fn start() -> Session
-    ensures { result ≡ start_of }
-{
-    Session {
-        run: Run::Fresh,
-        have: 0,
-        at: 0,
-        laid: 0,
-        on: true,
-    }
-}
-
-// The session at a byte of its chunk, with nothing laid.
-fn at_byte(session: Session, at: usize) -> Session
-    ensures { result ≡ at_byte session at }
-{
-    let run = session.run;
-    Session {
-        run,
-        have: session.have,
-        at,
-        laid: 0,
-        on: session.on,
-    }
-}
-
-// A new chunk, which is read from its first byte on. The caller has written what was laid.
-pub fn next_chunk(session: Session) -> Session
-    ensures { result ≡ at_byte session 0 }
-{
-    at_byte(session, 0)
-}
-
-// What was laid is written.
-pub fn written(session: Session) -> Session
-    ensures { result ≡ at_byte session session.at }
-{
-    at_byte(session, session.at)
-}
-
-// Whether the longest line has room after what is laid.
-fn has_room(laid: usize, room: usize) -> bool
-    ensures { result ≡ leb (laid + longest_line) room }
-{
-    if room < LINE_BYTES {
-        return false;
-    }
-    laid <= room - LINE_BYTES
-}
-
-// Whether another turn can be made: the run goes on, its chunk ends after `at`, and the longest line has room.
-fn goes_on(on: bool, at: usize, end: usize, laid: usize, room: usize) -> bool
-    ensures { result ≡ goes_on on at end laid room }
-{
-    if on {
-        if at < end {
-            return has_room(laid, room);
-        }
-    }
-    false
-}
-
-// A line is answered after the `laid` bytes that stand in `out`, and the chunk goes on at `at`.
-fn answer(
-    run: Run,
-    line: &[u8],
-    at: usize,
-    laid: usize,
-    request: &mut [u8],
-    outcome: &mut [u8],
-    buffer: &mut [u8],
-    out: &mut [u8],
-) -> Session
-    requires { laid ≤ length out.old }
-    ensures { (result ≡ spoken_session (answer_of run line.now request.old outcome.old buffer.old) at laid (length out.old)) × (request.new ≡ request_after run line.now request.old) × (outcome.new ≡ outcome_after run line.now outcome.old) × (buffer.new ≡ buffer_after run line.now request.old outcome.old buffer.old) × (out.new ≡ laid_out (answer_of run line.now request.old outcome.old buffer.old) laid out.old) }
-{
-    let turned = dialogue::answer(run, line, request, outcome, buffer, &mut out[laid..]);
-    let after = turned.run;
-    let said = turned.said;
-    match said {
-        Said::Asked(n) => Session {
-            run: after,
+impl Session {
+    // A session with nothing read yet.
+    pub fn start() -> Self
+        ensures { result ≡ start_of }
+    {
+        Session {
+            run: Run::Fresh,
             have: 0,
-            at,
-            laid: laid + n,
+            at: 0,
+            laid: 0,
             on: true,
-        },
-        Said::Last(n) => Session {
-            run: after,
-            have: 0,
+        }
+    }
+
+    // The session at a byte of its chunk, with nothing laid.
+    fn at_byte(self, at: usize) -> Self
+        ensures { result ≡ at_byte self at }
+    {
+        Session {
             at,
-            laid: laid + n,
-            on: false,
-        },
-    }
-}
-
-// The last line of a run, after the `laid` bytes that stand in `out`: the input has ended with these bytes of a line, or they are the first of one that is
-// too long.
-fn close(run: Run, line: &[u8], at: usize, laid: usize, buffer: &[u8], out: &mut [u8]) -> Session
-    requires { laid ≤ length out.old }
-    ensures { (result ≡ spoken_session (closing run line.now buffer.now) at laid (length out.old)) × (out.new ≡ laid_out (closing run line.now buffer.now) laid out.old) }
-{
-    let n = dialogue::close(run, line, buffer, &mut out[laid..]);
-    Session {
-        run,
-        have: 0,
-        at,
-        laid: laid + n,
-        on: false,
-    }
-}
-
-// One turn: the bytes of a chunk from where it goes on, up to the end of a line. A line that has no room in `held` ends the run.
-fn turn(
-    session: Session,
-    chunk: &[u8],
-    held: &mut [u8],
-    request: &mut [u8],
-    outcome: &mut [u8],
-    buffer: &mut [u8],
-    out: &mut [u8],
-) -> Session
-    requires { session.laid ≤ length out.old }
-    ensures { desk result held.new request.new outcome.new buffer.new out.new ≡ turn_of chunk.now (desk session held.old request.old outcome.old buffer.old out.old) }
-{
-    let run = session.run;
-    let at = session.at;
-    let laid = session.laid;
-    match lines::take(chunk, at, held, session.have) {
-        Took::Here { len, next } => {
-            let line = bytes::block(chunk, at, len);
-            answer(run, line, next, laid, request, outcome, buffer, out)
+            laid: 0,
+            ..self
         }
-        Took::Held { len, next } => {
-            let line = bytes::front(held, len);
-            answer(run, line, next, laid, request, outcome, buffer, out)
+    }
+}
+
+// What a line is answered in: the bytes of the request line and those of an outcome line, a call's buffer, and the lines that answer.
+#[derive(Drop)]
+pub struct Lent {
+    pub request: [u8; REQUEST_BYTES],
+    pub outcome: [u8; OUTCOME_BYTES],
+    pub buffer: [u8; BUFFER_BYTES],
+    pub out: [u8; OUT_BYTES],
+}
+
+impl Lent {
+    // A line is answered after what is laid, and the chunk goes on at `at`.
+    fn answer(&mut self, session: &mut Session, line: &[u8], at: usize)
+        requires { session.old.laid ≤ length self.old.out }
+        ensures { (session.new ≡ answer_session session.old line.now at self.old) × (self.new ≡ answer_lent session.old line.now self.old) }
+    {
+        let turned = dialogue::answer(
+            session.run,
+            line,
+            &mut self.request,
+            &mut self.outcome,
+            &mut self.buffer,
+            &mut self.out[session.laid..],
+        );
+        session.run = turned.run;
+        session.have = 0;
+        session.at = at;
+        match turned.said {
+            Said::Asked(n) => {
+                session.laid += n;
+                session.on = true;
+            }
+            Said::Last(n) => {
+                session.laid += n;
+                session.on = false;
+            }
         }
-        Took::More(have) => Session {
-            run,
-            have,
-            at: chunk.len(),
-            laid,
-            on: true,
-        },
-        Took::Long => close(run, held, chunk.len(), laid, buffer, out),
+    }
+
+    // The last line of a run, after what is laid: the input has ended with these bytes of a line, or they are the first of one that is too long.
+    fn close(&mut self, session: &mut Session, line: &[u8], at: usize)
+        requires { session.old.laid ≤ length self.old.out }
+        ensures { (session.new ≡ close_session session.old line.now at self.old) × (self.new ≡ close_lent session.old line.now self.old) }
+    {
+        let n = dialogue::close(
+            session.run,
+            line,
+            &self.buffer,
+            &mut self.out[session.laid..],
+        );
+        session.have = 0;
+        session.at = at;
+        session.laid += n;
+        session.on = false;
     }
 }
 
-// Turn after turn over what is lent, of any sizes.
-fn turns(
-    session: Session,
-    chunk: &[u8],
-    held: &mut [u8],
-    request: &mut [u8],
-    outcome: &mut [u8],
-    buffer: &mut [u8],
-    out: &mut [u8],
-) -> Session
-    ensures { desk result held.new request.new outcome.new buffer.new out.new ≡ turns_of (length chunk.now) chunk.now (desk session held.old request.old outcome.old buffer.old out.old) }
-{
-    let mut here = session;
-    while goes_on(here.on, here.at, chunk.len(), here.laid, out.len()) {
-        here = turn(here, chunk, held, request, outcome, buffer, out);
+// A session, the bytes that are held of a line, and what is lent to it.
+#[derive(Drop)]
+pub struct Desk {
+    pub session: Session,
+    pub held: [u8; HELD_BYTES],
+    pub lent: Lent,
+}
+
+impl Desk {
+    // A desk with nothing read yet.
+    pub fn new() -> Self
+        ensures { (result ≡ blank) × Fresh result }
+    {
+        Desk {
+            session: Session::start(),
+            held: [0; HELD_BYTES],
+            lent: Lent {
+                request: [0; REQUEST_BYTES],
+                outcome: [0; OUTCOME_BYTES],
+                buffer: [0; BUFFER_BYTES],
+                out: [0; OUT_BYTES],
+            },
+        }
     }
-    here
-}
 
-// The lines of a chunk from where it goes on, up to the end of the run, while the longest line has room in `out` after what is laid. The caller has
-// written what was laid before.
-pub fn take(
-    session: Session,
-    chunk: &[u8],
-    held: &mut [u8; HELD_BYTES],
-    request: &mut [u8; REQUEST_BYTES],
-    outcome: &mut [u8; OUTCOME_BYTES],
-    buffer: &mut [u8; BUFFER_BYTES],
-    out: &mut [u8; OUT_BYTES],
-) -> Session
-    ensures { (desk result held.new request.new outcome.new buffer.new out.new ≡ take_of chunk.now (desk session held.old request.old outcome.old buffer.old out.old)) × Sized (desk session held.old request.old outcome.old buffer.old out.old) }
-{
-    turns(
-        at_byte(session, session.at),
-        chunk,
-        held,
-        request,
-        outcome,
-        buffer,
-        out,
-    )
-}
+    // The bytes that are laid, to be written now.
+    pub fn laid(&self) -> &[u8]
+        ensures { result.now ≡ laid_bytes self.now }
+    {
+        bytes::front(&self.lent.out, self.session.laid)
+    }
 
-// The input has ended.
-pub fn end(
-    session: Session,
-    held: &[u8; HELD_BYTES],
-    buffer: &[u8; BUFFER_BYTES],
-    out: &mut [u8; OUT_BYTES],
-) -> Session
-    ensures { (result ≡ end_session session held.now buffer.now (length out.old)) × (out.new ≡ end_out session held.now buffer.now out.old) }
-{
-    let run = session.run;
-    if session.on {
-        let line = bytes::front(held, session.have);
-        close(run, line, session.at, 0, buffer, out)
-    } else {
-        at_byte(session, session.at)
+    // A new chunk, which is read from its first byte on. The caller has written what was laid.
+    pub fn next_chunk(&mut self)
+        ensures { self.new ≡ desk_at 0 self.old }
+    {
+        self.session = self.session.at_byte(0);
+    }
+
+    // What was laid is written. The arrays have the sizes that their types say.
+    pub fn written(&mut self)
+        ensures { (self.new ≡ desk_at self.old.session.at self.old) × Sized self.old }
+    {
+        self.session = self.session.at_byte(self.session.at);
+    }
+
+    // Whether another turn can be made: the run goes on, its chunk ends after `at`, and the longest line has room after what is laid.
+    fn goes_on(&self, end: usize) -> bool
+        ensures { result ≡ goes_on self.now.session.on self.now.session.at end self.now.session.laid (length self.now.lent.out) }
+    {
+        self.session.on && self.session.at < end && self.session.laid <= OUT_BYTES - LINE_BYTES
+    }
+
+    // One turn: the bytes of a chunk from where it goes on, up to the end of a line. A line that has no room in `held` ends the run.
+    fn turn(&mut self, chunk: &[u8])
+        requires { self.old.session.laid ≤ length self.old.lent.out }
+        ensures { self.new ≡ turn_of chunk.now self.old }
+    {
+        let at = self.session.at;
+        match lines::take(chunk, at, &mut self.held, self.session.have) {
+            Took::Here { len, next } => {
+                let line = bytes::block(chunk, at, len);
+                self.lent.answer(&mut self.session, line, next);
+            }
+            Took::Held { len, next } => {
+                let line = bytes::front(&self.held, len);
+                self.lent.answer(&mut self.session, line, next);
+            }
+            Took::More(have) => {
+                self.session = Session {
+                    have,
+                    at: chunk.len(),
+                    on: true,
+                    ..self.session
+                };
+            }
+            Took::Long => {
+                self.lent.close(&mut self.session, &self.held, chunk.len());
+            }
+        }
+    }
+
+    // Turn after turn.
+    fn turns(&mut self, chunk: &[u8])
+        ensures { self.new ≡ turns_of (length chunk.now) chunk.now self.old }
+    {
+        while self.goes_on(chunk.len()) {
+            self.turn(chunk);
+        }
+    }
+
+    // The lines of a chunk from where it goes on, up to the end of the run, while the longest line has room in `out` after what is laid. The caller has
+    // written what was laid before.
+    pub fn take(&mut self, chunk: &[u8])
+        ensures { (self.new ≡ take_of chunk.now self.old) × Sized self.old }
+    {
+        self.written();
+        self.turns(chunk);
+    }
+
+    // The input has ended.
+    pub fn end(&mut self)
+        ensures { self.new ≡ end_of self.old }
+    {
+        self.written();
+        if self.session.on {
+            let line = bytes::front(&self.held, self.session.have);
+            let at = self.session.at;
+            self.lent.close(&mut self.session, line, at);
+        }
     }
 }

@@ -1,8 +1,0 @@
--- `session::at_byte` meets its contract: the fields are those of `at_byte`.
--- Assumes nothing.
-use Rattle.session.specs.Session.{at_byte}
-use Rattle.session.proofs.at_byte.Goals as goal
-
-pub returns : goal.returns
-unfolding at_byte
-returns c = cc
