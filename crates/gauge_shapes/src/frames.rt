@@ -72,10 +72,8 @@ fn row(rt: &impl Print, command: u8, count: u8, old: &[u8; FLASH_BYTES]) -> io::
     for address in ADDRESSES {
         closed(command, count, address, old, &mut seen);
     }
-    println!(rt;
-        "frames {command:02x} count {count}: {seen} strays {}",
-        seen.strays
-    )
+    let strays = seen.strays;
+    println!(rt; "frames {command:02x} count {count}: {seen} strays {strays}")
 }
 
 // Every count byte up to 40, and two of other commands.

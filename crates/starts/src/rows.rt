@@ -163,12 +163,14 @@ fn access_writes(rt: &impl Print) -> io::Result<()> {
     limited(rt, "write_mfg_info", Kind::WriteMfgInfo, 32)
 }
 
-// Data flash, written.
-fn window_writes(rt: &impl Print) -> io::Result<()> {
+// Data flash in the window and outside, by the call that is made of an address.
+fn window<F: Fn(u16) -> Kind>(rt: &impl Print, name: &str, kind: F) -> io::Result<()>
+    requires { F.IsAlwaysCallable kind }
+{
     for (address, n, work, pec) in WINDOW {
         let lent = Lent { n, work, pec };
-        print!(rt; "write_dataflash {address:04x} {lent}")?;
-        start(rt, Kind::WriteDataflash(address), n, lent)?;
+        print!(rt; "{name} {address:04x} {lent}")?;
+        start(rt, kind(address), n, lent)?;
     }
     Ok(())
 }
@@ -210,24 +212,14 @@ fn key_reads(rt: &impl Print) -> io::Result<()> {
     limited(rt, "read_mfg_info", Kind::ReadMfgInfo, 33)
 }
 
-// Data flash, read.
-fn window_reads(rt: &impl Print) -> io::Result<()> {
-    for (address, n, work, pec) in WINDOW {
-        let lent = Lent { n, work, pec };
-        print!(rt; "read_dataflash {address:04x} {lent}")?;
-        start(rt, Kind::ReadDataflash(address), n, lent)?;
-    }
-    Ok(())
-}
-
 // Everything.
 pub(crate) fn all(rt: &impl Print) -> io::Result<()> {
     writes(rt)?;
     key_writes(rt)?;
     access_writes(rt)?;
-    window_writes(rt)?;
+    window(rt, "write_dataflash", Kind::WriteDataflash)?;
     reads(rt)?;
     commands(rt)?;
     key_reads(rt)?;
-    window_reads(rt)
+    window(rt, "read_dataflash", Kind::ReadDataflash)
 }
