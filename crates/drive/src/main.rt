@@ -8,6 +8,7 @@ mod rows;
 mod run;
 mod say;
 
-fn main() {
-    rows::all();
+fn main(rt: HostRuntime) {
+    // A write that fails is not told.
+    let _ = rows::all(&rt);
 }

@@ -1,121 +1,112 @@
-// The rows: a call of a kind, with the lengths of its payload and its buffer.
-use crate::run::{Group, row};
-use crate::say;
+// The rows: a call of a kind, with the length of its payload or of its buffer.
+use crate::run::Lent::{Buffer, Payload};
+use crate::run::{Lent, row};
 use calls::kind::Kind;
+use std::io;
 
-// Plain, register and buffer writes.
-fn plain_writes(group: Group) {
-    say::words(b"write_with_retries\n");
-    row(Kind::WriteWithRetries, 2, 0, group);
-    say::words(b"write_register\n");
-    row(Kind::WriteRegister(0x12), 2, 0, group);
-    say::words(b"write_buffer\n");
-    row(Kind::WriteBuffer(0x23), 2, 0, group);
+// The calls that write, and how long a payload each is lent.
+const WRITES: [(&str, Kind, Lent); 11] = [
+    // Plain, register and buffer writes.
+    ("write_with_retries", Kind::WriteWithRetries, Payload(2)),
+    ("write_register", Kind::WriteRegister(0x12), Payload(2)),
+    ("write_buffer", Kind::WriteBuffer(0x23), Payload(2)),
+    // Keys and the override.
+    ("write_security_keys", Kind::WriteSecurityKeys, Payload(28)),
+    (
+        "write_authentication_key",
+        Kind::WriteAuthenticationKey,
+        Payload(16),
+    ),
+    (
+        "write_charging_voltage_override",
+        Kind::WriteChargingVoltageOverride,
+        Payload(10),
+    ),
+    // Access keys, under both names, manufacturer info and data flash.
+    (
+        "send_access_key",
+        Kind::SendAccessKey {
+            lower: 0x1234,
+            upper: 0x5678,
+        },
+        Payload(0),
+    ),
+    (
+        "unseal_fg",
+        Kind::UnsealFg {
+            lower: 0x1234,
+            upper: 0x5678,
+        },
+        Payload(0),
+    ),
+    (
+        "write_mfg_info_c",
+        Kind::WriteMfgInfoC {
+            lower: 0x1234,
+            upper: 0x5678,
+        },
+        Payload(2),
+    ),
+    ("write_mfg_info", Kind::WriteMfgInfo, Payload(2)),
+    ("write_dataflash", Kind::WriteDataflash(0x4000), Payload(33)),
+];
+
+// The calls that read, and how long a buffer each is lent.
+const READS: [(&str, Kind, Lent); 12] = [
+    // Registers and buffers.
+    ("read_register", Kind::ReadRegister(0x12), Buffer(2)),
+    ("read_buffer", Kind::ReadBuffer(0x23), Buffer(2)),
+    ("read_buffer, 0", Kind::ReadBuffer(0x12), Buffer(0)),
+    // Commands.
+    (
+        "dispatch_command 443500, 2",
+        Kind::DispatchCommand(0x443500),
+        Buffer(2),
+    ),
+    (
+        "dispatch_command FF010203, 0",
+        Kind::DispatchCommand(0xFF010203),
+        Buffer(0),
+    ),
+    (
+        "dispatch_command 010203, 1",
+        Kind::DispatchCommand(0x010203),
+        Buffer(1),
+    ),
+    // Keys and the override.
+    ("read_security_keys", Kind::ReadSecurityKeys, Buffer(28)),
+    (
+        "read_authentication_key",
+        Kind::ReadAuthenticationKey,
+        Buffer(16),
+    ),
+    (
+        "read_charging_voltage_override",
+        Kind::ReadChargingVoltageOverride,
+        Buffer(10),
+    ),
+    // Manufacturer info and data flash.
+    ("read_mfg_info_c", Kind::ReadMfgInfoC, Buffer(2)),
+    ("read_mfg_info", Kind::ReadMfgInfo, Buffer(2)),
+    ("read_dataflash", Kind::ReadDataflash(0x5FDF), Buffer(33)),
+];
+
+// Calls, with PEC on writes or on reads.
+fn rows(rt: &impl Print, rows: &[(&str, Kind, Lent)], pec_write: bool) -> io::Result<()> {
+    for &(title, kind, lent) in rows {
+        row(rt, title, kind, lent, pec_write)?;
+    }
+    Ok(())
 }
 
-// Keys and the override.
-fn key_writes(group: Group) {
-    say::words(b"write_security_keys\n");
-    row(Kind::WriteSecurityKeys, 28, 0, group);
-    say::words(b"write_authentication_key\n");
-    row(Kind::WriteAuthenticationKey, 16, 0, group);
-    say::words(b"write_charging_voltage_override\n");
-    row(Kind::WriteChargingVoltageOverride, 10, 0, group);
-}
-
-// Access keys, under both names, manufacturer info and data flash.
-fn access_writes(group: Group) {
-    let lower = 0x1234;
-    let upper = 0x5678;
-    say::words(b"send_access_key\n");
-    row(Kind::SendAccessKey { lower, upper }, 0, 0, group);
-    say::words(b"unseal_fg\n");
-    row(Kind::UnsealFg { lower, upper }, 0, 0, group);
-    say::words(b"write_mfg_info_c\n");
-    row(Kind::WriteMfgInfoC { lower, upper }, 2, 0, group);
-    say::words(b"write_mfg_info\n");
-    row(Kind::WriteMfgInfo, 2, 0, group);
-    say::words(b"write_dataflash\n");
-    row(Kind::WriteDataflash(0x4000), 33, 0, group);
-}
-
-// The calls that write.
-fn writes(group: Group) {
-    plain_writes(group);
-    key_writes(group);
-    access_writes(group);
-}
-
-// Registers and buffers.
-fn plain_reads(group: Group) {
-    say::words(b"read_register\n");
-    row(Kind::ReadRegister(0x12), 0, 2, group);
-    say::words(b"read_buffer\n");
-    row(Kind::ReadBuffer(0x23), 0, 2, group);
-    say::words(b"read_buffer, 0\n");
-    row(Kind::ReadBuffer(0x12), 0, 0, group);
-}
-
-// Commands.
-fn command_reads(group: Group) {
-    say::words(b"dispatch_command 443500, 2\n");
-    row(Kind::DispatchCommand(0x443500), 0, 2, group);
-    say::words(b"dispatch_command FF010203, 0\n");
-    row(Kind::DispatchCommand(0xFF010203), 0, 0, group);
-    say::words(b"dispatch_command 010203, 1\n");
-    row(Kind::DispatchCommand(0x010203), 0, 1, group);
-}
-
-// Keys and the override.
-fn key_reads(group: Group) {
-    say::words(b"read_security_keys\n");
-    row(Kind::ReadSecurityKeys, 0, 28, group);
-    say::words(b"read_authentication_key\n");
-    row(Kind::ReadAuthenticationKey, 0, 16, group);
-    say::words(b"read_charging_voltage_override\n");
-    row(Kind::ReadChargingVoltageOverride, 0, 10, group);
-}
-
-// Manufacturer info and data flash.
-fn long_reads(group: Group) {
-    say::words(b"read_mfg_info_c\n");
-    row(Kind::ReadMfgInfoC, 0, 2, group);
-    say::words(b"read_mfg_info\n");
-    row(Kind::ReadMfgInfo, 0, 2, group);
-    say::words(b"read_dataflash\n");
-    row(Kind::ReadDataflash(0x5FDF), 0, 33, group);
-}
-
-// The calls that read.
-fn reads(group: Group) {
-    plain_reads(group);
-    command_reads(group);
-    key_reads(group);
-    long_reads(group);
-}
-
-// Everything, without PEC and with it, and of either group a call that is refused at its start.
-pub(crate) fn all() {
-    let sealed = Group {
-        pec_write: true,
-        reads: false,
-    };
-    let checked = Group {
-        pec_write: false,
-        reads: true,
-    };
-    writes(Group {
-        pec_write: false,
-        reads: false,
-    });
-    writes(sealed);
-    say::words(b"write_register, refused\n");
-    row(Kind::WriteRegister(0x12), 33, 0, sealed);
-    reads(Group {
-        pec_write: true,
-        reads: true,
-    });
-    reads(checked);
-    say::words(b"read_register, refused\n");
-    row(Kind::ReadRegister(0x12), 0, 33, checked);
+// Everything, without PEC and with it, and of those that write and those that read a call that is refused at its start.
+pub(crate) fn all(rt: &impl Print) -> io::Result<()> {
+    let write = Kind::WriteRegister(0x12);
+    let read = Kind::ReadRegister(0x12);
+    rows(rt, &WRITES, false)?;
+    rows(rt, &WRITES, true)?;
+    row(rt, "write_register, refused", write, Payload(33), true)?;
+    rows(rt, &READS, true)?;
+    rows(rt, &READS, false)?;
+    row(rt, "read_register, refused", read, Buffer(33), false)
 }

@@ -1,25 +1,40 @@
 // A call of a kind over scripts.
-use crate::{marks, say};
+use crate::marks;
+use crate::say::{Shown, Stand};
 use calls::call::{Call, Reported};
 use calls::kind::Kind;
 use engine::bus::Transfer;
+use fixture::digits::Digits;
+use fixture::settings::settings;
+use fixture::transfer::sent;
 use protocol::bytes;
+use protocol::common::Config;
+use std::io;
 
-// What the calls of a group have in common: PEC either on writes or on reads, and whether they read, and so have scripts of their own and a buffer to show.
+// The scripts of a call that writes, and of one that reads.
+const WRITING: [&str; 9] = [
+    "", "aaasl", "eataea", "ef", "tt", "te", "att", "aef", "rslba",
+];
+
+const READING: [&str; 11] = [
+    "", "aaasl", "aeaaaa", "ef", "tt", "te", "tat", "aapat", "tpp", "qrslba", "aqrba",
+];
+
+// What a call is lent: one that writes a payload of so many bytes, one that reads a buffer, which is shown at the end of a line.
 #[derive(Clone, Copy)]
-pub(crate) struct Group {
-    pub(crate) pec_write: bool,
-    pub(crate) reads: bool,
+pub(crate) enum Lent {
+    Payload(usize),
+    Buffer(usize),
 }
 
 // The call that a report hands back; a refusal is said.
-fn taken(reported: Reported) -> Call {
+fn taken(rt: &impl Print, reported: Reported) -> io::Result<Call> {
     match reported {
         Reported::Refused(a, same) => {
-            say::refusal(a);
-            same
+            print!(rt; " ({})", a.number())?;
+            Ok(same)
         }
-        Reported::Taken(next) => next,
+        Reported::Taken(next) => Ok(next),
     }
 }
 
@@ -35,57 +50,95 @@ fn reply(mark: u8, transfer: Transfer, reply: &mut [u8]) -> usize {
 }
 
 // One transfer and its outcome.
-fn step(call: Call, mark: u8, payload: &[u8], buffer: &mut [u8]) -> Call {
+fn step(
+    rt: &impl Print,
+    call: Call,
+    mark: u8,
+    payload: &[u8],
+    buffer: &mut [u8],
+) -> io::Result<Call> {
     let mut work = [0u8; 39];
     let mut room = [0u8; 64];
     let length = marks::work(mark);
     let shown = call.next(payload, buffer, &mut work[..length]);
     let built = bytes::front(&work, length);
     let transfer = shown.transfer;
-    say::transfer(
-        transfer,
-        call.to_send(payload, built, say::length(transfer)),
-    );
+    let frame = call.to_send(payload, built, sent(transfer));
+    print!(rt; " {}", Shown { transfer, frame })?;
     let n = reply(mark, transfer, &mut room);
     let came = bytes::front(&room, n);
-    taken(call.report(marks::outcome(mark), came, payload, buffer, built))
+    taken(
+        rt,
+        call.report(marks::outcome(mark), came, payload, buffer, built),
+    )
 }
 
-// A call over a script, on a line, with a buffer of n bytes.
-fn line(kind: Kind, payload: &[u8], n: usize, group: Group, script: &[u8]) {
-    let mut room = [0xA5u8; 64];
-    let mut call = Call::start(
-        kind,
-        marks::settings(group.pec_write),
-        payload,
-        bytes::front(&room, n),
-        &[0u8; 39],
-    );
-    say::words(script);
-    for i in 0..script.len() {
-        let mark = script[i];
+// A call over a script, on a line, with one retry, PEC either on writes or on reads, and a buffer of n bytes at the front of the room.
+fn line(
+    rt: &impl Print,
+    kind: Kind,
+    pec_write: bool,
+    payload: &[u8],
+    room: &mut [u8; 64],
+    n: usize,
+    script: &str,
+) -> io::Result<()> {
+    let config = Config {
+        pec_read: !pec_write,
+        ..settings(1, pec_write)
+    };
+    let mut call = Call::start(kind, config, payload, bytes::front(room, n), &[0u8; 39]);
+    print!(rt; "{script}")?;
+    for mark in script.bytes() {
         let size = marks::buffer(mark, n);
-        let lent = marks::pick(mark == b'l', b"!!!", payload);
-        call = step(call, mark, lent, &mut room[..size]);
+        call = step(
+            rt,
+            call,
+            mark,
+            marks::payload(mark, payload),
+            &mut room[..size],
+        )?;
     }
-    let tally = call.tally();
-    say::end(call.phase(), tally.waits);
-    say::filled(group.reads, bytes::front(&room, n));
+    print!(rt; " : {}", Stand(call))
 }
 
-// A call, whose title is said, with a payload and a buffer of so many bytes, through success, retries, each failure and the refusals of a step.
-pub(crate) fn row(kind: Kind, payload: usize, buffer: usize, group: Group) {
-    let two = b"\xAA\xBB";
-    let rest = marks::pick(payload == 33, &[0xCCu8; 33], &[0xDDu8; 28]);
-    let lent = bytes::front(marks::pick(payload == 2, two, rest), payload);
-    let scripts = marks::pick(
-        group.reads,
-        b",aaasl,aeaaaa,ef,tt,te,tat,aapat,tpp,qrslba,aqrba",
-        b",aaasl,eataea,ef,tt,te,att,aef,rslba",
-    );
-    for i in 0..scripts.len() {
-        if marks::begins(scripts, i) {
-            line(kind, lent, buffer, group, marks::script(scripts, i));
+// A call of a kind, under its title, through success, retries, each failure and the refusals of a step.
+pub(crate) fn row(
+    rt: &impl Print,
+    title: &str,
+    kind: Kind,
+    lent: Lent,
+    pec_write: bool,
+) -> io::Result<()> {
+    println!(rt; "{title}")?;
+    match lent {
+        Lent::Payload(n) => {
+            let source: &[u8] = match n {
+                2 => b"\xAA\xBB",
+                33 => &[0xCC; 33],
+                _ => &[0xDD; 28],
+            };
+            for script in WRITING {
+                let mut room = [0xA5u8; 64];
+                line(
+                    rt,
+                    kind,
+                    pec_write,
+                    bytes::front(source, n),
+                    &mut room,
+                    0,
+                    script,
+                )?;
+                println!(rt)?;
+            }
+        }
+        Lent::Buffer(n) => {
+            for script in READING {
+                let mut room = [0xA5u8; 64];
+                line(rt, kind, pec_write, b"", &mut room, n, script)?;
+                println!(rt; " {}", Digits(bytes::front(&room, n)))?;
+            }
         }
     }
+    Ok(())
 }

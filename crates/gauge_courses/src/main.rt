@@ -9,40 +9,24 @@ use calls::call::Call;
 use calls::kind::Kind;
 use courses::course::End;
 use courses::run::{Link, Run};
-use engine::budget;
+use fixture::counted::one_more;
+use fixture::course::HEARD;
+use fixture::flash::PAYLOAD;
+use fixture::settings::settings;
 use fixture::{course, flash};
 use model_gauge::gauge::{FLASH_BYTES, Gauge};
 use protocol::bytes;
 use protocol::common::Config;
 use protocol::error::Answer;
-
-// The number of standard output.
-const STDOUT_FILENO: i32 = 1;
+use std::{fmt, io};
 
 const ADDRESS: u16 = 0x5000;
 
 // Where the flash has the byte of that address.
 const PLACE: usize = 0x1000;
 
-const PAYLOAD: [u8; 70] =
-    *b"Three blocks of history for one pack: two of thirty-two bytes, and six";
-
-// As many transfers as a course has at the most, all heard.
-const HEARD: [u8; 7] = [0, 0, 0, 0, 0, 0, 0];
-
-fn main() {
-    let mut old = [0u8; 8192];
-    flash::fill(&mut old);
-    let mut clean = [0u8; 8192];
-    lay(&old, 70, &mut clean);
-    for retries in 0..3u16 {
-        setting(retries, false, &old, &clean);
-        setting(retries, true, &old, &clean);
-    }
-}
-
 // How runs ended, what they left, and what was left once they were gone on with.
-#[derive(Clone, Copy)]
+#[derive(Clone, Copy, Default)]
 struct Counts {
     runs: u32,
     cuts: u32,
@@ -58,91 +42,67 @@ struct Counts {
 }
 
 impl Counts {
-    fn new() -> Counts {
-        Counts {
-            runs: 0,
-            cuts: 0,
-            done: 0,
-            bus_errors: 0,
-            timeouts: 0,
-            partial: 0,
-            others: 0,
-            next_old: 0,
-            next_new: 0,
-            new_without: 0,
-            clean: 0,
-        }
-    }
-
     // One run more, which ended so.
-    fn ended(mut self, end: End) -> Counts {
-        self.runs = budget::more(self.runs);
+    fn ended(&mut self, end: End) {
+        one_more(&mut self.runs);
         match end {
-            End::Cut => {
-                self.cuts = budget::more(self.cuts);
-                self
-            }
-            End::Answered(answer) => self.answered(answer.number()),
+            End::Cut => one_more(&mut self.cuts),
+            End::Answered(Answer::Done) => one_more(&mut self.done),
+            End::Answered(Answer::I2c(_)) => one_more(&mut self.bus_errors),
+            End::Answered(Answer::Timeout) => one_more(&mut self.timeouts),
+            End::Answered(Answer::PartialDataFlashWrite { .. }) => one_more(&mut self.partial),
+            End::Answered(_) => one_more(&mut self.others),
         }
-    }
-
-    // One answer more, by its number.
-    fn answered(mut self, number: u8) -> Counts {
-        if number == 0 {
-            self.done = budget::more(self.done);
-            return self;
-        }
-        if number == 1 {
-            self.bus_errors = budget::more(self.bus_errors);
-            return self;
-        }
-        if number == 2 {
-            self.timeouts = budget::more(self.timeouts);
-            return self;
-        }
-        if number == 6 {
-            self.partial = budget::more(self.partial);
-            return self;
-        }
-        self.others = budget::more(self.others);
-        self
     }
 
     // One stop more, at which the block that is due is all old, all new or neither, after a course with a 2 in it or none.
-    fn stopped(mut self, old: bool, new: bool, none_after: bool) -> Counts {
+    fn stopped(&mut self, old: bool, new: bool, none_after: bool) {
         if old {
-            self.next_old = budget::more(self.next_old);
+            one_more(&mut self.next_old);
         }
         if new {
-            self.next_new = budget::more(self.next_new);
-            if none_after {
-                self.new_without = budget::more(self.new_without);
-            }
+            one_more(&mut self.next_new);
         }
-        self
+        if new && none_after {
+            one_more(&mut self.new_without);
+        }
     }
 
     // One flash more that is as the clean write leaves it, or not.
-    fn compared(mut self, equal: bool) -> Counts {
+    fn compared(&mut self, equal: bool) {
         if equal {
-            self.clean = budget::more(self.clean);
+            one_more(&mut self.clean);
         }
-        self
+    }
+}
+
+impl fmt::Display for Counts {
+    fn fmt<W: fmt::Write>(&self, f: &mut fmt::Formatter<W>) -> fmt::Result {
+        write!(
+            f,
+            "runs {} cuts {} done {}",
+            self.runs, self.cuts, self.done
+        )?;
+        write!(
+            f,
+            " bus errors {} timeouts {}",
+            self.bus_errors, self.timeouts
+        )?;
+        write!(f, " partial {} others {}", self.partial, self.others)?;
+        write!(f, " next old {} next new {}", self.next_old, self.next_new)?;
+        write!(
+            f,
+            " new without a 2 {} clean {}",
+            self.new_without, self.clean
+        )
     }
 }
 
 // The old flash with the first n bytes of the payload over it, laid there without the gauge.
-fn lay(old: &[u8], n: usize, flash: &mut [u8]) {
-    let payload = PAYLOAD;
-    bytes::copy_block(flash, old, FLASH_BYTES);
-    bytes::store_block(flash, PLACE, bytes::front(&payload, n), n);
-}
-
-// Whether a flash is that.
-fn holds(flash: &[u8], old: &[u8], n: usize) -> bool {
-    let mut laid = [0u8; 8192];
-    lay(old, n, &mut laid);
-    check::same(flash, &laid)
+fn laid(old: &[u8; FLASH_BYTES], n: usize) -> [u8; FLASH_BYTES] {
+    let mut flash = *old;
+    bytes::store_block(&mut flash, PLACE, bytes::front(&PAYLOAD, n), n);
+    flash
 }
 
 // A write of some bytes, over a course. It looks at no buffer.
@@ -154,156 +114,116 @@ fn write(
     flash: &mut [u8],
     course: &[u8],
 ) -> Run {
-    let mut buffer = [0u8; 0];
-    let call = Call::start(
-        Kind::WriteDataflash(address),
-        config,
-        payload,
-        &buffer,
-        work,
-    );
+    let kind = Kind::WriteDataflash(address);
     let link = Link {
-        call,
+        call: Call::start(kind, config, payload, &[], work),
         gauge: Gauge::new(),
     };
-    link.run(payload, &mut buffer, work, flash, course)
+    link.run(payload, &mut [], work, flash, course)
 }
 
 // A call with the bytes past the first `past`, over a heard course.
 fn send(config: Config, past: usize, flash: &mut [u8], work: &mut [u8]) {
-    let payload = PAYLOAD;
-    let heard = HEARD;
-    let sent = bytes::least(past, payload.len());
-    let rest = bytes::block(&payload, sent, payload.len());
-    write(config, ADDRESS + sent as u16, rest, work, flash, &heard);
+    let sent = past.min(PAYLOAD.len());
+    let address = ADDRESS + sent as u16;
+    write(config, address, &PAYLOAD[sent..], work, flash, &HEARD);
 }
 
 // The bytes that an answer says were acknowledged; none given means zero.
-fn count_of(answer: Answer) -> usize {
-    if answer.number() == 6 {
-        answer.detail()
-    } else {
-        0
+fn committed_of(answer: Answer) -> usize {
+    match answer {
+        Answer::PartialDataFlashWrite { committed } => committed,
+        _ => 0,
     }
 }
 
 // How many transfers of a course have this byte.
-fn count(course: &[u8], byte: u8) -> u32 {
-    let mut n = 0u32;
-    for i in 0..course.len() {
-        if course[i] == byte {
-            n = budget::more(n);
-        }
-    }
-    n
+fn count(course: &[u8], byte: u8) -> usize {
+    course.iter().filter(|b| **b == byte).count()
 }
 
 // The bytes of the blocks that were acknowledged before a run stopped: where it was cut, one for each transfer that was heard.
 fn acknowledged(end: End, course: &[u8]) -> usize {
     match end {
-        End::Cut => bytes::least(count(course, 0) as usize, 3) * 32,
-        End::Answered(answer) => count_of(answer),
+        End::Cut => count(course, 0).min(3) * 32,
+        End::Answered(answer) => committed_of(answer),
     }
 }
 
-// Whether a run stopped before its call had ended well.
-fn has_stopped(end: End) -> bool {
-    match end {
-        End::Cut => true,
-        End::Answered(answer) => answer.number() != 0,
+// What stands where the block that is due goes, where a run stopped before its call had ended well.
+fn at_stop(
+    end: End,
+    course: &[u8],
+    flash: &[u8; FLASH_BYTES],
+    old: &[u8; FLASH_BYTES],
+    counts: &mut Counts,
+) {
+    if !matches!(end, End::Answered(Answer::Done)) {
+        let n = acknowledged(end, course).min(70);
+        let new = *flash == laid(old, n + 32);
+        counts.stopped(*flash == laid(old, n), new, count(course, 2) == 0);
     }
-}
-
-// What stands at a stop where the block that is due goes.
-fn at_stop(end: End, course: &[u8], flash: &[u8], old: &[u8], counts: Counts) -> Counts {
-    if has_stopped(end) {
-        let n = bytes::least(acknowledged(end, course), 70);
-        let new = holds(flash, old, n + 32);
-        return counts.stopped(holds(flash, old, n), new, count(course, 2) == 0);
-    }
-    counts
 }
 
 // A run that stopped is gone on with.
 fn go_on(config: Config, run: Run, flash: &mut [u8], work: &mut [u8]) {
-    let payload = PAYLOAD;
-    let mut buffer = [0u8; 0];
-    let heard = HEARD;
-    let end = run.end;
-    let link = run.link;
-    match end {
+    match run.end {
         End::Cut => {
-            link.run(&payload, &mut buffer, work, flash, &heard);
+            run.link.run(&PAYLOAD, &mut [], work, flash, &HEARD);
         }
-        End::Answered(answer) => {
-            if answer.number() != 0 {
-                send(config, count_of(answer), flash, work);
-            }
-        }
+        End::Answered(Answer::Done) => {}
+        End::Answered(answer) => send(config, committed_of(answer), flash, work),
     }
 }
 
 // The write over one course, gone on with where it stopped.
-fn run(config: Config, course: &[u8], old: &[u8], clean: &[u8], counts: Counts) -> Counts {
-    let payload = PAYLOAD;
-    let mut flash = [0u8; 8192];
+fn run(
+    config: Config,
+    course: &[u8],
+    old: &[u8; FLASH_BYTES],
+    clean: &[u8; FLASH_BYTES],
+    counts: &mut Counts,
+) {
+    let mut flash = *old;
     let mut work = [0u8; 39];
-    bytes::copy_block(&mut flash, old, FLASH_BYTES);
-    let run = write(config, ADDRESS, &payload, &mut work, &mut flash, course);
-    let end = run.end;
-    let counted = at_stop(end, course, &flash, old, counts);
+    let run = write(config, ADDRESS, &PAYLOAD, &mut work, &mut flash, course);
+    at_stop(run.end, course, &flash, old, counts);
     go_on(config, run, &mut flash, &mut work);
-    let equal = check::same(&flash, clean);
-    counted.ended(end).compared(equal)
-}
-
-// Every course of one length.
-fn each(config: Config, length: usize, old: &[u8], clean: &[u8], counts: Counts) -> Counts {
-    let courses = course::count(length);
-    let mut counted = counts;
-    for number in 0..courses {
-        let digits = course::of(number);
-        counted = run(config, bytes::front(&digits, length), old, clean, counted);
-    }
-    counted
+    counts.ended(run.end);
+    counts.compared(flash == *clean);
 }
 
 // Every course of up to seven transfers at one setting, and its line.
-fn setting(retries: u16, pec: bool, old: &[u8], clean: &[u8]) {
+fn setting(
+    rt: &impl Print,
+    retries: u16,
+    pec: bool,
+    old: &[u8; FLASH_BYTES],
+    clean: &[u8; FLASH_BYTES],
+) -> io::Result<()> {
     let config = Config {
-        max_write_retries: retries,
         max_read_retries: 9, // which no write looks at
-        pec_write: pec,
         pec_read: false,
-        growing_waits: false,
+        ..settings(retries, pec)
     };
-    let mut counted = Counts::new();
-    for length in 0..8usize {
-        counted = each(config, length, old, clean, counted);
+    let mut counts = Counts::default();
+    course::each(|course| run(config, course, old, clean, &mut counts));
+    println!(rt; "retries {retries} pec {}: {counts}", pec as u8)
+}
+
+// The line of each setting.
+fn all(rt: &impl Print) -> io::Result<()> {
+    let mut old = [0u8; FLASH_BYTES];
+    flash::fill(&mut old);
+    let clean = laid(&old, 70);
+    for retries in 0..3u16 {
+        setting(rt, retries, false, &old, &clean)?;
+        setting(rt, retries, true, &old, &clean)?;
     }
-    print(retries, pec, counted);
+    Ok(())
 }
 
-// A word and a number.
-fn item(word: &[u8], n: u32) {
-    io::write_all(STDOUT_FILENO, word);
-    io::print_decimal(STDOUT_FILENO, n as u64);
-}
-
-// The line of a setting.
-fn print(retries: u16, pec: bool, counts: Counts) {
-    item(b"retries ", retries as u32);
-    item(b" pec ", pec as u32);
-    item(b": runs ", counts.runs);
-    item(b" cuts ", counts.cuts);
-    item(b" done ", counts.done);
-    item(b" bus errors ", counts.bus_errors);
-    item(b" timeouts ", counts.timeouts);
-    item(b" partial ", counts.partial);
-    item(b" others ", counts.others);
-    item(b" next old ", counts.next_old);
-    item(b" next new ", counts.next_new);
-    item(b" new without a 2 ", counts.new_without);
-    item(b" clean ", counts.clean);
-    io::write_all(STDOUT_FILENO, b"\n");
+fn main(rt: HostRuntime) {
+    // A write that fails is not told.
+    let _ = all(&rt);
 }

@@ -9,12 +9,21 @@ mod runs;
 mod seen;
 
 use fixture::flash;
+use model_gauge::gauge::FLASH_BYTES;
+use std::io;
 
-fn main() {
-    let mut old = [0u8; 8192];
+// The line of each setting.
+fn all(rt: &impl Print) -> io::Result<()> {
+    let mut old = [0u8; FLASH_BYTES];
     flash::fill(&mut old);
     for retries in 0..3u16 {
-        runs::setting(retries, false, &old);
-        runs::setting(retries, true, &old);
+        runs::setting(rt, retries, false, &old)?;
+        runs::setting(rt, retries, true, &old)?;
     }
+    Ok(())
+}
+
+fn main(rt: HostRuntime) {
+    // A write that fails is not told.
+    let _ = all(&rt);
 }

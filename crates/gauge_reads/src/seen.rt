@@ -1,14 +1,13 @@
 // How runs ended and what they left, and its line.
 use courses::course::End;
-use courses::run::Link;
-use engine::budget;
+use courses::run::{Link, Run};
+use fixture::counted::one_more;
 use fixture::digest;
-
-// The number of standard output.
-const STDOUT_FILENO: i32 = 1;
+use protocol::error::Answer;
+use std::fmt;
 
 // How many runs ended how, how many buffers had the flash's bytes in the end, and digests of what stood where the runs stopped and in the end.
-#[derive(Clone, Copy)]
+#[derive(Clone, Copy, Default)]
 pub(crate) struct Seen {
     runs: u32,
     cuts: u32,
@@ -20,98 +19,60 @@ pub(crate) struct Seen {
     ends: u64,
 }
 
+// A run's end as a number of its digest: the answer's, or 255 for a run that was cut.
+fn number(end: End) -> u8 {
+    match end {
+        End::Cut => 255,
+        End::Answered(answer) => answer.number(),
+    }
+}
+
 impl Seen {
-    pub(crate) fn new() -> Seen {
-        Seen {
-            runs: 0,
-            cuts: 0,
-            done: 0,
-            timeouts: 0,
-            others: 0,
-            whole: 0,
-            stops: 0,
-            ends: 0,
-        }
-    }
-
-    // One answer more, by its number.
-    fn answered(mut self, number: u8) -> Seen {
-        self.stops = digest::number(self.stops, number as u64);
-        if number == 0 {
-            self.done = budget::more(self.done);
-            return self;
-        }
-        if number == 2 {
-            self.timeouts = budget::more(self.timeouts);
-            return self;
-        }
-        self.others = budget::more(self.others);
-        self
-    }
-
-    // One cut more.
-    fn cut(mut self) -> Seen {
-        self.stops = digest::number(self.stops, 255);
-        self.cuts = budget::more(self.cuts);
-        self
-    }
-
-    // One end more.
-    fn ended(mut self, end: End) -> Seen {
-        self.runs = budget::more(self.runs);
+    // One run more, which ended so.
+    fn ended(&mut self, end: End) {
+        one_more(&mut self.runs);
         match end {
-            End::Cut => self.cut(),
-            End::Answered(answer) => self.answered(answer.number()),
+            End::Cut => one_more(&mut self.cuts),
+            End::Answered(Answer::Done) => one_more(&mut self.done),
+            End::Answered(Answer::Timeout) => one_more(&mut self.timeouts),
+            End::Answered(_) => one_more(&mut self.others),
         }
     }
 
-    // One run more, which ended so and left this call, gauge and buffer.
-    pub(crate) fn stopped(self, end: End, link: Link, buffer: &[u8]) -> Seen {
-        let call = link.call;
-        let tally = call.tally();
-        let gauge = link.gauge;
-        let mut seen = self.ended(end);
-        let waited = digest::number(seen.stops, tally.waits as u64);
-        let made = digest::number(waited, tally.transfers as u64);
-        let pointed = digest::number(made, gauge.pointer as u64);
-        seen.stops = digest::bytes(pointed, buffer);
-        seen
+    // One run more, and what it left in the buffer.
+    pub(crate) fn stopped(&mut self, run: Run, buffer: &[u8]) {
+        let tally = run.link.call.tally();
+        self.ended(run.end);
+        for n in [
+            u64::from(number(run.end)),
+            u64::from(tally.waits),
+            u64::from(tally.transfers),
+            u64::from(run.link.gauge.pointer),
+        ] {
+            self.stops = digest::number(self.stops, n);
+        }
+        self.stops = digest::bytes(self.stops, buffer);
     }
 
     // What a run left once it was gone on with; whether the buffer had the flash's bytes.
-    pub(crate) fn over(mut self, link: Link, buffer: &[u8], whole: bool) -> Seen {
-        let gauge = link.gauge;
-        self.ends = digest::bytes(digest::number(self.ends, gauge.pointer as u64), buffer);
+    pub(crate) fn over(&mut self, link: Link, buffer: &[u8], whole: bool) {
+        let pointed = digest::number(self.ends, u64::from(link.gauge.pointer));
+        self.ends = digest::bytes(pointed, buffer);
         if whole {
-            self.whole = budget::more(self.whole);
+            one_more(&mut self.whole);
         }
-        self
-    }
-
-    // The line of a setting.
-    pub(crate) fn say(self, retries: u16, pec: bool) {
-        item(b"retries ", retries as u32);
-        item(b" pec ", pec as u32);
-        item(b": runs ", self.runs);
-        item(b" cuts ", self.cuts);
-        item(b" done ", self.done);
-        item(b" timeouts ", self.timeouts);
-        item(b" others ", self.others);
-        item(b" whole ", self.whole);
-        digits(b" stops ", self.stops);
-        digits(b" ends ", self.ends);
-        io::write_all(STDOUT_FILENO, b"\n");
     }
 }
 
-// A word and a number.
-fn item(word: &[u8], n: u32) {
-    io::write_all(STDOUT_FILENO, word);
-    io::print_decimal(STDOUT_FILENO, n as u64);
-}
-
-// A word and a digest.
-fn digits(word: &[u8], digest: u64) {
-    io::write_all(STDOUT_FILENO, word);
-    io::print_hex(STDOUT_FILENO, digest, 8);
+impl fmt::Display for Seen {
+    fn fmt<W: fmt::Write>(&self, f: &mut fmt::Formatter<W>) -> fmt::Result {
+        write!(
+            f,
+            "runs {} cuts {} done {}",
+            self.runs, self.cuts, self.done
+        )?;
+        write!(f, " timeouts {} others {}", self.timeouts, self.others)?;
+        write!(f, " whole {}", self.whole)?;
+        write!(f, " stops {:08x} ends {:08x}", self.stops, self.ends)
+    }
 }

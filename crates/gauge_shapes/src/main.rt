@@ -9,10 +9,18 @@ mod reads;
 mod seen;
 
 use fixture::flash;
+use model_gauge::gauge::FLASH_BYTES;
+use std::io;
 
-fn main() {
-    let mut old = [0u8; 8192];
+// Frames and then reads.
+fn all(rt: &impl Print) -> io::Result<()> {
+    let mut old = [0u8; FLASH_BYTES];
     flash::fill(&mut old);
-    frames::all(&old);
-    reads::all(&old);
+    frames::all(rt, &old)?;
+    reads::all(rt, &old)
+}
+
+fn main(rt: HostRuntime) {
+    // A write that fails is not told.
+    let _ = all(&rt);
 }

@@ -8,54 +8,49 @@ mod runs;
 mod say;
 
 use fixture::flash;
+use model_gauge::gauge::FLASH_BYTES;
+use std::io;
 
-// Both calls from one start, without a PEC and with it.
-fn both(address: u16, length: usize, old: &[u8]) {
-    runs::write(address, length, false, old);
-    runs::write(address, length, true, old);
-    runs::read(address, length, false, old);
-    runs::read(address, length, true, old);
-}
+// Starts, and how many bytes go from there.
+const STARTS: [(u16, usize); 18] = [
+    // At the first addresses, and with nothing to move.
+    (0x4000, 0),
+    (0xFFFF, 0),
+    (0x4000, 1),
+    (0x4000, 70),
+    (0x4001, 70),
+    (0x401F, 33),
+    // From one page to the next: inside a block, between two, and with a last block of one byte.
+    (0x40F0, 70),
+    (0x40FF, 33),
+    (0x41C0, 65),
+    (0x4FC1, 64),
+    // Up to the last address.
+    (0x5FBA, 70),
+    (0x5FE0, 32),
+    (0x5FFF, 1),
+    // Outside.
+    (0x5FBB, 70),
+    (0x5FFF, 2),
+    (0x6000, 1),
+    (0x3FFF, 1),
+    (0xFFFF, 2),
+];
 
-// At the first addresses, and with nothing to move.
-fn first(old: &[u8]) {
-    both(0x4000, 0, old);
-    both(0xFFFF, 0, old);
-    both(0x4000, 1, old);
-    both(0x4000, 70, old);
-    both(0x4001, 70, old);
-    both(0x401F, 33, old);
-}
-
-// From one page to the next: inside a block, between two, and with a last block of one byte.
-fn across(old: &[u8]) {
-    both(0x40F0, 70, old);
-    both(0x40FF, 33, old);
-    both(0x41C0, 65, old);
-    both(0x4FC1, 64, old);
-}
-
-// Up to the last address.
-fn last(old: &[u8]) {
-    both(0x5FBA, 70, old);
-    both(0x5FE0, 32, old);
-    both(0x5FFF, 1, old);
-}
-
-// Outside.
-fn outside(old: &[u8]) {
-    both(0x5FBB, 70, old);
-    both(0x5FFF, 2, old);
-    both(0x6000, 1, old);
-    both(0x3FFF, 1, old);
-    both(0xFFFF, 2, old);
-}
-
-fn main() {
-    let mut old = [0u8; 8192];
+// Both calls from each start, without a PEC and with it.
+fn all(rt: &impl Print) -> io::Result<()> {
+    let mut old = [0u8; FLASH_BYTES];
     flash::fill(&mut old);
-    first(&old);
-    across(&old);
-    last(&old);
-    outside(&old);
+    for (address, length) in STARTS {
+        runs::write(rt, address, length, false, &old)?;
+        runs::write(rt, address, length, true, &old)?;
+        runs::read(rt, address, length, false, &old)?;
+        runs::read(rt, address, length, true, &old)?;
+    }
+    Ok(())
+}
+
+fn main(rt: HostRuntime) {
+    // A write that fails is not told.
+    let _ = all(&rt);
 }

@@ -1,64 +1,58 @@
-// Writes and reads over the course.
-use crate::say;
+// Writes and reads over the course, and their lines.
+use crate::say::Left;
 use calls::call::Call;
 use calls::kind::Kind;
 use courses::run::{Link, Run};
+use fixture::digest;
+use fixture::flash::PAYLOAD;
+use fixture::settings::settings;
 use model_gauge::gauge::{FLASH_BYTES, Gauge};
 use protocol::bytes;
+use std::io;
 
-const PAYLOAD: [u8; 70] =
-    *b"Three blocks of history for one pack: two of thirty-two bytes, and six";
+// Losses before the gauge acts and after, and then enough transfers that are heard.
+const COURSE: [u8; 12] = [1, 0, 2, 0, 0, 1, 0, 0, 0, 0, 0, 0];
 
-// A call over the course, with its settings.
+// A call over the course, with as many retries as the course has losses.
 fn run(kind: Kind, pec: bool, payload: &[u8], buffer: &mut [u8], flash: &mut [u8]) -> Run {
-    let course = say::COURSE;
     let mut work = [0u8; 39];
-    let call = Call::start(kind, say::settings(pec), payload, buffer, &work);
     let link = Link {
-        call,
+        call: Call::start(kind, settings(3, pec), payload, buffer, &work),
         gauge: Gauge::new(),
     };
-    link.run(payload, buffer, &mut work, flash, &course)
-}
-
-// A call with the first bytes of a buffer.
-fn part(kind: Kind, pec: bool, length: usize, buffer: &mut [u8], flash: &mut [u8]) -> Run {
-    let n = bytes::least(length, buffer.len());
-    run(kind, pec, b"", &mut buffer[..n], flash)
+    link.run(payload, buffer, &mut work, flash, &COURSE)
 }
 
 // The line of a write.
-pub(crate) fn write(address: u16, length: usize, pec: bool, old: &[u8]) {
-    let payload = PAYLOAD;
-    let mut buffer = [0u8; 0];
-    let mut flash = [0u8; 8192];
-    bytes::copy_block(&mut flash, old, FLASH_BYTES);
-    say::start(b"write ", address, length, pec);
-    say::left(run(
-        Kind::WriteDataflash(address),
-        pec,
-        bytes::front(&payload, length),
-        &mut buffer,
-        &mut flash,
-    ));
-    say::bytes(b" flash ", &flash);
-    say::words(b"\n");
+pub(crate) fn write(
+    rt: &impl Print,
+    address: u16,
+    length: usize,
+    pec: bool,
+    old: &[u8; FLASH_BYTES],
+) -> io::Result<()> {
+    let mut flash = *old;
+    let payload = bytes::front(&PAYLOAD, length);
+    let kind = Kind::WriteDataflash(address);
+    let left = Left(run(kind, pec, payload, &mut [], &mut flash));
+    print!(rt; "write {address:04x} {length} pec {}: {left}", pec as u8)?;
+    println!(rt; " flash {:08x}", digest::bytes(0, &flash))
 }
 
-// The line of a read.
-pub(crate) fn read(address: u16, length: usize, pec: bool, old: &[u8]) {
+// The line of a read, of at most 70 bytes.
+pub(crate) fn read(
+    rt: &impl Print,
+    address: u16,
+    length: usize,
+    pec: bool,
+    old: &[u8; FLASH_BYTES],
+) -> io::Result<()> {
+    let mut flash = *old;
     let mut buffer = [0xA5u8; 70];
-    let mut flash = [0u8; 8192];
-    bytes::copy_block(&mut flash, old, FLASH_BYTES);
-    say::start(b"read ", address, length, pec);
-    say::left(part(
-        Kind::ReadDataflash(address),
-        pec,
-        length,
-        &mut buffer,
-        &mut flash,
-    ));
-    say::bytes(b" flash ", &flash);
-    say::bytes(b" buffer ", &buffer);
-    say::words(b"\n");
+    let n = length.min(70);
+    let kind = Kind::ReadDataflash(address);
+    let left = Left(run(kind, pec, b"", &mut buffer[..n], &mut flash));
+    print!(rt; "read {address:04x} {length} pec {}: {left}", pec as u8)?;
+    print!(rt; " flash {:08x}", digest::bytes(0, &flash))?;
+    println!(rt; " buffer {:08x}", digest::bytes(0, &buffer))
 }

@@ -3,57 +3,54 @@
 // `stdout` comes from tests/pec_vectors.py, a program of its own that goes by the SMBus rule.
 #![tactic(auto)]
 
-// The number of standard output.
-const STDOUT_FILENO: i32 = 1;
+use std::io;
 
-fn main() {
-    let mut space = [0u8; 8192];
-    let mut x = 1;
-    for n in 0..65usize {
-        x = four(x, &mut space[..n]);
-    }
-    four(x, &mut space);
-}
-
-// Prints the lines of four strings of the slice's length, and answers where the sequence then stands.
-fn four(x: u64, s: &mut [u8]) -> u64 {
-    let mut at = x;
-    for _ in 0..4u8 {
-        at = fill(at, s);
-        line(s);
-    }
-    at
+// The number after x in the sequence, whose highest byte is the sequence's next.
+fn next(x: u32) -> u32 {
+    x.wrapping_mul(1103515245).wrapping_add(12345)
 }
 
 // Fills the slice with the sequence's next bytes, and answers where the sequence then stands.
-fn fill(x: u64, s: &mut [u8]) -> u64 {
+fn fill(x: u32, s: &mut [u8]) -> u32 {
     let mut at = x;
-    for i in 0..s.len() {
+    for byte in s.iter_mut() {
         at = next(at);
-        s[i] = (at / 16777216 % 256) as u8;
+        let [highest, _, _, _] = at.to_be_bytes();
+        *byte = highest;
     }
     at
 }
 
-// The number after x in the sequence: below 2 to the 32nd, and its highest byte is the sequence's next.
-fn next(x: u64) -> u64 {
-    (x % 4294967296 * 1103515245 + 12345) % 4294967296
-}
-
 // Prints a string's line. That both forms give the same code is proved: `expect` requires it.
-fn line(s: &[u8]) {
+fn line(rt: &impl Print, s: &[u8]) -> io::Result<()> {
     let code = smbus_pec::pec(0, s);
     let by_table = smbus_pec::pec_table(0, s);
     check::expect(code == by_table);
-    print(s.len(), code, by_table);
+    println!(rt; "{} {code:02x} {by_table:02x}", s.len())
 }
 
-// Prints a length and two codes on a line.
-fn print(n: usize, code: u8, by_table: u8) {
-    io::print_decimal(STDOUT_FILENO, n as u64);
-    io::write_all(STDOUT_FILENO, b" ");
-    io::print_hex(STDOUT_FILENO, code as u64, 2);
-    io::write_all(STDOUT_FILENO, b" ");
-    io::print_hex(STDOUT_FILENO, by_table as u64, 2);
-    io::write_all(STDOUT_FILENO, b"\n");
+// Prints the lines of four strings of the slice's length, and answers where the sequence then stands.
+fn four(rt: &impl Print, x: u32, s: &mut [u8]) -> io::Result<u32> {
+    let mut at = x;
+    for _ in 0..4u8 {
+        at = fill(at, s);
+        line(rt, s)?;
+    }
+    Ok(at)
+}
+
+// The lines of each length.
+fn all(rt: &impl Print) -> io::Result<()> {
+    let mut space = [0u8; 8192];
+    let mut x = 1;
+    for n in 0..65usize {
+        x = four(rt, x, &mut space[..n])?;
+    }
+    four(rt, x, &mut space)?;
+    Ok(())
+}
+
+fn main(rt: HostRuntime) {
+    // A write that fails is not told.
+    let _ = all(&rt);
 }

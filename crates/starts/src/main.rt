@@ -6,9 +6,17 @@ mod figures;
 mod rows;
 mod say;
 
-fn main() {
-    rows::all();
-    figures::voltages();
-    figures::settings();
-    figures::bus();
+use std::io;
+
+// The rows, and then the figures.
+fn all(rt: &impl Print) -> io::Result<()> {
+    rows::all(rt)?;
+    figures::voltages(rt)?;
+    figures::settings(rt)?;
+    figures::bus(rt)
+}
+
+fn main(rt: HostRuntime) {
+    // A write that fails is not told.
+    let _ = all(&rt);
 }

@@ -1,96 +1,57 @@
-// What is printed, and the settings that the rows share.
-use engine::bus::{Outcome, Phase, Transfer};
-use protocol::common::Config;
+// What is printed of a start.
+use engine::bus::{Phase, Transfer};
+use fixture::digits::Digits;
+use std::fmt;
 
-// The number of standard output.
-const STDOUT_FILENO: i32 = 1;
-
-// Words as they stand.
-pub(crate) fn words(text: &[u8]) {
-    io::write_all(STDOUT_FILENO, text);
+// What a call is lent, and whether it has a PEC: n bytes of payload or buffer, and a work buffer.
+#[derive(Clone, Copy)]
+pub(crate) struct Lent {
+    pub(crate) n: usize,
+    pub(crate) work: usize,
+    pub(crate) pec: bool,
 }
 
-// A number after a word.
-pub(crate) fn number(word: &[u8], n: usize) {
-    words(word);
-    io::print_decimal(STDOUT_FILENO, n as u64);
-}
-
-// An address after a word.
-pub(crate) fn address(word: &[u8], address: u16) {
-    words(word);
-    io::print_hex(STDOUT_FILENO, address as u64, 4);
-}
-
-// What is started: the call, the length of its payload or buffer, a work buffer that is not of 39 bytes, and whether there is no PEC.
-pub(crate) fn title(name: &[u8], length: usize, work: usize, pec: bool) {
-    number(name, length);
-    if work != 39 {
-        number(b", work ", work);
-    }
-    if !pec {
-        words(b" without PEC");
+// The length, a work buffer that is not of 39 bytes, and whether there is no PEC.
+impl fmt::Display for Lent {
+    fn fmt<W: fmt::Write>(&self, f: &mut fmt::Formatter<W>) -> fmt::Result {
+        write!(f, "{}", self.n)?;
+        if self.work != 39 {
+            write!(f, ", work {}", self.work)?;
+        }
+        if !self.pec {
+            write!(f, " without PEC")?;
+        }
+        Ok(())
     }
 }
 
 // How a call stands at its start.
-pub(crate) fn stand(phase: Phase) {
-    match phase {
-        Phase::Waiting => words(b" : waits"),
-        Phase::Ended(answer) => number(b" : ", answer.number() as usize),
-    }
-}
+#[derive(Clone, Copy)]
+pub(crate) struct Stand(pub(crate) Phase);
 
-// A byte as two digits.
-pub(crate) fn byte(b: u8) {
-    io::print_hex(STDOUT_FILENO, b as u64, 2);
-}
-
-// Bytes as digits.
-fn bytes(s: &[u8]) {
-    for i in 0..s.len() {
-        byte(s[i]);
-    }
-}
-
-// How many bytes a transfer sends: a read none.
-pub(crate) fn length(transfer: Transfer) -> usize {
-    match transfer {
-        Transfer::Write(n) => n,
-        _ => 0,
-    }
-}
-
-// A transfer and the frame that it sends, and what becomes of it: a frame is acknowledged, a read times out, which ends a call that has no retries.
-pub(crate) fn transfer(transfer: Transfer, frame: &[u8]) -> Outcome {
-    match transfer {
-        Transfer::Write(_) => {
-            words(b" [");
-            bytes(frame);
-            words(b"]");
-            Outcome::Acknowledged
+impl fmt::Display for Stand {
+    fn fmt<W: fmt::Write>(&self, f: &mut fmt::Formatter<W>) -> fmt::Result {
+        match self.0 {
+            Phase::Waiting => write!(f, "waits"),
+            Phase::Ended(answer) => write!(f, "{}", answer.number()),
         }
-        Transfer::Read(command, count) => {
-            words(b" ");
-            byte(command);
-            number(b"?", count);
-            Outcome::Timeout
-        }
-        Transfer::Refused(_) => {
-            words(b" !");
-            Outcome::Timeout
-        }
-        Transfer::Ended(_) => Outcome::Timeout,
     }
 }
 
-// No retries, with and without PEC both ways.
-pub(crate) fn settings(pec: bool) -> Config {
-    Config {
-        max_write_retries: 0,
-        max_read_retries: 0,
-        pec_write: pec,
-        pec_read: pec,
-        growing_waits: false,
+// A transfer and the frame that it sends; nothing of a call that has ended.
+#[derive(Clone, Copy)]
+pub(crate) struct Shown<'a> {
+    pub(crate) transfer: Transfer,
+    pub(crate) frame: &'a [u8],
+}
+
+impl fmt::Display for Shown<'_> {
+    fn fmt<W: fmt::Write>(&self, f: &mut fmt::Formatter<W>) -> fmt::Result {
+        match self.transfer {
+            Transfer::Write(_) => write!(f, " [{}]", Digits(self.frame)),
+            Transfer::Read(command, count) => write!(f, " {command:02x}?{count}"),
+            Transfer::Refused(_) => write!(f, " !"),
+            Transfer::Ended(_) => Ok(()),
+        }
     }
 }

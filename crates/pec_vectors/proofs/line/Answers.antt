@@ -5,4 +5,4 @@ use Rattle.smbus_pec.proofs.Laws.{forms_agree}
 use Rattle.pec_vectors.proofs.line.Goals as goal
 
 pub expect-requires : goal.expect-requires
-expect-requires c = eq-eqb _ _ (forms_agree 0 _ c.pec-code.ensures c.pec_table-by_table.ensures)
+expect-requires g c = eq-eqb _ _ (forms_agree 0 _ c.pec-code.ensures c.pec_table-by_table.ensures)
