@@ -94,6 +94,7 @@ impl Count {
 pub struct Reader {
     pub count: Count,
     // Its digits, as a number after a 1: 1 between two lines, 1ABC hex after A, B and C. 0 where it is refused; then nothing that follows is looked at.
+    // Stays: tried, and with an `Option<u32>`, none where it is refused, the line of a pack that was read takes 67 instructions in place of 65 (benches/count).
     pub line: u32,
 }
 

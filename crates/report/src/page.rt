@@ -45,6 +45,7 @@ impl Page {
     pub(crate) fn put_number(&mut self, n: u32)
         ensures { self.new ≡ put_number n self.old }
     {
+        // Stays: `write!` is no plainer, since it leaves out what has no room piece by piece, and needs an `impl fmt::Write` of the page besides.
         let mut digits = [0u8; 20];
         let places = io::decimal(n as u64, &mut digits);
         self.put(&digits[..places]);
