@@ -25,7 +25,7 @@ use Rattle.calls.specs.declared.call.Call.{Call}
 use Rattle.calls.specs.declared.call.Call.TheVariants as call
 use Rattle.requests.specs.Outcome.{acknowledged_line, error_line, timeout_line, outcome_line}
 use Rattle.printing.specs.Printing.{write_said, end_said}
-use Rattle.dialogue.specs.Dialogue.{asked, last, size_of, tell_of, zeros, line_shown}
+use Rattle.dialogue.specs.Dialogue.{asked, last, tell_of, zeros, line_shown}
 use Rattle.hexadecimal.specs.Line.{line_bytes}
 use Rattle.dialogue.specs.Bench.{then_say, report_then, told_then, call_lines, call_run}
 use Rattle.original.specs.Bus.{BusOutcome, Acknowledged, BusError, Timeout, delivered, Made, write, read, brings, Ok, Err, Waiting, Read, ◌leaving◌, waits_in}
@@ -241,7 +241,7 @@ module _ (per_frame growing : Bool) (retries : ℕ) (rust : List BusOutcome → 
   -- by what the call shows
   by_shown : (lines : List (List ℕ)) → On lines → (t : Transfer) → next_of c payload (length buffer) 39 ≡ t
       → run_of rust ms os lines rest ≡ transfer_lines done ++ call_run c payload buffer lines rest
-  unfolding fed zeros line_shown tell_of size_of write_said transfer_line shows◌sending◌transfer◌answer◌ brings
+  unfolding fed zeros line_shown tell_of write_said transfer_line shows◌sending◌transfer◌answer◌ brings
   by_shown [] on (transfer.Write n) e = cut (write (part_of c payload shown n)) (λ f g. rw e) (rw e) (rw e at (takes c payload buffer (rw e tt)))
   by_shown (text ∷ lines) on (transfer.Write n) e =
       goes_on (write (part_of c payload shown n)) (λ f g. rw e) (rw e) (rw e at (takes c payload buffer (rw e tt))) lines (on (write (part_of c payload shown n))) text

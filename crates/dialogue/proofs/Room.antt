@@ -1,6 +1,6 @@
 -- Every line of the bench has room where the longest has, so that it is printed whole.
 -- Assumes nothing.
-use Rattle.engine.specs.Bus.{Reported}
+use Rattle.engine.specs.Bus.{sent_by, Reported}
 use Rattle.std.specs.Prelude.{Err, Ok}
 use Prim.Native.Nat.{ℕ, ◌+◌, ◌*◌, ◌≤◌}
 use mathlib.Core.Path.{◌≡◌, refl, sym, subst}
@@ -30,7 +30,7 @@ use Rattle.requests.specs.Request.{Request, request_line}
 use Rattle.requests.specs.Retired.{retired_kind}
 use Rattle.requests.proofs.Small.{Small, small_request}
 use Rattle.printing.specs.Printing.{printed_of, out_printed, quad_of, write_said, read_said, end_said, cut_said, longest_said}
-use Rattle.dialogue.specs.Dialogue.{bytes_said, size_of, tell_of, zeros, line_shown, last_of, unfinished_of, close_of}
+use Rattle.dialogue.specs.Dialogue.{bytes_said, tell_of, zeros, line_shown, last_of, unfinished_of, close_of}
 use Rattle.dialogue.specs.declared.Run.{Run}
 use Rattle.dialogue.specs.declared.Run.TheVariants as run
 use Rattle.hexadecimal.specs.Line.{line_bytes, feed_bytes}
@@ -97,7 +97,7 @@ short_line : (c : Call) (payload buffer : List ℕ) → length payload ≤ 8192 
 unfolding line_shown
 short_line c payload buffer p b =
     short_tell (next_of c payload (length buffer) 39) _ (tally_of c) buffer
-    (length_part c payload (work_after c payload (length buffer) zeros) (size_of (next_of c payload (length buffer) 39)) p (length_work c payload (length buffer))) b
+    (length_part c payload (work_after c payload (length buffer) zeros) (sent_by (next_of c payload (length buffer) 39)) p (length_work c payload (length buffer))) b
 
 -- a report leaves the buffer as long as it was
 short_after : (payload : List ℕ) (u : Reported Call) (buffer : List ℕ) → length buffer ≤ 8192 → GoodAfter Short (λ c after. length after ≤ 8192) payload u buffer

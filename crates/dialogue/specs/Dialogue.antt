@@ -1,6 +1,6 @@
 -- A run of the bench program, line by line: what a line leads to, and the line that answers it. (01, The bench program)
 -- Assumes nothing.
-use Rattle.engine.specs.Bus.{Reported}
+use Rattle.engine.specs.Bus.{Reported, sent_by}
 use Rattle.std.specs.Prelude.{ℕ, min, List, [], ◌++◌, length, take, drop, replicate, leb, eqb, Option, Some, None, Result, Ok, Err}
 use Rattle.hexadecimal.specs.Hex.{decoded_of, out_decoded}
 use Rattle.hexadecimal.specs.declared.DecodeError.{DecodeError}
@@ -65,13 +65,6 @@ bytes_in line bytes = take (byte_count line (length bytes)) (out_decoded line by
 unfoldable pub filled : ℕ → List ℕ → List ℕ
 filled n buffer = over (replicate (min n (length buffer)) 0xA5) buffer
 
--- how many bytes a transfer sends
-unfoldable pub size_of : Transfer → ℕ
-size_of (transfer.Write n) = n
-size_of (transfer.Read command n) = 0
-size_of (transfer.Refused a) = 0
-size_of (transfer.Ended a) = 0
-
 -- a transfer with its frame, or the end of a call with what it counted and its buffer
 unfoldable pub tell_of : Transfer → List ℕ → Tally → List ℕ → Saying
 tell_of (transfer.Write n) frame tally buffer = asked (write_said frame)
@@ -87,7 +80,7 @@ zeros = replicate 39 0
 unfoldable pub line_shown : Call → List ℕ → List ℕ → Saying
 line_shown call payload buffer =
     tell_of (calls.next_of call payload (length buffer) 39)
-    (calls.part_of call payload (calls.work_after call payload (length buffer) zeros) (size_of (calls.next_of call payload (length buffer) 39)))
+    (calls.part_of call payload (calls.work_after call payload (length buffer) zeros) (sent_by (calls.next_of call payload (length buffer) 39)))
     (calls.tally_of call) buffer
 
 unfoldable pub show_of : Call → Place → List ℕ → List ℕ → Spoken

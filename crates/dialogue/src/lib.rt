@@ -4,16 +4,16 @@
 ghost use Rattle.std.specs.Prelude.{◌≡◌, length};
 ghost use Rattle.hexadecimal.specs.Hex.{out_decoded};
 ghost use Rattle.printing.specs.Printing.{printed_of, out_printed};
-ghost use Rattle.dialogue.specs.Dialogue.{byte_count, filled, size_of, said_of, bytes_said, tell_of, show_of, turned_of, say_of, hear_of, hear_buffer, go_on, go_buffer, room_for, open_of, refused_of, begin_of, begin_buffer, first_of, first_request, first_buffer, answer_of, request_after, outcome_after, buffer_after, last_of, unfinished_of, close_of};
+ghost use Rattle.dialogue.specs.Dialogue.{byte_count, filled, said_of, bytes_said, tell_of, show_of, turned_of, say_of, hear_of, hear_buffer, go_on, go_buffer, room_for, open_of, refused_of, begin_of, begin_buffer, first_of, first_request, first_buffer, answer_of, request_after, outcome_after, buffer_after, last_of, unfinished_of, close_of};
 
-use calls::call::{Call, Reported};
+use calls::call::Call;
 use engine::budget::Tally;
-use engine::bus::Transfer;
+use engine::bus::{Reported, Transfer};
 use protocol::bytes;
 use protocol::consts::LEAST_WORK_BUFFER;
 use protocol::error::Answer;
 use requests::request::Asked;
-use requests::{fields, outcome, request};
+use requests::{outcome, request};
 
 // Where a call's payload and buffer stand: the payload has `payload` bytes of the request line from byte `at` on, the buffer is the first `buffer` bytes
 // of what is lent.
@@ -66,18 +66,6 @@ fn fill(buffer: &mut [u8], n: usize)
     buffer[..end].fill(0xA5);
 }
 
-// How many bytes a transfer sends, where it is a write.
-fn size(transfer: Transfer) -> usize
-    ensures { result ≡ size_of transfer }
-{
-    match transfer {
-        Transfer::Write(n) => n,
-        Transfer::Read(_, _) => 0,
-        Transfer::Refused(_) => 0,
-        Transfer::Ended(_) => 0,
-    }
-}
-
 // A transfer with its frame, or the end of a call with what it counted and its buffer.
 fn tell(transfer: Transfer, frame: &[u8], tally: Tally, buffer: &[u8], out: &mut [u8]) -> Said
     ensures { (result ≡ said_of (tell_of transfer frame.now tally buffer.now) (length out.old)) × (out.new ≡ out_printed (bytes_said (tell_of transfer frame.now tally buffer.now)) out.old) }
@@ -97,7 +85,7 @@ fn show(call: Call, place: Place, payload: &[u8], buffer: &[u8], out: &mut [u8])
 {
     let mut work = [0u8; LEAST_WORK_BUFFER];
     let shown = call.next(payload, buffer, &mut work);
-    let frame = shown.call.to_send(payload, &work, size(shown.transfer));
+    let frame = shown.call.to_send(payload, &work, shown.transfer.sent());
     Turned {
         run: Run::Call {
             call: shown.call,
@@ -108,26 +96,26 @@ fn show(call: Call, place: Place, payload: &[u8], buffer: &[u8], out: &mut [u8])
 }
 
 // What came of a start or a report: the next transfer or the end of the call, or why the run is stopped.
-fn say(reported: Reported, place: Place, payload: &[u8], buffer: &[u8], out: &mut [u8]) -> Turned
+fn say(reported: Reported<Call>, place: Place, payload: &[u8], buffer: &[u8], out: &mut [u8]) -> Turned
     ensures { (result ≡ turned_of (say_of reported place payload.now buffer.now) (length out.old)) × (out.new ≡ out_printed (bytes_said (say_of reported place payload.now buffer.now).saying) out.old) }
 {
     match reported {
-        Reported::Refused(answer, call) => Turned {
+        Ok(call) => show(call, place, payload, buffer, out),
+        Err((answer, call)) => Turned {
             run: Run::Call { call, place },
             said: Said::Last(printing::end(answer, call.tally(), buffer, out)),
         },
-        Reported::Taken(call) => show(call, place, payload, buffer, out),
     }
 }
 
 // A call that was started, stopped with 8 where less is lent than its buffer of `len` bytes.
-fn lent(call: Call, len: usize, room: usize) -> Reported
+fn lent(call: Call, len: usize, room: usize) -> Reported<Call>
     ensures { result ≡ room_for call len room }
 {
     if len <= room {
-        Reported::Taken(call)
+        Ok(call)
     } else {
-        Reported::Refused(Answer::WrongBuffer, call)
+        Err((Answer::WrongBuffer, call))
     }
 }
 
@@ -137,7 +125,7 @@ fn open(asked: Asked, line: &[u8], buffer: &mut [u8], out: &mut [u8]) -> Turned
 {
     fill(buffer, asked.len);
     let work = [0u8; LEAST_WORK_BUFFER];
-    let payload = fields::rest(line, asked.at);
+    let payload = bytes::rest(line, asked.at);
     let own = bytes::front(buffer, asked.len);
     let call = Call::start(asked.kind, asked.config, payload, own, &work);
     let place = Place {
@@ -186,14 +174,14 @@ fn first(line: &[u8], request: &mut [u8], buffer: &mut [u8], out: &mut [u8]) -> 
 }
 
 // The bytes of an outcome line go to a call, with its own payload and buffer.
-fn hear(call: Call, line: &[u8], payload: &[u8], buffer: &mut [u8]) -> Reported
+fn hear(call: Call, line: &[u8], payload: &[u8], buffer: &mut [u8]) -> Reported<Call>
     ensures { (result ≡ hear_of call line.now (length payload.now) (length buffer.old)) × (buffer.new ≡ hear_buffer call line.now buffer.old) }
 {
     let Some(outcome) = outcome::read(line) else {
-        return Reported::Refused(Answer::BadLine, call);
+        return Err((Answer::BadLine, call));
     };
     let work = [0u8; LEAST_WORK_BUFFER];
-    call.report(outcome, fields::rest(line, 1), payload, buffer, &work)
+    call.report(outcome, bytes::rest(line, 1), payload, buffer, &work)
 }
 
 // The bytes of an outcome line go to a call, whose payload and buffer are taken from where they stand.

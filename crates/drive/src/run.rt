@@ -1,12 +1,11 @@
 // A call of a kind over scripts.
 use crate::marks;
 use crate::say::{Shown, Stand};
-use calls::call::{Call, Reported};
+use calls::call::Call;
 use calls::kind::Kind;
-use engine::bus::Transfer;
+use engine::bus::{Reported, Transfer};
 use fixture::digits::Digits;
 use fixture::settings::settings;
-use fixture::transfer::sent;
 use protocol::bytes;
 use protocol::common::Config;
 use std::io;
@@ -28,13 +27,13 @@ pub(crate) enum Lent {
 }
 
 // The call that a report hands back; a refusal is said.
-fn taken(rt: &impl Print, reported: Reported) -> io::Result<Call> {
+fn taken(rt: &impl Print, reported: Reported<Call>) -> io::Result<Call> {
     match reported {
-        Reported::Refused(a, same) => {
+        Err((a, same)) => {
             print!(rt; " ({})", a.number())?;
             Ok(same)
         }
-        Reported::Taken(next) => Ok(next),
+        Ok(next) => Ok(next),
     }
 }
 
@@ -63,7 +62,7 @@ fn step(
     let shown = call.next(payload, buffer, &mut work[..length]);
     let built = bytes::front(&work, length);
     let transfer = shown.transfer;
-    let frame = call.to_send(payload, built, sent(transfer));
+    let frame = call.to_send(payload, built, transfer.sent());
     print!(rt; " {}", Shown { transfer, frame })?;
     let n = reply(mark, transfer, &mut room);
     let came = bytes::front(&room, n);

@@ -16,7 +16,7 @@ write_of (Some n) = transfer.Write n
 write_of None = transfer.Refused answer.WrongBuffer
 
 -- how many bytes a transfer sends, where it is a write
-unfoldable pub sent_by : Transfer → ℕ
+abbrev pub sent_by : Transfer → ℕ
 sent_by (transfer.Write n) = n
 sent_by (transfer.Read command n) = 0
 sent_by (transfer.Refused a) = 0

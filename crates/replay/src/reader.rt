@@ -97,7 +97,7 @@ impl<F: Read> Reader<F> {
 
     // What follows its tag and a space.
     pub(crate) fn text(&self) -> &[u8] {
-        fields::rest(self.line(), 2)
+        bytes::rest(self.line(), 2)
     }
 
     // A line of so many bytes, or what there is in its place. Nothing is held of the next.

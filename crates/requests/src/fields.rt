@@ -1,5 +1,5 @@
-// Parts of a line: numbers, low byte first, where what the line lacks counts as 0; and what follows a place.
-ghost use Rattle.std.specs.Prelude.{◌≡◌, ◌<◌, get_or, drop};
+// Parts of a line: numbers, low byte first, where what the line lacks counts as 0.
+ghost use Rattle.std.specs.Prelude.{◌≡◌, ◌<◌, get_or};
 ghost use Rattle.requests.specs.Fields.{pair_at, quad_at};
 
 // The byte at a place.
@@ -23,11 +23,4 @@ pub(crate) fn quad(line: &[u8], at: usize) -> u32
     ensures { result ≡ quad_at at line.now }
 {
     u32::from(pair(line, at)) + u32::from(pair(line, at + 2)) * 65536
-}
-
-// What follows the first `at` bytes.
-pub fn rest(line: &[u8], at: usize) -> &[u8]
-    ensures { result.now ≡ drop at line.now }
-{
-    &line[at.min(line.len())..]
 }

@@ -3,8 +3,9 @@ ghost use Rattle.std.specs.Prelude.{◌≡◌, ◌<◌, length};
 ghost use Rattle.requests.specs.Request.{two_budgets, header_bytes, read_retries, config_of, header_of, unknown_flags, called_of, exact_of, asked_of, request_line};
 ghost use Rattle.requests.specs.Retired.{retired_kind};
 
-use crate::fields::{byte, pair, quad, rest};
+use crate::fields::{byte, pair, quad};
 use calls::kind::Kind;
+use protocol::bytes;
 use protocol::common::Config;
 use protocol::consts::{
     AUTH_KEY_DATA_LEN_BYTES, CHRG_VOLTAGE_OVERRIDE_SIZE_BYTES, SECURITY_KEYS_R5_DATA_LEN_BYTES,
@@ -237,6 +238,6 @@ pub fn read(line: &[u8]) -> Result<Asked, Answer>
     if line.len() < header.bytes as usize {
         return Err(Answer::BadLine);
     }
-    let bytes = rest(line, header.bytes as usize);
+    let bytes = bytes::rest(line, header.bytes as usize);
     Arguments { header, bytes }.asked(byte(line, 0))
 }

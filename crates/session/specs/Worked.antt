@@ -227,6 +227,6 @@ unfolding ascii bit_step bit_steps byte_step pec_of when◌then◌else◌ bytes.
     r5.mac_read r5.mac_write r5.send_access_key r5.write_mfg_info_c r5.whole_ask r5.read_mfg_info_c r5.write_mfg_info r5.read_mfg_info r5.read_dataflash r5.write_dataflash hex.value_of hex.byte_of hex.bytes_of hex.digit_of hex.hex_of input.lines_from input.rest_from
     fields.pair_at fields.quad_at request.two_budgets request.header_bytes request.read_retries request.config_of request.header_of request.unknown_flags request.called_of request.exact_of request.asked_of request.request_line retired_kind outcome.acknowledged_line outcome.error_line outcome.timeout_line outcome.outcome_line
     kind.plan_of calls.start_with calls.start_of calls.next_of calls.work_after calls.part_of calls.wrote_of calls.got_of calls.report_of calls.buffer_after calls.tally_of
-    printing.quad_of printing.write_said printing.read_said printing.end_said printing.cut_said dialogue.size_of dialogue.tell_of dialogue.zeros dialogue.line_shown dialogue.last_of dialogue.unfinished_of
+    printing.quad_of printing.write_said printing.read_said printing.end_said printing.cut_said dialogue.tell_of dialogue.zeros dialogue.line_shown dialogue.last_of dialogue.unfinished_of
     line.line_bytes line.feed_bytes line.feeds bench.then_say bench.report_then bench.told_then bench.call_lines bench.call_run bench.request_then bench.request_of bench.bench_of printed
 runs_hold = (refl, (refl, (refl, (refl, (refl, (refl, (refl, (refl, (refl, (refl, (refl, (refl, (refl, (refl, (refl, (refl, (refl, (refl, (refl, (refl, (refl, (refl, (refl, (refl, (refl, (refl, (refl, (refl, (refl, (refl, (refl, (refl, (refl, (refl, (refl, (refl, (refl, (refl, (refl, (refl, (refl, (refl, (refl, (refl, (refl, (refl, (refl, (refl, (refl, (refl, (refl, (refl, (refl, (refl, (refl, (refl, (refl, (refl, (refl, (refl, (refl, (refl, (refl, (refl, (refl, (refl, (refl, (refl, (refl, (refl, (refl, (refl, (refl, (refl, (refl, (refl, (refl, (refl, (refl, (refl, (refl, (refl, tt))))))))))))))))))))))))))))))))))))))))))))))))))))))))))))))))))))))))))))))))))

@@ -1,10 +1,9 @@
 // The rows: a call of a kind, with what it is lent. A payload and a buffer are of the same length, but for a command's: a call looks at one of them.
 use crate::say::{Lent, Shown, Stand};
-use calls::call::{Call, Reported};
+use calls::call::Call;
 use calls::kind::Kind;
 use engine::bus::{Outcome, Transfer};
 use fixture::settings::settings;
-use fixture::transfer::sent;
 use protocol::bytes;
 use std::io;
 
@@ -35,14 +34,6 @@ const COMMANDS: [(usize, usize, usize, bool); 10] = [
     (0, 0, 39, true),
 ];
 
-// The call that a report hands back.
-fn taken(reported: Reported) -> Call {
-    match reported {
-        Reported::Refused(_, same) => same,
-        Reported::Taken(next) => next,
-    }
-}
-
 // What becomes of a transfer: a frame is acknowledged, a read times out, which ends a call that has no retries.
 fn outcome(transfer: Transfer) -> Outcome {
     match transfer {
@@ -55,9 +46,11 @@ fn outcome(transfer: Transfer) -> Outcome {
 fn step(rt: &impl Print, call: Call, payload: &[u8], buffer: &mut [u8]) -> io::Result<Call> {
     let mut work = [0u8; 39];
     let transfer = call.next(payload, buffer, &mut work).transfer;
-    let frame = call.to_send(payload, &work, sent(transfer));
+    let frame = call.to_send(payload, &work, transfer.sent());
     print!(rt; "{}", Shown { transfer, frame })?;
-    Ok(taken(call.report(outcome(transfer), b"", payload, buffer, &work)))
+    Ok(call
+        .report(outcome(transfer), b"", payload, buffer, &work)
+        .unwrap_or_else(|(_, same)| same))
 }
 
 // A call of a kind with a payload of so many bytes, whose title is said: how it stands, and its first transfers, of which three are frames at most. It has no retries.

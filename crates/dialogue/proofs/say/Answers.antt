@@ -3,12 +3,12 @@
 use Rattle.dialogue.specs.Dialogue.{bytes_said, said_of, turned_of, say_of}
 use Rattle.dialogue.proofs.say.Goals as goal
 
-pub returns-in-Refused : goal.returns-in-Refused
-unfolding turned_of say_of said_of bytes_said
-returns-in-Refused c =
-    let e = c.end.ensures in
-    rw (c.in-Refused.is, ← c.tally.ensures) (rw e.0, e.1)
-
-pub returns-in-Taken : goal.returns-in-Taken
+pub returns-in-Ok : goal.returns-in-Ok
 unfolding say_of
-returns-in-Taken c = rw c.in-Taken.is c.show.ensures
+returns-in-Ok c = rw (c.in-Ok.is, c.in-Ok.call-is) c.show.ensures
+
+pub returns-in-Err : goal.returns-in-Err
+unfolding turned_of say_of said_of bytes_said
+returns-in-Err c =
+    let e = c.end.ensures in
+    rw (c.in-Err.is, c.in-Err.answer-is, c.in-Err.call-is, ← c.tally.ensures) (rw e.0, e.1)

@@ -8,4 +8,4 @@ unfolding turned_of show_of line_shown zeros
 returns c =
     let e = c.next-shown.ensures in
     let t = c.tell.ensures in
-    rw (← e.1, ← e.2, ← e.0, ← c.size.ensures, ← c.to_send-frame.ensures, ← c.tally.ensures) (rw t.0, t.1)
+    rw (← e.1, ← e.2, ← e.0, ← c.sent.ensures, ← c.to_send-frame.ensures, ← c.tally.ensures) (rw t.0, t.1)
