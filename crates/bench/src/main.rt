@@ -28,6 +28,7 @@ struct Stop {
 }
 
 // The program: the chunk at hand, which is the first bytes of an array, and the desk.
+// Stays: no heap, so `n` says how far `chunk` is filled.
 #[derive(Drop)]
 struct Bench {
     chunk: [u8; 65536],

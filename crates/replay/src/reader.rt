@@ -57,6 +57,7 @@ const KEPT: usize = 5;
 const HELD_BYTES: usize = 65536 + KEPT;
 
 // A file, the chunk of it that was read and what is left of that, how much of a line is held, and the tag and the length of the last line.
+// Stays: no heap, so `end` and `have` say how far `chunk` and `held` are filled.
 #[derive(Drop)]
 pub struct Reader<F> {
     file: F,
