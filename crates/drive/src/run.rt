@@ -59,9 +59,8 @@ fn step(
     let mut work = [0u8; 39];
     let mut room = [0u8; 64];
     let length = marks::work(mark);
-    let shown = call.next(payload, buffer, &mut work[..length]);
+    let transfer = call.next(payload, buffer, &mut work[..length]).transfer;
     let built = bytes::front(&work, length);
-    let transfer = shown.transfer;
     let frame = call.to_send(payload, built, transfer.sent());
     print!(rt; " {}", Shown { transfer, frame })?;
     let n = reply(mark, transfer, &mut room);
