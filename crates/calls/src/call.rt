@@ -66,6 +66,7 @@ impl Call {
     }
 
     // An outcome is reported: refused with 10, 8 or 9 and call and buffer as they were, or taken.
+    // Stays: an arm for each engine, and for what came of its report.
     pub fn report(
         self,
         outcome: Outcome,

@@ -17,7 +17,7 @@ use requests::{outcome, request};
 
 // Where a call's payload and buffer stand: the payload has `payload` bytes of the request line from byte `at` on, the buffer is the first `buffer` bytes
 // of what is lent.
-#[derive(Clone, Copy)]
+#[derive(Clone, Copy, Debug, PartialEq, Eq)]
 pub struct Place {
     pub at: usize,
     pub payload: usize,
@@ -26,7 +26,7 @@ pub struct Place {
 
 // What a run is about.
 // Stays: the names say where a run stands, which None and Some would not.
-#[derive(Clone, Copy)]
+#[derive(Clone, Copy, Debug, PartialEq, Eq)]
 pub enum Run {
     // Nothing: no request line yet, or one that was refused.
     Fresh,
@@ -36,7 +36,7 @@ pub enum Run {
 
 // What was printed.
 // Stays: either line was printed, so that neither is an error, as one arm of a Result would be.
-#[derive(Clone, Copy)]
+#[derive(Clone, Copy, Debug, PartialEq, Eq)]
 pub enum Said {
     // A transfer, in a line of so many bytes: the run goes on with its outcome.
     Asked(usize),
@@ -45,7 +45,7 @@ pub enum Said {
 }
 
 // The run after a line, and what was printed.
-#[derive(Clone, Copy)]
+#[derive(Clone, Copy, Debug, PartialEq, Eq)]
 pub struct Turned {
     pub run: Run,
     pub said: Said,
@@ -59,6 +59,7 @@ fn decode(line: &[u8], out: &mut [u8]) -> usize
 }
 
 // Fills up to n bytes with A5.
+// Stays: how much is filled is what the request asks for, of a buffer that may be shorter.
 fn fill(buffer: &mut [u8], n: usize)
     ensures { buffer.new ≡ filled n buffer.old }
 {
@@ -67,6 +68,7 @@ fn fill(buffer: &mut [u8], n: usize)
 }
 
 // A transfer with its frame, or the end of a call with what it counted and its buffer.
+// Stays: an arm for each transfer.
 fn tell(transfer: Transfer, frame: &[u8], tally: Tally, buffer: &[u8], out: &mut [u8]) -> Said
     ensures { (result ≡ said_of (tell_of transfer frame.now tally buffer.now) (length out.old)) × (out.new ≡ out_printed (bytes_said (tell_of transfer frame.now tally buffer.now)) out.old) }
 {

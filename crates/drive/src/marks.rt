@@ -38,6 +38,7 @@ fn covered(mark: u8, command: u8) -> u8 {
 }
 
 // A reply of n bytes at the front of what is lent: its last byte is the PEC of 16, the command that it covers, 17 and what comes before it.
+// Stays: the reply's length is what is asked for, at the front of what is lent.
 pub(crate) fn fill(reply: &mut [u8], mark: u8, n: usize, command: u8) {
     let opening = [0x16, covered(mark, command), 0x17];
     count_up(reply);

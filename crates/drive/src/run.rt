@@ -20,7 +20,7 @@ const READING: [&str; 11] = [
 ];
 
 // What a call is lent: one that writes a payload of so many bytes, one that reads a buffer, which is shown at the end of a line.
-#[derive(Clone, Copy)]
+#[derive(Clone, Copy, Debug, PartialEq, Eq)]
 pub(crate) enum Lent {
     Payload(usize),
     Buffer(usize),
@@ -72,6 +72,7 @@ fn step(
 }
 
 // A call over a script, on a line, with one retry, PEC either on writes or on reads, and a buffer of n bytes at the front of the room.
+// Stays: the buffer's length is the row's, at the front of one array for all rows.
 fn line(
     rt: &impl Print,
     kind: Kind,

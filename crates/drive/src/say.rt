@@ -5,12 +5,13 @@ use fixture::digits::Digits;
 use std::fmt;
 
 // A transfer: the frame that it sends, a read's command and the number of bytes asked, the answer of an ended call after a dash, or after ! why the showing is refused.
-#[derive(Clone, Copy)]
+#[derive(Clone, Copy, Debug, PartialEq, Eq)]
 pub(crate) struct Shown<'a> {
     pub(crate) transfer: Transfer,
     pub(crate) frame: &'a [u8],
 }
 
+// Stays: other words than those of `starts` for the same transfers.
 impl fmt::Display for Shown<'_> {
     fn fmt<W: fmt::Write>(&self, f: &mut fmt::Formatter<W>) -> fmt::Result {
         match self.transfer {
@@ -23,7 +24,7 @@ impl fmt::Display for Shown<'_> {
 }
 
 // How a call stands: its answer with the detail, or that it waits; and its waits.
-#[derive(Clone, Copy)]
+#[derive(Clone, Copy, Debug, PartialEq, Eq)]
 pub(crate) struct Stand(pub(crate) Call);
 
 impl fmt::Display for Stand {

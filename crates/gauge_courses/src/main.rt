@@ -43,6 +43,7 @@ struct Counts {
 
 impl Counts {
     // One run more, which ended so.
+    // Stays: an arm for each end that is counted.
     fn ended(&mut self, end: End) {
         one_more(&mut self.runs);
         match end {
@@ -99,6 +100,7 @@ impl fmt::Display for Counts {
 }
 
 // The old flash with the first n bytes of the payload over it, laid there without the gauge.
+// Stays: how much of the payload is laid is what is compared.
 fn laid(old: &[u8; FLASH_BYTES], n: usize) -> [u8; FLASH_BYTES] {
     let mut flash = *old;
     bytes::store_block(&mut flash, PLACE, bytes::front(&PAYLOAD, n), n);
@@ -106,6 +108,7 @@ fn laid(old: &[u8; FLASH_BYTES], n: usize) -> [u8; FLASH_BYTES] {
 }
 
 // A write of some bytes, over a course. It looks at no buffer.
+// Stays: what is lent belongs to the caller, who looks at it after the run.
 fn write(
     config: Config,
     address: u16,
@@ -194,6 +197,7 @@ fn run(
 }
 
 // Every course of up to seven transfers at one setting, and its line.
+// Stays: the line of a write: other settings, and other counts, than the line of a read.
 fn setting(
     rt: &impl Print,
     retries: u16,

@@ -29,6 +29,7 @@ fn number(end: End) -> u8 {
 
 impl Seen {
     // One run more, which ended so.
+    // Stays: an arm for each end that is counted.
     fn ended(&mut self, end: End) {
         one_more(&mut self.runs);
         match end {
@@ -64,6 +65,7 @@ impl Seen {
     }
 }
 
+// Stays: other counts than those of `gauge_courses`.
 impl fmt::Display for Seen {
     fn fmt<W: fmt::Write>(&self, f: &mut fmt::Formatter<W>) -> fmt::Result {
         write!(

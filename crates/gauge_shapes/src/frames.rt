@@ -15,6 +15,7 @@ const LAST: usize = FLASH_BYTES - END;
 const ADDRESSES: [u16; 6] = [0x3FFF, 0x4000, 0x4015, 0x5FE0, 0x5FFF, 0x6000];
 
 // A frame goes to the gauge, by one fate and with the pointer at one address; its flash is first as it was.
+// Stays: each of these varies one thing, and hands on the rest.
 fn send(fate: Fate, frame: &[u8], pointer: u16, old: &[u8; FLASH_BYTES], seen: &mut Seen) {
     let mut flash = *old;
     seen.transfer(Gauge { pointer }.write(fate, frame, &mut flash));
@@ -40,6 +41,7 @@ fn lengths(frame: &[u8], count: u8, old: &[u8; FLASH_BYTES], seen: &mut Seen) {
 }
 
 // The byte at a place is the PEC of those before it, or a number beside it.
+// Stays: the byte is made of those before it.
 fn close(frame: &mut [u8], at: usize, turned: u8) {
     let pec = smbus_pec::pec(smbus_pec::pec(0, b"\x16"), bytes::front(frame, at));
     if at < frame.len() {

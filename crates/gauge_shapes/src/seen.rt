@@ -33,6 +33,7 @@ impl Seen {
     }
 
     // One outcome more: a bus error's code that is not 0 counts as another outcome.
+    // Stays: an arm for each outcome that is counted.
     fn outcome(&mut self, outcome: Outcome) {
         match outcome {
             Outcome::Acknowledged => {

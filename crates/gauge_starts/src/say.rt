@@ -4,7 +4,7 @@ use courses::run::Run;
 use std::fmt;
 
 // How a run ended, the waits, the transfers, and where the gauge then reads.
-#[derive(Clone, Copy)]
+#[derive(Clone, Copy, Debug, PartialEq, Eq)]
 pub(crate) struct Left(pub(crate) Run);
 
 impl fmt::Display for Left {

@@ -190,6 +190,7 @@ impl Gauge {
     }
 
     // What becomes of a read.
+    // Stays: an arm for each fate of a transfer.
     fn asked(self, fate: Fate, command: u8, count: usize) -> Effect
         ensures { (flash : List ℕ) → result ≡ handed_back (effect_of fate (read command count) self flash) }
     {

@@ -41,7 +41,7 @@ impl Digits {
     }
 
     // The value of a digit, and 16 of a byte that is none.
-    // Stays: tried, and with an `Option<u8>` the line of a pack that was read takes 66 instructions in place of 65 (benches/count).
+    // Stays: the entry as it stands in the table: a byte has no room for a `None`, and an `Option<u8>` made of it costs each line an instruction.
     pub(crate) fn value(&self, digit: u8) -> u8
         ensures { result ≡ value_of digit }
     {

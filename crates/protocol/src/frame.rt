@@ -81,6 +81,7 @@ pub fn lay_register(work: &mut [u8], address: u8, body: &[u8], pec: bool) -> Opt
 }
 
 // Manufacturer info: its command, the length, the data.
+// Stays: the count is a byte of a length, of which the rest is dropped; so is that of a MAC frame.
 pub fn lay_info(work: &mut [u8], body: &[u8], pec: bool) -> Option<usize>
     ensures { (result ≡ laid_of pec (info_bytes body.now) (length work.old)) × (work.new ≡ work_laid pec (info_bytes body.now) work.old) }
 {

@@ -28,7 +28,7 @@ const INPUT_AT: usize = 6;
 pub const LONGEST_REQUEST: usize = LONGEST_HEADER as usize + INPUT_AT + MOST_BYTES;
 
 // What a header says: the settings, in so many bytes (a `u8`, so that a place behind it is a number of the machine).
-#[derive(Clone, Copy)]
+#[derive(Clone, Copy, Debug, PartialEq, Eq)]
 pub struct Header {
     pub config: Config,
     pub bytes: u8,
@@ -36,7 +36,7 @@ pub struct Header {
 
 // The call that a request line asks for, with its settings: its payload, or a command's input, is the line from byte `at` on, and its buffer has `len`
 // bytes, none where it reads nothing.
-#[derive(Clone, Copy)]
+#[derive(Clone, Copy, Debug, PartialEq, Eq)]
 pub struct Asked {
     pub kind: Kind,
     pub config: Config,
@@ -45,7 +45,7 @@ pub struct Asked {
 }
 
 // The arguments of a kind, and the header that stands before them.
-#[derive(Clone, Copy)]
+#[derive(Clone, Copy, Debug, PartialEq, Eq)]
 struct Arguments<'a> {
     header: Header,
     bytes: &'a [u8],
@@ -80,6 +80,7 @@ impl Arguments<'_> {
     }
 
     // What a kind asks for, by its number.
+    // Stays: a row for each kind by its number: the table of the bench's requests.
     fn asked(self, kind: u8) -> Result<Asked, Answer>
         ensures { result ≡ asked_of kind self.entry.header self.entry.bytes.now }
     {

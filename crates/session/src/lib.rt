@@ -31,7 +31,7 @@ pub const OUT_BYTES: usize = 65536;
 
 // Where the program stands.
 // Stays: no heap, so `have` and `laid` say how far a desk's `held` and `out` are filled; and `Writes` speaks of `on`.
-#[derive(Clone, Copy)]
+#[derive(Clone, Copy, Debug, PartialEq, Eq)]
 pub struct Session {
     pub run: Run,
     // How many bytes of a line are held.

@@ -5,7 +5,7 @@ use r5::voltage::ChargingVoltageOverride;
 use std::{fmt, io};
 
 // A figure in millivolts, of those that are looked at.
-#[derive(Clone, Copy)]
+#[derive(Clone, Copy, Debug, PartialEq, Eq)]
 struct Figure(i16);
 
 impl fmt::Display for Figure {

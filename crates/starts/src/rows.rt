@@ -84,6 +84,7 @@ fn each(rt: &impl Print, name: &str, kind: Kind, rows: &[(usize, usize, bool)]) 
 }
 
 // A call of at most so many bytes.
+// Stays: each row has its own lengths, and hands on the rest.
 fn limited(rt: &impl Print, name: &str, kind: Kind, limit: u8) -> io::Result<()> {
     let most = usize::from(limit);
     let rows = [

@@ -4,7 +4,7 @@ use fixture::digits::Digits;
 use std::fmt;
 
 // What a call is lent, and whether it has a PEC: n bytes of payload or buffer, and a work buffer.
-#[derive(Clone, Copy)]
+#[derive(Clone, Copy, Debug, PartialEq, Eq)]
 pub(crate) struct Lent {
     pub(crate) n: usize,
     pub(crate) work: usize,
@@ -26,7 +26,7 @@ impl fmt::Display for Lent {
 }
 
 // How a call stands at its start.
-#[derive(Clone, Copy)]
+#[derive(Clone, Copy, Debug, PartialEq, Eq)]
 pub(crate) struct Stand(pub(crate) Phase);
 
 impl fmt::Display for Stand {
@@ -39,7 +39,7 @@ impl fmt::Display for Stand {
 }
 
 // A transfer and the frame that it sends; nothing of a call that has ended.
-#[derive(Clone, Copy)]
+#[derive(Clone, Copy, Debug, PartialEq, Eq)]
 pub(crate) struct Shown<'a> {
     pub(crate) transfer: Transfer,
     pub(crate) frame: &'a [u8],
