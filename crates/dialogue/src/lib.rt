@@ -98,7 +98,13 @@ fn show(call: Call, place: Place, payload: &[u8], buffer: &[u8], out: &mut [u8])
 }
 
 // What came of a start or a report: the next transfer or the end of the call, or why the run is stopped.
-fn say(reported: Reported<Call>, place: Place, payload: &[u8], buffer: &[u8], out: &mut [u8]) -> Turned
+fn say(
+    reported: Reported<Call>,
+    place: Place,
+    payload: &[u8],
+    buffer: &[u8],
+    out: &mut [u8],
+) -> Turned
     ensures { (result ≡ turned_of (say_of reported place payload.now buffer.now) (length out.old)) × (out.new ≡ out_printed (bytes_said (say_of reported place payload.now buffer.now).saying) out.old) }
 {
     match reported {

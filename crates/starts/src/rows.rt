@@ -48,9 +48,10 @@ fn step(rt: &impl Print, call: Call, payload: &[u8], buffer: &mut [u8]) -> io::R
     let transfer = call.next(payload, buffer, &mut work).transfer;
     let frame = call.to_send(payload, &work, transfer.sent());
     print!(rt; "{}", Shown { transfer, frame })?;
-    Ok(call
-        .report(outcome(transfer), b"", payload, buffer, &work)
-        .unwrap_or_else(|(_, same)| same))
+    Ok(
+        call.report(outcome(transfer), b"", payload, buffer, &work)
+            .unwrap_or_else(|(_, same)| same),
+    )
 }
 
 // A call of a kind with a payload of so many bytes, whose title is said: how it stands, and its first transfers, of which three are frames at most. It has no retries.
