@@ -17,7 +17,7 @@ at_hand b = take b.n b.chunk
 -- a round, from a chunk and a desk to others; none is made where a read was due and failed
 abbrev pub Makes : Bool → Bench → Bench → Type 0
 Makes true b c = OneRound (at_hand b) b.desk (at_hand c) c.desk × (c.n ≤ length c.chunk)
-Makes false b c = (c.desk ≡ b.desk) × (length (at_hand b) ≤ b.desk.session.at)
+Makes false b c = (c.desk ≡ b.desk) × (length (at_hand b) ≤ b.desk.session.at) × (c.n ≤ length c.chunk)
 
 -- how the program stands at each of its ends
 abbrev pub How : Ending → ℕ → List ℕ → Desk → Type 0

@@ -21,6 +21,7 @@ enum Ending {
 }
 
 // Where the program stopped: how, and the rounds that were left.
+// Stays: as the count's, over ends of its own: a type for both would need a crate that two programs share.
 #[derive(Clone, Copy, Debug, PartialEq, Eq)]
 struct Stop {
     ending: Ending,

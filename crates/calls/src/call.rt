@@ -66,7 +66,7 @@ impl Call {
     }
 
     // An outcome is reported: refused with 10, 8 or 9 and call and buffer as they were, or taken.
-    // Stays: an arm for each engine, and for what came of its report.
+    // Stays: tried with `map` and `map_err`: what their closures promise is longer to cite than these arms.
     pub fn report(
         self,
         outcome: Outcome,
@@ -99,8 +99,8 @@ impl Call {
         }
     }
 
-    // Stays: a field of either engine's call; a trait over both would be longer than the two.
     // What the call counts beside its answer.
+    // Stays: a field of either engine's call; a trait over both would be longer than the two.
     pub fn tally(self) -> Tally
         ensures { result ≡ tally_of self }
     {

@@ -42,8 +42,8 @@ pub enum Plan {
 }
 
 impl Kind {
-    // Stays: a row for each call by name: the table of what a host may ask.
     // The plan of a call of this kind, with a payload and a buffer of so many bytes.
+    // Stays: a row for each call by name: the table of what a host may ask.
     pub(crate) fn plan(self, config: Config, payload: usize, buffer: usize) -> Plan
         ensures { result ≡ plan_of self config payload buffer }
     {

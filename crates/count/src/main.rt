@@ -36,7 +36,7 @@ struct Stop {
 }
 
 // After a read: the bytes that it brought are counted, and no others of the chunk. Where it brought none, the reading has ended.
-// Stays: an arm for each way that a read goes.
+// Stays: an arm for each way that a read goes: the match shows that none is missing, which a table of functions would not.
 fn after(sheet: &mut Sheet, brought: Brought, chunk: &[u8; CHUNK_BYTES]) -> Result<(), Ending>
     ensures { (result ≡ led_by brought) × (sheet.new ≡ sheet_by brought chunk.now sheet.old) }
 {

@@ -17,6 +17,7 @@ pub enum End {
 }
 
 // What a byte of a sound course says.
+// Stays: a course is bytes (document 01), which `sound` has looked at: `TryFrom` would look again at each step.
 pub(crate) fn fate(byte: u8) -> Fate
     ensures { result ≡ fate_of byte }
 {

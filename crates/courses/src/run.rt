@@ -58,8 +58,8 @@ impl Link {
         }
     }
 
-    // Stays: what is lent belongs to the caller of `run`, and each step borrows it in another way.
     // The n bytes that the call shows go to the gauge.
+    // Stays: what is lent belongs to the caller of `run`: a struct of four borrowed slices would be built there and taken apart at each step.
     fn send<'a>(
         self,
         fate: Fate,

@@ -17,6 +17,7 @@ use requests::{outcome, request};
 
 // Where a call's payload and buffer stand: the payload has `payload` bytes of the request line from byte `at` on, the buffer is the first `buffer` bytes
 // of what is lent.
+// Stays: a run outlives the borrow of its request line, so it has places in it and no slices.
 #[derive(Clone, Copy, Debug, PartialEq, Eq)]
 pub struct Place {
     pub at: usize,
@@ -68,7 +69,7 @@ fn fill(buffer: &mut [u8], n: usize)
 }
 
 // A transfer with its frame, or the end of a call with what it counted and its buffer.
-// Stays: an arm for each transfer.
+// Stays: an arm for each transfer: the match shows that none is missing, which a table of functions would not.
 fn tell(transfer: Transfer, frame: &[u8], tally: Tally, buffer: &[u8], out: &mut [u8]) -> Said
     ensures { (result ≡ said_of (tell_of transfer frame.now tally buffer.now) (length out.old)) × (out.new ≡ out_printed (bytes_said (tell_of transfer frame.now tally buffer.now)) out.old) }
 {
@@ -211,7 +212,7 @@ fn go_on(
 
 // A line of input, and the line that answers it at the front of `out`: a request where the run is fresh, and else an outcome. The bytes of the request
 // line are kept in `request`, those of an outcome line go through `outcome`. Nothing follows the last line of a run.
-// Stays: four slices and no struct of them, for each function here takes others, and what was lent is read again after the call.
+// Stays: `answer` takes slices of any length, as it promises; a struct of arrays, as the session has, would ask for theirs.
 pub fn answer(
     run: Run,
     line: &[u8],

@@ -5,6 +5,7 @@ use engine::bus::Outcome;
 use protocol::bytes;
 
 // The outcome: e is bus error 5, f bus error 9, t a timeout.
+// Stays: a mark is the letter of a script, as it is written there; an enum would name each letter once more.
 pub(crate) fn outcome(mark: u8) -> Outcome {
     match mark {
         b'e' => Outcome::BusError(5),

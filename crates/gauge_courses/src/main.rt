@@ -43,7 +43,7 @@ struct Counts {
 
 impl Counts {
     // One run more, which ended so.
-    // Stays: an arm for each end that is counted.
+    // Stays: an arm for each end that is counted: the match shows that none is missing, which a table of functions would not.
     fn ended(&mut self, end: End) {
         one_more(&mut self.runs);
         match end {
@@ -216,6 +216,7 @@ fn setting(
 }
 
 // The line of each setting.
+// Stays: the settings of a write, as `gauge_reads` has those of a read.
 fn all(rt: &impl Print) -> io::Result<()> {
     let mut old = [0u8; FLASH_BYTES];
     flash::fill(&mut old);

@@ -15,7 +15,7 @@ const LAST: usize = FLASH_BYTES - END;
 const ADDRESSES: [u16; 6] = [0x3FFF, 0x4000, 0x4015, 0x5FE0, 0x5FFF, 0x6000];
 
 // A frame goes to the gauge, by one fate and with the pointer at one address; its flash is first as it was.
-// Stays: each of these varies one thing, and hands on the rest.
+// Stays: each of these varies one thing and hands on the rest; as methods of a struct of both they would read the same.
 fn send(fate: Fate, frame: &[u8], pointer: u16, old: &[u8; FLASH_BYTES], seen: &mut Seen) {
     let mut flash = *old;
     seen.transfer(Gauge { pointer }.write(fate, frame, &mut flash));

@@ -33,7 +33,7 @@ impl Seen {
     }
 
     // One outcome more: a bus error's code that is not 0 counts as another outcome.
-    // Stays: an arm for each outcome that is counted.
+    // Stays: an arm for each outcome that is counted: the match shows that none is missing, which a table of functions would not.
     fn outcome(&mut self, outcome: Outcome) {
         match outcome {
             Outcome::Acknowledged => {

@@ -84,8 +84,8 @@ pub fn read_buffer(config: Config, address: u8, n: usize) -> ReadPlan
     ReadPlan::plain(config, Limit::Free, Ask::plain(address, n, false))
 }
 
-// Stays: the Rust's two calls by name, which differ in their limit.
 // Writes a buffer of at most 33 bytes.
+// Stays: the Rust's two calls by name, which differ in their limit.
 pub fn write_buffer(config: Config, address: u8) -> WritePlan
     ensures { result ≡ write_buffer config address }
 {

@@ -36,6 +36,7 @@ pub struct Gauge {
 }
 
 // What a transfer comes to, beside what it leaves in the lent bytes.
+// Stays: the reply itself is lent, so its length stands here.
 #[derive(Clone, Copy, Debug, PartialEq, Eq)]
 pub struct Effect {
     pub outcome: Outcome,
@@ -48,11 +49,7 @@ pub struct Effect {
 fn onward(address: u16) -> u16
     ensures { result ≡ min (address + 32) 0x6000 }
 {
-    if address < 0x5FE0 {
-        address + 32
-    } else {
-        DF_END_ADDRESS
-    }
+    address.saturating_add(32).min(DF_END_ADDRESS)
 }
 
 // Where an address lies in the flash.
@@ -138,8 +135,8 @@ impl Gauge {
         }
     }
 
-    // Stays: an arm for each fate of a transfer, for what is lent in two ways.
     // A frame goes to the gauge.
+    // Stays: an arm for each fate of a transfer; one function over writes and reads would take a closure that borrows the flash in two ways.
     pub fn write(self, fate: Fate, frame: &[u8], flash: &mut [u8]) -> Effect
         ensures { (result ≡ handed_back (effect_of fate (write frame.now) self flash.old)) × (flash.new ≡ (effect_of fate (write frame.now) self flash.old).flash) }
     {
@@ -190,7 +187,7 @@ impl Gauge {
     }
 
     // What becomes of a read.
-    // Stays: an arm for each fate of a transfer.
+    // Stays: as in `write`.
     fn asked(self, fate: Fate, command: u8, count: usize) -> Effect
         ensures { (flash : List ℕ) → result ≡ handed_back (effect_of fate (read command count) self flash) }
     {

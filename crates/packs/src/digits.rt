@@ -41,7 +41,7 @@ impl Digits {
     }
 
     // The value of a digit, and 16 of a byte that is none.
-    // Stays: the entry as it stands in the table: a byte has no room for a `None`, and an `Option<u8>` made of it costs each line an instruction.
+    // Stays: the entry as it stands in the table, where a byte has no room for `None`; tried with an `Option<u8>`, the ratio to C rises from .602 to .612 (benches/count).
     pub(crate) fn value(&self, digit: u8) -> u8
         ensures { result ≡ value_of digit }
     {
@@ -87,6 +87,7 @@ impl Digits {
     }
 
     // The pack of the line that lies whole at a place of a chunk, where the longest line has room there. Any other line is read byte by byte.
+    // Stays: a place in a chunk and no slice from there on: the turn goes on from it.
     pub(crate) fn ahead(&self, chunk: &[u8], at: usize) -> Option<Pack>
         requires { at ≤ length chunk.now }
         ensures { result ≡ ahead_of chunk.now at }

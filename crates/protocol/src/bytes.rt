@@ -62,8 +62,8 @@ pub fn copy_block(buf: &mut [u8], block: &[u8], most: usize)
     copy(buf, front(block, n));
 }
 
-// Stays: the caller's buffer, from its middle onward, is document 01's form.
 // A block into the caller's buffer: what follows the `at` bytes already read is lent to the block copier.
+// Stays: the caller's buffer, from its middle onward, is document 01's form.
 pub fn store_block(buf: &mut [u8], at: usize, block: &[u8], most: usize)
     ensures { buf.new ≡ stored_at at most block.now buf.old }
 {

@@ -47,8 +47,8 @@ impl Config {
         }
     }
 
-    // Stays: one function over both would hand out a setting that its caller drops.
     // Whether the frames of a call on this side carry a PEC.
+    // Stays: two settings of a side; a function that gave both would need a type for the pair.
     pub fn pec(self, side: Side) -> bool
         ensures { result ≡ pec_on self side }
     {

@@ -13,8 +13,8 @@ use crate::consts::{
 // The PEC of the byte 16 hex, with which every write opens.
 const PEC_OF_WRITE_ADDRESS: u8 = 0x62;
 
-// Stays: the work buffer is the host's own, and how much of it is laid is known here alone (no heap, fixed memory).
 // Bytes laid after the first `at`; how many there are then.
+// Stays: the work buffer is the host's own, and how much of it is laid is known here alone (no heap, fixed memory).
 fn push(work: &mut [u8], at: usize, bytes: &[u8]) -> usize
     requires { at + length bytes.now ≤ length work.old }
     ensures { (result ≡ at + length bytes.now) × (work.new ≡ take at work.old ++ over bytes.now (drop at work.old)) }
@@ -54,8 +54,8 @@ fn room(work: usize, lead: usize, pair: usize, body: usize) -> bool
     lead.saturating_add(pair).saturating_add(body) < work
 }
 
-// Stays: work buffer, body and PEC are from three owners (the host, its payload, the plan) and meet here: a struct would be made for one call.
 // The one builder: a lead, a pair and the body, each perhaps empty, and the PEC where it is on.
+// Stays: work buffer, body and PEC are from three owners (the host, its payload, the plan) and meet here: a struct would be made for one call.
 fn lay(work: &mut [u8], lead: &[u8], pair: &[u8], body: &[u8], pec: bool) -> Option<usize>
     ensures { (result ≡ laid_of pec (lead.now ++ pair.now ++ body.now) (length work.old)) × (work.new ≡ work_laid pec (lead.now ++ pair.now ++ body.now) work.old) }
 {
@@ -81,7 +81,7 @@ pub fn lay_register(work: &mut [u8], address: u8, body: &[u8], pec: bool) -> Opt
 }
 
 // Manufacturer info: its command, the length, the data.
-// Stays: the count is a byte of a length, of which the rest is dropped; so is that of a MAC frame.
+// Stays: the remainder is the word of document 01 and of `mac_bytes`: a count of 256 is 0 there.
 pub fn lay_info(work: &mut [u8], body: &[u8], pec: bool) -> Option<usize>
     ensures { (result ≡ laid_of pec (info_bytes body.now) (length work.old)) × (work.new ≡ work_laid pec (info_bytes body.now) work.old) }
 {

@@ -54,8 +54,8 @@ impl Ask {
         }
     }
 
-    // Stays: two layouts in one function would be a match inside it.
     // A MAC or data-flash read: three bytes stand before the data, and the PEC covers 44 whatever command was sent.
+    // Stays: each has its own three fields; a function for both would have them as parameters.
     pub fn mac(command: u8, count: usize, pec: bool) -> Ask
         ensures { result ≡ mac_ask command count pec }
     {

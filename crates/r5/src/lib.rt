@@ -34,8 +34,8 @@ fn mac_write(config: Config, command: MacCommand, size: usize) -> WritePlan
     WritePlan::new(config, Limit::Exactly(size), Frames::Mac(command))
 }
 
-// Stays: calls by the Rust's names with its arguments (the halves of a key among them), each a plan of one line.
 // Reads the 28 bytes of the security keys.
+// Stays: calls by the Rust's names with its arguments (the halves of a key among them), each a plan of one line.
 pub fn read_security_keys(config: Config) -> ReadPlan
     ensures { result ≡ read_security_keys config }
 {

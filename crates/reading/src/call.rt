@@ -262,8 +262,8 @@ impl ReadCall {
         }
     }
 
-    // Stays: an arm for each outcome of the bus, which is an enum of its own.
     // What an outcome of the transfer that is due comes to. The reply of a failure is not looked at.
+    // Stays: an arm for each outcome of the bus: the match shows that none is missing, which a table of functions would not.
     fn weigh(self, outcome: Outcome, reply: &[u8]) -> Verdict
         ensures { result ≡ weigh_of self outcome reply.now }
     {
@@ -312,8 +312,8 @@ impl ReadCall {
         }
     }
 
-    // Stays: an arm for each verdict; a closure in its place would take the same four.
     // An outcome is reported: refused with 10, 8 or 9 and call and buffer as they were, or taken and counted.
+    // Stays: an arm for each verdict: the match shows that none is missing, which a table of functions would not.
     pub fn report(
         self,
         outcome: Outcome,

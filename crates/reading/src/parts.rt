@@ -10,6 +10,7 @@ use protocol::reply::Ask;
 use protocol::{bytes, frame};
 
 // The frame that opens a reading call, and opens it again after a failure.
+// Stays: a plain read is one of four heads, by its name.
 #[derive(Clone, Copy, Debug, PartialEq, Eq)]
 pub enum Head {
     // None: a plain read.
@@ -43,8 +44,8 @@ impl Head {
         }
     }
 
-    // Stays: an arm for each kind of frame, as in `writing`.
     // The frame, laid at the front of the work buffer; that of data flash for block i.
+    // Stays: an arm for each kind of frame, as in `writing`.
     pub(crate) fn lay(self, i: u32, work: &mut [u8], pec: bool) -> Option<usize>
         ensures { (result ≡ laid_of pec (head_bytes self i) (length work.old)) × (work.new ≡ work_laid pec (head_bytes self i) work.old) }
     {

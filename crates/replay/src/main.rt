@@ -15,6 +15,7 @@ use std::rt::Files;
 use std::{fs, io, str};
 
 // What a line of a case is answered in.
+// Stays: as the session's `Lent`, with room for one line: a size there would stand in every clause that speaks of it.
 #[derive(Drop)]
 struct Desk {
     request: [u8; REQUEST_BYTES],
@@ -34,7 +35,7 @@ impl Desk {
     }
 
     // What a line of a case leads to: an input line, one that lacks its line feed, or the end of the case.
-    // Stays: an arm for each tag of a line.
+    // Stays: an arm for each tag of a line: the match shows that none is missing, which a table of functions would not.
     fn turned(&mut self, run: Run, tag: Tag, text: &[u8]) -> Turned {
         match tag {
             Tag::Input => dialogue::answer(
@@ -231,7 +232,7 @@ fn report<R: Files + Print + Eprint + Alloc>(rt: &R, path: &str) {
 }
 
 // The path that the first argument names, as it is laid in `bytes`.
-// Stays: an arm for each thing that may be wrong with an argument.
+// Stays: an arm for each thing that may be wrong with an argument: the match shows that none is missing, which a table of functions would not.
 fn path<'a, R: Env>(rt: &R, bytes: &'a mut [u8; 4096]) -> io::Result<&'a str> {
     match rt.arg(1, bytes) {
         Ok(n) => str::from_utf8(&bytes[..n]).map_err(|_| io::Error::from(

@@ -32,6 +32,7 @@ impl Page {
     fn put_by_number(&mut self, numbers: &[u16; 256])
         ensures { self.new ≡ put_by_number numbers.now 255 1 self.old }
     {
+        // Stays: the number is printed and looks up its count.
         for number in 1..256 {
             self.put_unread(number as u32, numbers[number]);
         }

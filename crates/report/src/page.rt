@@ -6,6 +6,7 @@ use crate::REPORT_BYTES;
 use protocol::bytes;
 
 // Its bytes, and how many of them are laid.
+// Stays: no heap, so `at` says how far `out` is filled.
 #[derive(Drop)]
 pub struct Page {
     pub at: usize,

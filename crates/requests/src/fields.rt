@@ -22,5 +22,10 @@ pub(crate) fn quad(line: &[u8], at: usize) -> u32
     requires { at < 128 }
     ensures { result ≡ quad_at at line.now }
 {
-    u32::from(pair(line, at)) + u32::from(pair(line, at + 2)) * 65536
+    u32::from_le_bytes([
+        byte(line, at),
+        byte(line, at + 1),
+        byte(line, at + 2),
+        byte(line, at + 3),
+    ])
 }

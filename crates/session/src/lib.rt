@@ -81,6 +81,7 @@ pub struct Lent {
 
 impl Lent {
     // A line is answered after what is laid, and the chunk goes on at `at`.
+    // Stays: that `laid` is within `out` is asked of these three; as an invariant it would be asked of whoever calls the public `take` too.
     fn answer(&mut self, session: &mut Session, line: &[u8], at: usize)
         requires { session.old.laid ≤ length self.old.out }
         ensures { (session.new ≡ answer_session session.old line.now at self.old) × (self.new ≡ answer_lent session.old line.now self.old) }

@@ -169,8 +169,8 @@ impl WriteCall {
         }
     }
 
-    // Stays: an arm for each outcome of the bus, which is an enum of its own.
     // What an outcome of the transfer that is due leads to.
+    // Stays: an arm for each outcome of the bus: the match shows that none is missing, which a table of functions would not.
     fn settle(self, outcome: Outcome) -> WriteCall
         ensures { result ≡ settle_of self outcome }
     {

@@ -26,8 +26,8 @@ pub enum Frames {
     DataFlash(u16),
 }
 
-// Stays: work buffer, payload and PEC come from three owners, as in `protocol::frame`.
 // Half i of an access key: the lower one first.
+// Stays: work buffer, payload and PEC come from three owners, as in `protocol::frame`.
 fn lay_half(work: &mut [u8], lower: u16, upper: u16, i: u32, pec: bool) -> Option<usize>
     ensures { (result ≡ laid_of pec (half_bytes lower upper i) (length work.old)) × (work.new ≡ work_laid pec (half_bytes lower upper i) work.old) }
 {
@@ -99,8 +99,8 @@ impl Frames {
         }
     }
 
-    // Stays: an arm for each kind of frame: a table of functions would hide which takes what.
     // Frame i, laid at the front of the work buffer.
+    // Stays: an arm for each kind of frame: a table of functions would hide which takes what.
     pub(crate) fn lay(self, payload: &[u8], i: u32, work: &mut [u8], pec: bool) -> Option<usize>
         ensures { (result ≡ laid_of pec (bytes_at self i payload.now) (length work.old)) × (work.new ≡ work_laid pec (bytes_at self i payload.now) work.old) }
     {
