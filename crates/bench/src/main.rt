@@ -54,6 +54,7 @@ impl Bench {
     }
 
     // Writes the bytes that are laid, and says whether all are written. Where that fails, it tells why on standard error.
+    // Stays: `Makes` and the clauses here speak of whether it was done.
     fn write<R: Print + Eprint + Alloc>(&mut self, rt: &R) -> bool
         ensures all { result ≡ true → self.new ≡ record self.old { desk = desk_at self.old.desk.session.at self.old.desk } }
         ensures failed { result ≡ false → self.new ≡ self.old }

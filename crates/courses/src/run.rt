@@ -28,6 +28,7 @@ pub struct Run {
 }
 
 // The call after a report, which a refusal leaves as it was.
+// Stays: its definition, `taken_of`, stands in what a run comes to.
 fn taken(reported: Reported<Call>) -> Call
     ensures { result ≡ taken_of reported }
 {

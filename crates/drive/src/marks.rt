@@ -27,8 +27,10 @@ pub(crate) fn count(mark: u8, n: usize) -> usize {
 
 // The bytes 10, 11, .. hex.
 fn count_up(reply: &mut [u8]) {
-    for (i, byte) in reply.iter_mut().enumerate() {
-        *byte = ((i + 16) % 256) as u8;
+    let mut next = 0x10u8;
+    for byte in reply.iter_mut() {
+        *byte = next;
+        next = next.wrapping_add(1);
     }
 }
 

@@ -16,10 +16,6 @@ use Rattle.protocol.specs.Pick.{when◌then◌else◌}
 use Rattle.hexadecimal.proofs.Cases.{cases}
 use Rattle.hexadecimal.specs.Hex.{below, value_of, byte_of, bytes_of, digit_of, hex_of}
 
--- two values that calls gave, as a byte
-pub same_byte : (u l a b : ℕ) → u ≡ a → l ≡ b → u * 16 + l ≡ a * 16 + b
-same_byte u l a b p q = rw (p, q)
-
 -- what is below a limit, and what is not
 pub below_some : (limit n m : ℕ) → below limit n ≡ Some m → (n ≡ m) × (n < limit)
 unfolding below when◌then◌else◌

@@ -14,6 +14,7 @@ pub struct ChargingVoltageOverride {
 
 impl ChargingVoltageOverride {
     // The ten bytes that are written: each figure low byte first.
+    // Stays: the Rust has it by a name, and `From` beside it would be a second way.
     pub fn to_bytes(self) -> [u8; 10]
         ensures { result ≡ override_bytes self }
     {

@@ -8,6 +8,7 @@ use protocol::bytes;
 use std::io;
 
 // Data flash from an address on, with n bytes lent, a work buffer and a PEC setting.
+// Stays: rows of four figures; as a struct each row would name its fields.
 const WINDOW: [(u16, usize, usize, bool); 9] = [
     (0x3FFF, 1, 39, true),
     (0x3FFF, 1, 38, true),
