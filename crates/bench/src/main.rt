@@ -54,7 +54,7 @@ impl Bench {
     }
 
     // Writes the bytes that are laid, and says whether all are written. Where that fails, it tells why on standard error.
-    // Stays: `Makes` and the clauses here speak of whether it was done.
+    // Stays: a `Result` with nothing in it would say no more than whether all is written.
     fn write<R: Print + Eprint + Alloc>(&mut self, rt: &R) -> bool
         ensures all { result ≡ true → self.new ≡ record self.old { desk = desk_at self.old.desk.session.at self.old.desk } }
         ensures failed { result ≡ false → self.new ≡ self.old }
@@ -72,6 +72,7 @@ impl Bench {
     }
 
     // One round, unless a read fails: lines of the chunk, while it lasts; after that the next chunk, or the end of the input.
+    // Stays: `Makes` speaks of whether a round was made.
     fn round<R: Input + Eprint + Alloc>(&mut self, rt: &R) -> bool
         requires { self.old.n ≤ length self.old.chunk }
         ensures { Makes result self.old self.new }
@@ -101,6 +102,7 @@ impl Bench {
         requires fresh { Fresh self.old.desk }
         ensures { Stopped result self.old.desk self.new.desk }
     {
+        // Stays: `Stopped` speaks of what is left.
         for made in 0..u64::MAX {
             let left = u64::MAX - made;
             if !self.desk.session.on {

@@ -55,6 +55,7 @@ fn run<R: Input + Eprint + Alloc>(rt: &R, chunk: &mut [u8; CHUNK_BYTES], sheet: 
     requires { sheet.old ≡ start_sheet }
     ensures { Stopped result sheet.new }
 {
+    // Stays: `Stopped` speaks of what is left.
     for taken in 0..u64::MAX {
         let left = u64::MAX - taken;
         if sheet.reader.is_refused() {

@@ -29,6 +29,7 @@ pub(crate) fn fate(byte: u8) -> Fate
 }
 
 // Whether each byte of a course is 0, 1 or 2.
+// Stays: tried with `all`, whose goal stayed open.
 fn sound(course: &[u8]) -> bool
     ensures { result ≡ sound_of course.now }
 {

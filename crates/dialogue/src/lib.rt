@@ -53,6 +53,7 @@ pub struct Turned {
 }
 
 // The bytes of a line, at the front of `out`; none of a line that is no hexadecimal, or has no room.
+// Stays: a line that is no hexadecimal has no bytes, as `line_bytes` says.
 fn decode(line: &[u8], out: &mut [u8]) -> usize
     ensures { (result ≡ byte_count line.now (length out.old)) × (out.new ≡ out_decoded line.now out.old) }
 {

@@ -60,6 +60,7 @@ pub fn decode(digits: &[u8], out: &mut [u8]) -> Result<usize, DecodeError>
 }
 
 // Bytes to digits, at the front of `out`: how many digits. Without room, which is none, nothing is laid.
+// Stays: each pair of digits is laid at its place; `zip` would cut `out` to the pairs first.
 pub fn encode(bytes: &[u8], out: &mut [u8]) -> Option<usize>
     ensures { (result ≡ encoded_of (length bytes.now) (length out.old)) × (out.new ≡ out_encoded bytes.now out.old) }
 {

@@ -7,6 +7,7 @@ use protocol::bytes;
 use protocol::consts::{BQ_ADDR, MAC_CMD};
 
 // What a frame says.
+// Stays: document 01 names this enum, of which each user takes the form it needs or leaves at once.
 #[derive(Clone, Copy, Debug, PartialEq, Eq)]
 pub enum Form {
     // Store so many bytes, the frame's fifth and on, from this address on.

@@ -94,7 +94,7 @@ impl Count {
 pub struct Reader {
     pub count: Count,
     // Its digits, as a number after a 1: 1 between two lines, 1ABC hex after A, B and C. 0 where it is refused; then nothing that follows is looked at.
-    // Stays: tried with an `Option<u32>`, none where it is refused: the ratio to C rises from .602 to .621 (benches/count), and the count is to be no slower.
+    // Stays: good C keeps one number here (benches/count.c); tried, an `Option<u32>` is a word more to carry, and the ratio to C rises from .602 to .621.
     pub line: u32,
 }
 

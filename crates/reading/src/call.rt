@@ -78,6 +78,7 @@ pub struct ReadCall {
 }
 
 // What a reported outcome comes to, before anything is changed.
+// Stays: four ways on, of which none is another's error.
 #[derive(Clone, Copy, Debug, PartialEq, Eq)]
 pub enum Verdict {
     // Refused: the call stays as it is.

@@ -102,6 +102,7 @@ impl Reads {
     }
 
     // How many reads there are for a buffer of so many bytes.
+    // Stays: how many reads by their kind, as `Frames::count` has frames by theirs.
     pub(crate) fn count(self, len: usize) -> usize
         ensures { result ≡ read_count self len }
     {

@@ -70,6 +70,7 @@ impl Desk {
 }
 
 // What a line of a case comes to.
+// Stays: three ways on, told apart in one match.
 #[derive(Clone, Copy, Debug, PartialEq, Eq)]
 enum Step {
     // As the list has it, and the case goes on.

