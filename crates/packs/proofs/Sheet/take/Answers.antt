@@ -1,12 +1,8 @@
 -- `packs::Sheet::take` meets its contract: before each turn, what is left of the chunk leads to where the whole of it does.
-use mathlib.Core.Path.{refl}
 use native.Mathlib.Omega.{arith}
 use Rattle.packs.proofs.Laws.{used_some}
 use Rattle.packs.proofs.Lies.{turn_leads, turn_on, all_fed}
 use Rattle.packs.proofs.Sheet.take.Goals as goal
-
-pub loop-i-init : goal.loop-i-init
-loop-i-init c = (omega arith, refl)
 
 pub turn-i-requires : goal.turn-i-requires
 turn-i-requires c =

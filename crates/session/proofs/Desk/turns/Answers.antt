@@ -1,15 +1,11 @@
 -- `session::Desk::turns` meets its contract: the turns made and those to come are all of them.
 -- Assumes nothing.
-use mathlib.Core.Path.{◌≡◌, refl, sym, ap, ◌∙◌}
+use mathlib.Core.Path.{◌≡◌, sym, ap, ◌∙◌}
 use native.Mathlib.Omega.{arith}
-use lib.ListN.{length}
 use Rattle.session.specs.declared.Desk.{Desk}
 use Rattle.session.specs.Session.{turn_of}
 use Rattle.session.proofs.Laws.{turn_uses, goes_on_inside, leads_on, leads_end}
 use Rattle.session.proofs.Desk.turns.Goals as goal
-
-pub loop-self-init : goal.loop-self-init
-loop-self-init c = record { turns = length c.args.chunk.now; enough = omega arith; same = refl }
 
 pub turn-requires : goal.turn-requires
 turn-requires c =
