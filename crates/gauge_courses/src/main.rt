@@ -43,7 +43,7 @@ struct Counts {
 
 impl Counts {
     // One run more, which ended so.
-    // Stays: an arm for each end that is counted: the match shows that none is missing, which a table of functions would not.
+    // Stays: an arm for each end that has a count of its own, and one for the rest.
     fn ended(&mut self, end: End) {
         one_more(&mut self.runs);
         match end {

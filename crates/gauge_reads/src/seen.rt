@@ -29,7 +29,7 @@ fn number(end: End) -> u8 {
 
 impl Seen {
     // One run more, which ended so.
-    // Stays: an arm for each end that is counted: the match shows that none is missing, which a table of functions would not.
+    // Stays: an arm for each end that has a count of its own, and one for the rest.
     fn ended(&mut self, end: End) {
         one_more(&mut self.runs);
         match end {

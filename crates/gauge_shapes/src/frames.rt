@@ -41,7 +41,7 @@ fn lengths(frame: &[u8], count: u8, old: &[u8; FLASH_BYTES], seen: &mut Seen) {
 }
 
 // The byte at a place is the PEC of those before it, or a number beside it.
-// Stays: the byte is made of those before it.
+// Stays: the byte is made of those before it, which lie in the same buffer.
 fn close(frame: &mut [u8], at: usize, turned: u8) {
     let pec = smbus_pec::pec(smbus_pec::pec(0, b"\x16"), bytes::front(frame, at));
     if at < frame.len() {

@@ -35,7 +35,7 @@ impl Desk {
     }
 
     // What a line of a case leads to: an input line, one that lacks its line feed, or the end of the case.
-    // Stays: an arm for each tag of a line: the match shows that none is missing, which a table of functions would not.
+    // Stays: an arm for each of the two tags that go in; every other tag ends the case.
     fn turned(&mut self, run: Run, tag: Tag, text: &[u8]) -> Turned {
         match tag {
             Tag::Input => dialogue::answer(
