@@ -212,24 +212,23 @@ impl<F: Read> Replay<F> {
     }
 }
 
-// Replays the list at a path, unless it cannot be read.
-fn replayed<R: Files>(rt: &R, path: &str) -> io::Result<Replay<R::File>> {
+// Replays the list at a path, unless it cannot be read, and prints its score. Where nothing can be printed, it tells why on standard error.
+// The replay stays where it is made: handed back by value, its arrays would be copied, and lie on the stack several times.
+fn replayed<R: Files + Print + Eprint + Alloc>(rt: &R, path: &str) -> io::Result<()> {
     let first = fs::open(rt, path)?;
     let second = fs::open(rt, path)?;
     let mut replay = Replay::new(first, second);
     replay.run()?;
-    Ok(replay)
+    if let Err(error) = replay.print(rt) {
+        chunks::tell(rt, "replay: standard output", error);
+    }
+    Ok(())
 }
 
-// Prints the score of the list at a path. Where it cannot be read, or nothing printed, it tells why on standard error.
+// The same. Where the list cannot be read, it tells why on standard error.
 fn report<R: Files + Print + Eprint + Alloc>(rt: &R, path: &str) {
-    match replayed(rt, path) {
-        Ok(replay) => {
-            if let Err(error) = replay.print(rt) {
-                chunks::tell(rt, "replay: standard output", error);
-            }
-        }
-        Err(error) => chunks::tell(rt, path, error),
+    if let Err(error) = replayed(rt, path) {
+        chunks::tell(rt, path, error);
     }
 }
 
