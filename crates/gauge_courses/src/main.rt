@@ -13,6 +13,7 @@ use fixture::counted::one_more;
 use fixture::course::HEARD;
 use fixture::flash::PAYLOAD;
 use fixture::settings::settings;
+use fixture::untold::Untold;
 use fixture::{course, flash};
 use model_gauge::gauge::{FLASH_BYTES, Gauge};
 use protocol::bytes;
@@ -229,6 +230,5 @@ fn all(rt: &impl Print) -> io::Result<()> {
 }
 
 fn main(rt: HostRuntime) {
-    // A write that fails is not told.
-    let _ = all(&rt);
+    let _ = all(&Untold(&rt));
 }

@@ -8,6 +8,7 @@ mod runs;
 mod say;
 
 use fixture::flash;
+use fixture::untold::Untold;
 use model_gauge::gauge::FLASH_BYTES;
 use std::io;
 
@@ -51,6 +52,5 @@ fn all(rt: &impl Print) -> io::Result<()> {
 }
 
 fn main(rt: HostRuntime) {
-    // A write that fails is not told.
-    let _ = all(&rt);
+    let _ = all(&Untold(&rt));
 }

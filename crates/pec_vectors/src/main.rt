@@ -29,28 +29,27 @@ fn line(rt: &impl Print, s: &[u8]) -> io::Result<()> {
     println!(rt; "{} {code:02x} {by_table:02x}", s.len())
 }
 
-// Prints the lines of four strings of the slice's length, and answers where the sequence then stands.
-fn four(rt: &impl Print, x: u32, s: &mut [u8]) -> io::Result<u32> {
+// Prints the lines of four strings of the slice's length, and answers where the sequence then stands. A write that fails is told nowhere, and the next line
+// is tried all the same.
+fn four(rt: &impl Print, x: u32, s: &mut [u8]) -> u32 {
     let mut at = x;
     for _ in 0..4u8 {
         at = fill(at, s);
-        line(rt, s)?;
+        let _ = line(rt, s);
     }
-    Ok(at)
+    at
 }
 
 // The lines of each length.
-fn all(rt: &impl Print) -> io::Result<()> {
+fn all(rt: &impl Print) {
     let mut space = [0u8; 8192];
     let mut x = 1;
     for n in 0..65usize {
-        x = four(rt, x, &mut space[..n])?;
+        x = four(rt, x, &mut space[..n]);
     }
-    four(rt, x, &mut space)?;
-    Ok(())
+    four(rt, x, &mut space);
 }
 
 fn main(rt: HostRuntime) {
-    // A write that fails is not told.
-    let _ = all(&rt);
+    all(&rt);
 }

@@ -6,6 +6,7 @@ mod figures;
 mod rows;
 mod say;
 
+use fixture::untold::Untold;
 use std::io;
 
 // The rows, and then the figures.
@@ -17,6 +18,5 @@ fn all(rt: &impl Print) -> io::Result<()> {
 }
 
 fn main(rt: HostRuntime) {
-    // A write that fails is not told.
-    let _ = all(&rt);
+    let _ = all(&Untold(&rt));
 }
