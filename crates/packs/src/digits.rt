@@ -29,7 +29,7 @@ const VALUES: [u8; 256] = *b"\
     \x10\x10\x10\x10\x10\x10\x10\x10\x10\x10\x10\x10\x10\x10\x10\x10";
 
 // The table, whose rule is proved once, over all its entries. It is laid on the stack once for a chunk, and lent.
-#[derive(Drop)]
+#[derive(Clone, Copy)]
 pub(crate) struct Digits {
     values: [u8; 256],
     ghost tabled: { Tabled values },

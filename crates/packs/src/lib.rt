@@ -150,7 +150,7 @@ fn said_by(line: u32) -> Option<Pack>
 }
 
 // What the count has before it: where the input stands, and how often each answer stopped a read.
-#[derive(Drop)]
+#[derive(Clone, Copy)]
 pub struct Sheet {
     pub reader: Reader,
     pub numbers: [u16; 256],

@@ -7,7 +7,7 @@ use protocol::bytes;
 
 // Its bytes, and how many of them are laid.
 // Stays: no heap, so `at` says how far `out` is filled.
-#[derive(Drop)]
+#[derive(Clone, Copy)]
 pub struct Page {
     pub at: usize,
     pub out: [u8; REPORT_BYTES],

@@ -71,7 +71,7 @@ impl Session {
 }
 
 // What a line is answered in: the bytes of the request line and those of an outcome line, a call's buffer, and the lines that answer.
-#[derive(Drop)]
+#[derive(Clone, Copy)]
 pub struct Lent {
     pub request: [u8; REQUEST_BYTES],
     pub outcome: [u8; OUTCOME_BYTES],
@@ -128,7 +128,7 @@ impl Lent {
 }
 
 // A session, the bytes that are held of a line, and what is lent to it.
-#[derive(Drop)]
+#[derive(Clone, Copy)]
 pub struct Desk {
     pub session: Session,
     pub held: [u8; HELD_BYTES],
